@@ -1,0 +1,12 @@
+pub mod Bdz
+pub mod Built
+pub mod Cells
+pub mod Chm
+pub mod Core
+pub mod Dump
+pub mod Graph
+pub mod Image
+pub mod Lists
+pub mod Lookup2
+pub mod Rounds
+pub mod Rule
