@@ -4,6 +4,7 @@ pub mod Cells
 pub mod Chm
 pub mod Core
 pub mod Dump
+pub mod Examples
 pub mod Graph
 pub mod Image
 pub mod Lists
