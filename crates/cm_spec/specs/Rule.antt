@@ -32,6 +32,7 @@ pub record IsSize (r : Rule) (n : ℕ) : Type 0 where
 
 -- what every rule over edges of k ends keeps
 pub record IsRule (k : ℕ) (r : Rule) : Type 0 where
+  pub two_or_three : (2 ≤ k) × (k ≤ 3)
   pub few : (n : ℕ) → IsSize r n → n ≤ 671088645
   pub ends : (w : List ℕ) (n : ℕ) → IsSize r n → (length (r.edge w n) ≡ k) × IsEdge n (r.edge w n)
   pub target_below : (m i p t : ℕ) → IsCount m → i < m → p < k → r.target i p t < r.modulus m
