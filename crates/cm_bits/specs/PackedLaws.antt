@@ -1,0 +1,100 @@
+-- Laws of packed cells.
+use Rattle.std.specs.Prelude.{◌≡◌, ℕ, ◌+◌, ◌*◌, ◌/◌, ◌%◌, ◌^◌, ◌<◌, ◌≤◌, min, List, length, slice_index, None}
+use Rattle.std.proofs.Common.{arith, ap, sym, ◌∙◌, inl, inr}
+use Rattle.std.proofs.Math.Nat.{zero-div, div-eq_of_lt, div-add-mod}
+use Rattle.std.proofs.lemmas.Nat.{mod_below, div_below}
+use Rattle.std.proofs.lemmas.Bool.{cases_eq, cases_lt}
+use Rattle.std.proofs.lemmas.List.{ext_get_or, get_or_past}
+use Rattle.std.proofs.lemmas.List.FromFn.{length-map-range_with_len, get_or-map-range_with_len}
+use Rattle.cm_spec.specs.Image.{digits_sum, packed_len, packed_byte}
+use Rattle.cm_spec.specs.Lists.{list_of}
+use Rattle.cm_bits.specs.Bound.{AllBelow}
+use Rattle.cm_bits.specs.Fault.{packed_fault}
+use Rattle.cm_bits.specs.Held.{packed_cells}
+use Rattle.cm_bits.specs.DigitsLaws.{digits_sum-lt, digit-digits_sum, digits_sum-short}
+use Rattle.cm_bits.specs.FaultLaws.{no_fault, all_small}
+
+pub zero_lt : (d : ℕ) → 2 ≤ d → 0 < d
+zero_lt d h = omega arith
+
+pub at_base : (b d : ℕ) (xs : List ℕ) → b ≡ d → AllBelow b xs → AllBelow d xs
+at_base b d xs e h k l = omega (arith, h k l)
+
+pub length-packed_cells : (d p n : ℕ) (bs : List ℕ) → length (packed_cells d p n bs) ≡ n
+unfolding packed_cells
+length-packed_cells d p n bs = length-map-range_with_len _ 0 n
+
+pub packed_cells-at : (d p n : ℕ) (bs : List ℕ) (i : ℕ) → i < n → slice_index (packed_cells d p n bs) i ≡ slice_index bs (i / p) / d ^ (i % p) % d
+unfolding packed_cells
+packed_cells-at d p n bs i l = get_or-map-range_with_len _ 0 n i i 0 l (omega arith)
+
+pub AllBelow-packed_cells : (d p n : ℕ) (bs : List ℕ) → 0 < d → AllBelow d (packed_cells d p n bs)
+AllBelow-packed_cells d p n bs h k l =
+    rw (packed_cells-at d p n bs k (omega (arith, length-packed_cells d p n bs))) (mod_below _ d h)
+
+pub packed_room : (d p n : ℕ) (bs : List ℕ) → n ≤ 671088645 → length (packed_cells d p n bs) ≤ 671088645
+packed_room d p n bs h = omega (arith, length-packed_cells d p n bs)
+
+-- a place past the cells is 0, so each place is below d
+cell_lt : (d : ℕ) (xs : List ℕ) → 0 < d → AllBelow d xs → (k : ℕ) → slice_index xs k < d
+cell_lt d xs p h k = elim (cases_lt k (length xs)) [
+  | inl l ↦ h k l
+  | inr l ↦ rw (get_or_past xs k 0 l) p
+]
+
+-- the bytes have room for the cells
+pub le-packed_len : (p n : ℕ) → 0 < p → n ≤ packed_len p n * p
+le-packed_len p n h =
+    let whole : p * (n / p) + n % p ≡ n = div-add-mod n p in
+    let below : n % p < p = mod_below n p h in
+    elim (cases_eq (n % p) 0) [
+      | inl e ↦ rw e (omega arith)
+      | inr ne ↦ let one : min 1 (n % p) ≡ 1 = omega arith in rw one (omega arith)
+    ]
+
+-- the byte of a cell is there
+pub place_lt : (p n i : ℕ) → 0 < p → i < n → i / p < packed_len p n
+place_lt p n i h l = div_below i p (packed_len p n) h (omega (arith, le-packed_len p n h))
+
+-- a cell is a digit of its byte
+pub cell_is_digit : (d p : ℕ) (xs : List ℕ) (k : ℕ) → 0 < d → 0 < p → AllBelow d xs → packed_byte d p xs (k / p) / d ^ (k % p) % d ≡ slice_index xs k
+unfolding packed_byte
+cell_is_digit d p xs k h q b =
+    digit-digits_sum d (λ i. slice_index xs (p * (k / p) + i)) p (k % p) h (λ i l. cell_lt d xs h b _) (mod_below k p q)
+    ∙ ap (slice_index xs) (div-add-mod k p)
+
+pub same_packed : (d p : ℕ) (xs ys : List ℕ) → 0 < d → 0 < p → length xs ≡ length ys → AllBelow d xs → AllBelow d ys → ((q : ℕ) → q < packed_len p (length xs) → packed_byte d p xs q ≡ packed_byte d p ys q) → xs ≡ ys
+same_packed d p xs ys h q n a b e =
+    ext_get_or 0 xs ys n (λ k l.
+    sym (cell_is_digit d p xs k h q a)
+    ∙ ap (λ x. x / d ^ (k % p) % d) (e (k / p) (place_lt p (length xs) k q l))
+    ∙ cell_is_digit d p ys k h q b)
+
+pub packed_byte-lt : (d p : ℕ) (xs : List ℕ) (q : ℕ) → 0 < d → AllBelow d xs → packed_byte d p xs q < d ^ p
+unfolding packed_byte
+packed_byte-lt d p xs q h b = digits_sum-lt d _ p (λ i l. cell_lt d xs h b _)
+
+-- the padding of an image is 0
+padding-image : (d p : ℕ) (xs : List ℕ) → 0 < d → 0 < p → AllBelow d xs → packed_byte d p xs (length xs / p) / d ^ (length xs % p) ≡ 0
+unfolding packed_byte
+padding-image d p xs h q b =
+    let n : ℕ = length xs in
+    let whole : p * (n / p) + n % p ≡ n = div-add-mod n p in
+    let below : n % p < p = mod_below n p q in
+    let short : digits_sum d (λ i. slice_index xs (p * (n / p) + i)) p ≡ digits_sum d (λ i. slice_index xs (p * (n / p) + i)) (n % p) =
+    digits_sum-short d _ p (n % p) (omega arith) (λ i m l. get_or_past xs (p * (n / p) + i) 0 (omega arith)) in
+    rw short (div-eq_of_lt (digits_sum-lt d _ (n % p) (λ i l. b (p * (n / p) + i) (omega arith))))
+
+pub packed_fault-image : (d p : ℕ) (xs : List ℕ) → 0 < d → 0 < p → AllBelow d xs → packed_fault d p (length xs) (list_of (packed_byte d p xs) (packed_len p (length xs))) ≡ None
+unfolding packed_fault
+packed_fault-image d p xs h q b =
+    let n : ℕ = length xs in
+    let len : length (list_of (packed_byte d p xs) (packed_len p n)) ≡ packed_len p n = length-map-range_with_len (packed_byte d p xs) 0 (packed_len p n) in
+    let small : AllBelow (d ^ p) (list_of (packed_byte d p xs) (packed_len p n)) = λ k l.
+    rw (get_or-map-range_with_len (packed_byte d p xs) 0 (packed_len p n) k k 0 (omega arith) (omega arith)) (packed_byte-lt d p xs k h b) in
+    no_fault n _ _ _
+    (rw (all_small (d ^ p) _ small, len) (omega (arith, le-packed_len p n q)))
+    (elim (cases_lt (n / p) (packed_len p n)) [
+      | inl l ↦ rw (get_or-map-range_with_len (packed_byte d p xs) 0 (packed_len p n) (n / p) (n / p) 0 l (omega arith)) (padding-image d p xs h q b)
+      | inr l ↦ rw (get_or_past (list_of (packed_byte d p xs) (packed_len p n)) (n / p) 0 (omega arith)) (zero-div _)
+    ])

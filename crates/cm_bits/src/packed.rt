@@ -1,0 +1,174 @@
+// Cells as digits in a small base, several of them in a byte.
+ghost use Rattle.std.specs.Prelude.{◌≡◌, ℕ, ◌+◌, ◌-◌, ◌*◌, ◌/◌, ◌%◌, ◌^◌, ◌<◌, ◌≤◌, length, slice_index, slice_set, replicate, vec_len, position, nat_le};
+ghost use Rattle.std.specs.Prelude.{refl};
+ghost use Rattle.cm_bits.specs.Bound.{AllBelow};
+ghost use Rattle.cm_bits.specs.Fault.{packed_fault};
+ghost use Rattle.cm_bits.specs.Held.{IsPacked, packed_cells};
+ghost use Rattle.cm_bits.specs.PackedLaws.{AllBelow-packed_cells, same_packed, zero_lt, at_base, packed_room, place_lt, place_lt, packed_fault-image};
+ghost use Rattle.cm_spec.specs.Image.{packed_byte, packed_len};
+ghost use Rattle.cm_bits.specs.declared.TheConstants.{MAX_CELLS};
+
+use crate::{Cells, ImageFault};
+use std::alloc::{AllocError, Global};
+use std::marker::PhantomData;
+
+/// A base, and how many of its digits a byte holds.
+pub trait Packing {
+    ghost BASE: { ℕ };
+
+    ghost PER_BYTE: { ℕ };
+
+    ghost FULL: { ℕ };
+
+    const BASE: u32;
+
+    const PER_BYTE: u32;
+
+    /// One more than the largest byte.
+    const FULL: u32;
+
+    /// The weight of digit i.
+    fn weight(i: u32) -> u32
+        requires { i < PER_BYTE }
+        ensures { result ≡ BASE ^ i };
+
+    ghost is_base: { 2 ≤ BASE };
+
+    ghost is_count: { 0 < PER_BYTE };
+
+    ghost is_full: { FULL ≡ BASE ^ PER_BYTE };
+
+    ghost fits_byte: { BASE ^ PER_BYTE ≤ 256 };
+}
+
+/// A table of digits of a packing's base.
+#[derive(Drop)]
+pub struct Packed<B: Packing> {
+    bytes: Vec<u8>,
+    n: u32,
+    packing: PhantomData<B>,
+    ghost in_room: { n ≤ MAX_CELLS },
+    ghost is_packed: { IsPacked B.BASE B.PER_BYTE n bytes.items },
+}
+
+impl<B: Packing> Cells for Packed<B> {
+    ghost bound_of = { λ t. B.BASE };
+
+    ghost cells = { λ t. packed_cells B.BASE B.PER_BYTE t.n t.bytes.items };
+
+    ghost fits = { λ b. b ≡ B.BASE };
+
+    ghost image_size = { λ n b. packed_len B.PER_BYTE n };
+
+    ghost image_byte = { λ b xs q. packed_byte B.BASE B.PER_BYTE xs q };
+
+    ghost cell_place = { λ b i. i / B.PER_BYTE };
+
+    ghost image_fault = { λ n b bs. packed_fault B.BASE B.PER_BYTE n bs };
+
+    ghost in_bound = { λ t. AllBelow-packed_cells B.BASE B.PER_BYTE t.n t.bytes.items (zero_lt B.BASE B.is_base) };
+
+    ghost in_room = { λ t. packed_room B.BASE B.PER_BYTE t.n t.bytes.items t.in_room };
+
+    ghost bound_fits = { λ t. refl };
+
+    ghost cell_inside = { λ b n i f l. place_lt B.PER_BYTE n i B.is_count l };
+
+    ghost same_from_image = { λ b xs ys f n h l e. same_packed B.BASE B.PER_BYTE xs ys (zero_lt B.BASE B.is_base) B.is_count n (at_base b B.BASE xs f h) (at_base b B.BASE ys f l) e };
+
+    ghost image_is_sound = { λ b xs f l. packed_fault-image B.BASE B.PER_BYTE xs (zero_lt B.BASE B.is_base) B.is_count (at_base b B.BASE xs f l) };
+
+    fn zeroed(alloc: Global, n: u32, bound: u32) -> Result<Packed<B>, AllocError> {
+        let len = n.div_ceil(B::PER_BYTE);
+        let bytes = vec![in alloc; 0u8; len as usize]?;
+        Ok(Packed {
+            bytes,
+            n,
+            packing: PhantomData,
+        })
+    }
+
+    fn len(&self) -> u32 {
+        self.n
+    }
+
+    fn bound(&self) -> u32 {
+        B::BASE
+    }
+
+    fn get(&self, i: u32) -> u32 {
+        let per_byte = B::PER_BYTE;
+        let byte = self.bytes[(i / per_byte) as usize] as u32;
+        byte / B::weight(i % per_byte) % B::BASE
+    }
+
+    fn set(&mut self, i: u32, value: u32) {
+        let per_byte = B::PER_BYTE;
+        let place = (i / per_byte) as usize;
+        let weight = B::weight(i % per_byte);
+        let byte = self.bytes[place] as u32;
+        let rest = byte - byte / weight % B::BASE * weight;
+        let new = rest + value * weight;
+        self.bytes[place] = new as u8;
+    }
+
+    fn image_len(n: u32, bound: u32) -> u64 {
+        n.div_ceil(B::PER_BYTE) as u64
+    }
+
+    fn cell_byte(bound: u32, i: u32) -> u64 {
+        (i / B::PER_BYTE) as u64
+    }
+
+    fn byte(&self, i: u64) -> u8 {
+        self.bytes[i as usize]
+    }
+
+    fn from_image(
+        alloc: Global,
+        n: u32,
+        bound: u32,
+        bytes: &[u8],
+    ) -> Result<Packed<B>, ImageFault> {
+        if let Some(fault) = fault_in::<B>(n, bytes) {
+            return Err(fault);
+        }
+        let Ok(bytes) = bytes.to_vec(alloc) else {
+            return Err(ImageFault::Memory);
+        };
+        Ok(Packed {
+            bytes,
+            n,
+            packing: PhantomData,
+        })
+    }
+}
+
+// The place of the first byte that is at least `full`.
+fn first_large(bytes: &[u8], full: u32) -> Option<usize>
+    ensures { result ≡ position (λ b. nat_le full b) bytes.now }
+{
+    bytes.iter().position(|b| *b as u32 >= full)
+}
+
+// Why bytes are no image of n cells.
+fn fault_in<B: Packing>(n: u32, bytes: &[u8]) -> Option<ImageFault>
+    requires room { n ≤ MAX_CELLS }
+    requires whole { length bytes.now ≡ packed_len B.PER_BYTE n }
+    ensures { result ≡ packed_fault B.BASE B.PER_BYTE n bytes.now }
+{
+    let per_byte = B::PER_BYTE;
+    if let Some(place) = first_large(bytes, B::FULL) {
+        return Some(ImageFault::BadCell {
+            cell: per_byte * place as u32,
+        });
+    }
+    let used = n % per_byte;
+    if used != 0 {
+        let last = bytes.len() - 1;
+        if bytes[last] as u32 / B::weight(used) != 0 {
+            return Some(ImageFault::BadPadding { byte: last as u64 });
+        }
+    }
+    None
+}
