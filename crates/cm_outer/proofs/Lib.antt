@@ -1,0 +1,6 @@
+mod ReadLemmas
+mod MemFileLemmas
+pub mod WriteLemmas
+pub mod NoteLemmas
+pub mod FileLemmas
+pub mod PassLemmas

@@ -1,0 +1,10 @@
+pub mod Causes
+pub mod Reading
+pub mod Writing
+pub mod Files
+pub mod Noting
+pub mod Passes
+pub mod MemSources
+pub mod MemSinks
+pub mod MemDisks
+pub mod MemFiles

@@ -1,0 +1,9 @@
+-- What a read gives.
+use Rattle.std.specs.Prelude.{◌≡◌, ◌<◌, ◌≤◌, ◌+◌, ℕ, List, ◌++◌, length, take, drop}
+
+-- A read at a place gave n of the bytes that a source tells, at least one unless it has come to their end.
+pub record Gives (bytes : List ℕ) (before now room n : ℕ) (buf : List ℕ) : Type 0 where
+  pub given : drop before bytes ≡ take n buf ++ drop now bytes
+  pub moved : now ≡ before + n
+  pub inside : now ≤ length bytes
+  pub some : 0 < room → before < length bytes → 0 < n

@@ -1,0 +1,58 @@
+ghost use Rattle.std.specs.Prelude.{◌≡◌, ℕ, [], Option, Some, IfOk};
+ghost use Rattle.std.specs.Option.{ForSome};
+ghost use Rattle.cm_outer.specs.Causes.{HasDiskCause, Collects, HasCloseCause};
+ghost use Rattle.cm_outer.specs.Files.{Files, IsThere, Opens, Creates, Closes};
+
+use crate::{DiskFault, Failed, Sink, Source};
+
+/// Files by their paths.
+pub trait Disk {
+    /// A file that is read.
+    type Reader: Source;
+
+    /// A file that is written.
+    type Writer: Sink;
+
+    /// The files, where it tells them.
+    ghost files: { Self → Option Files };
+
+    /// How often opening or reading has failed.
+    ghost read_faults: { Self → ℕ };
+
+    /// How often creating or writing has failed.
+    ghost write_faults: { Self → ℕ };
+
+    /// A reader over the file of a path, at its start. Fails exactly where the count of read faults rises, and never
+    /// answers a reader where the path isn't among told files.
+    fn open(&mut self, path: &str) -> Result<Self::Reader, DiskFault>
+        ensures files { files self.new ≡ files self.old }
+        ensures write_faults { write_faults self.new ≡ write_faults self.old }
+        ensures cause { HasDiskCause (read_faults self.old) (read_faults self.new) result }
+        ensures fresh { IfOk result (λ reader. Self.Reader.faults reader ≡ 0) }
+        ensures start { IfOk result (λ reader. ForSome (Self.Reader.told reader) (λ _. Self.Reader.place reader ≡ 0)) }
+        ensures reader { IfOk result (λ reader. ForSome (files self.old) (λ files.
+            Opens files path.now (Self.Reader.told reader) (Self.Reader.place reader))) };
+
+    /// Takes a reader back. The count of read faults rises exactly where the reader has failed.
+    fn shut(&mut self, reader: Self::Reader)
+        ensures files { files self.new ≡ files self.old }
+        ensures write_faults { write_faults self.new ≡ write_faults self.old }
+        ensures cause { Collects (Self.Reader.faults reader) (read_faults self.old) (read_faults self.new) };
+
+    /// Makes the path hold no bytes, and gives a writer for it. Fails exactly where the count of write faults rises.
+    fn create(&mut self, path: &str) -> Result<Self::Writer, DiskFault>
+        ensures files { Creates path.now (files self.old) (files self.new) result }
+        ensures read_faults { read_faults self.new ≡ read_faults self.old }
+        ensures cause { HasDiskCause (write_faults self.old) (write_faults self.new) result }
+        ensures fresh { IfOk result (λ writer. Self.Writer.faults writer ≡ 0) }
+        ensures empty { IfOk result (λ writer. ForSome (Self.Writer.written writer) (λ bytes. bytes ≡ [])) }
+        ensures writer { IfOk result (λ writer. ForSome (files self.old) (λ _. Self.Writer.written writer ≡ Some [])) };
+
+    /// Takes a writer back, and makes the path hold what it wrote, or a prefix of that where it fails. The count of
+    /// write faults rises exactly where it fails or the writer has failed.
+    fn close(&mut self, path: &str, writer: Self::Writer) -> Result<(), Failed>
+        requires there { IsThere path.now (files self.old) }
+        ensures files { Closes path.now (Self.Writer.written writer) (files self.old) (files self.new) result }
+        ensures read_faults { read_faults self.new ≡ read_faults self.old }
+        ensures cause { HasCloseCause (Self.Writer.faults writer) (write_faults self.old) (write_faults self.new) result };
+}

@@ -1,0 +1,23 @@
+//! The outside as a program sees it: sources, sinks, a disk, a pass over keys and notes, with fakes of them in memory.
+#![tactic(auto)]
+
+mod disk;
+mod fault;
+mod key_pass;
+mod mem_disk;
+mod mem_file;
+mod mem_sink;
+mod mem_source;
+mod notes;
+mod sink;
+mod source;
+
+pub use disk::Disk;
+pub use fault::{DiskFault, Failed};
+pub use key_pass::{KeyBuf, KeyFault, KeyPass, MAX_KEYS};
+pub use mem_disk::MemDisk;
+pub use mem_sink::MemSink;
+pub use mem_source::MemSource;
+pub use notes::Notes;
+pub use sink::{Sink, write_pieces};
+pub use source::Source;

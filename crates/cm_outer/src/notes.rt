@@ -1,0 +1,47 @@
+ghost use Rattle.std.specs.Prelude.{◌≡◌, false, map};
+ghost use Rattle.cm_outer.specs.Noting.{Noted};
+ghost use Rattle.cm_outer.specs.Writing.{joined};
+
+use crate::{Sink, write_pieces};
+use std::marker::Model;
+
+/// Messages to a sink that may fail: from the first that failed on, nothing is written.
+#[derive(Drop)]
+pub struct Notes {
+    failed: bool,
+}
+
+impl Model for Notes {
+    ghost use Rattle.std.specs.Prelude.{Bool};
+
+    ghost Value = { Bool };
+
+    ghost view = { λ n. n.failed };
+}
+
+impl Notes {
+    /// No note has failed yet.
+    pub fn new() -> Notes
+        ensures fresh { result ≡ false }
+    {
+        Notes { failed: false }
+    }
+
+    /// Writes a piece, unless a note has failed before. Where the sink fails, this one has.
+    pub fn note<E: Sink>(&mut self, sink: &mut E, piece: &[u8])
+        ensures noted { Noted self.old self.new (E.written sink.old) (E.written sink.new) (E.faults sink.old) (E.faults sink.new) piece.now }
+    {
+        if !self.failed && sink.write(piece).is_err() {
+            self.failed = true;
+        }
+    }
+
+    /// Writes the pieces of one message, unless a note has failed before. Where the sink fails, this one has.
+    pub fn note_pieces<E: Sink>(&mut self, sink: &mut E, pieces: &[&[u8]])
+        ensures noted { Noted self.old self.new (E.written sink.old) (E.written sink.new) (E.faults sink.old) (E.faults sink.new) (joined (map (λ piece. piece.now) pieces.now)) }
+    {
+        if !self.failed && write_pieces(sink, pieces).is_err() {
+            self.failed = true;
+        }
+    }
+}

@@ -1,0 +1,30 @@
+ghost use Rattle.std.specs.Prelude.{ℕ, List, Option, map};
+ghost use Rattle.cm_outer.specs.Causes.{HasCause};
+ghost use Rattle.cm_outer.specs.Writing.{Writes, joined};
+
+use crate::Failed;
+
+/// What takes bytes in order.
+pub trait Sink {
+    /// All that was written, where it tells it.
+    ghost written: { Self → Option (List ℕ) };
+
+    /// How often it has failed.
+    ghost faults: { Self → ℕ };
+
+    /// Appends the piece, or a prefix of it where it fails, which is exactly where the count of faults rises.
+    fn write(&mut self, piece: &[u8]) -> Result<(), Failed>
+        ensures bytes { Writes (written self.old) (written self.new) piece.now result }
+        ensures cause { HasCause (faults self.old) (faults self.new) result };
+}
+
+/// Writes the pieces, one after another. Fails exactly where the sink does, which has then taken a prefix of them all.
+pub fn write_pieces<O: Sink>(out: &mut O, pieces: &[&[u8]]) -> Result<(), Failed>
+    ensures bytes { Writes (O.written out.old) (O.written out.new) (joined (map (λ piece. piece.now) pieces.now)) result }
+    ensures cause { HasCause (O.faults out.old) (O.faults out.new) result }
+{
+    for piece in pieces {
+        out.write(*piece)?;
+    }
+    Ok(())
+}
