@@ -1,0 +1,94 @@
+//! A list of edges over vertices, each with `K` ends.
+ghost use Rattle.std.specs.Prelude.{◌≡◌, ℕ, ◌<◌, ◌≤◌, [], ◌∷◌, ◌++◌, length, IfOk, OnOk, OnErr, slice_get, Some};
+ghost use Rattle.cm_spec.specs.Graph.{IsEdge, AreEdges};
+ghost use Rattle.cm_graph.specs.Graph.{IsWidth};
+
+use std::alloc::{AllocError, Global};
+use std::marker::Model;
+
+/// A list of edges with two or three ends each. Clauses see the number of vertices, and the ends of each edge in order.
+#[derive(Drop)]
+pub struct Edges<const K: usize> {
+    vertices: u32,
+    ends: Vec<[u32; K]>,
+}
+
+impl<const K: usize> Model for Edges<K> {
+    ghost use Rattle.std.specs.Prelude.{ℕ, ◌≤◌, length};
+    ghost use Rattle.cm_spec.specs.Graph.{AreEdges};
+    ghost use Rattle.cm_graph.specs.Graph.{Graph, IsWidth};
+
+    ghost Value = { Graph };
+
+    ghost view = { λ g. record { vertices = g.vertices; edges = g.ends.items } };
+
+    ghost invariant = { λ g. IsWidth K × (g.vertices ≤ 671088645) × (length g.ends.items ≤ 67108864) × AreEdges K g.vertices g.ends.items };
+}
+
+impl<const K: usize> Edges<K> {
+    /// No edge yet, over `n` vertices.
+    pub fn new(alloc: Global, n: u32) -> Self
+        requires width { IsWidth K }
+        requires few { n ≤ 671088645 }
+        ensures vertices { result.vertices ≡ n }
+        ensures edges { result.edges ≡ [] }
+    {
+        Edges {
+            vertices: n,
+            ends: Vec::new(alloc),
+        }
+    }
+
+    /// No edge yet, over `n` vertices, with memory taken for `room` edges, which are then pushed without taking more.
+    pub fn with_capacity(alloc: Global, n: u32, room: u32) -> Result<Self, AllocError>
+        requires width { IsWidth K }
+        requires few { n ≤ 671088645 }
+        requires room { room ≤ 67108864 }
+        ensures vertices { IfOk result (λ made. made.vertices ≡ n) }
+        ensures edges { IfOk result (λ made. made.edges ≡ []) }
+    {
+        Ok(Edges {
+            vertices: n,
+            ends: Vec::with_capacity(alloc, room as usize)?,
+        })
+    }
+
+    /// One more edge. Where memory is wanting, nothing changes.
+    pub fn push(&mut self, ends: [u32; K]) -> Result<(), AllocError>
+        requires room { length self.old.edges < 67108864 }
+        requires edge { IsEdge self.old.vertices ends }
+        ensures ok { OnOk result (self.new ≡ record self.old { edges = self.old.edges ++ ends.entry ∷ [] }) }
+        ensures err { OnErr result (self.new ≡ self.old) }
+    {
+        self.ends.push(ends)?;
+        Ok(())
+    }
+
+    /// How many edges there are.
+    pub fn len(&self) -> u32
+        ensures count { result ≡ length self.now.edges }
+        ensures bound { result ≤ 67108864 }
+        ensures width { IsWidth K }
+        ensures edges { AreEdges K self.now.vertices self.now.edges }
+    {
+        self.ends.len() as u32
+    }
+
+    /// How many vertices there are.
+    pub fn vertices(&self) -> u32
+        ensures count { result ≡ self.now.vertices }
+        ensures bound { result ≤ 671088645 }
+    {
+        self.vertices
+    }
+
+    /// The ends of the edge at place `e`, from 0.
+    pub fn ends(&self, e: u32) -> [u32; K]
+        requires { e < length self.now.edges }
+        ensures ends { slice_get self.now.edges e ≡ Some result }
+        ensures edge { IsEdge self.now.vertices result }
+        ensures width { IsWidth K }
+    {
+        self.ends[e as usize]
+    }
+}

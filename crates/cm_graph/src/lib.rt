@@ -1,0 +1,13 @@
+//! Edges over vertices, the map of the linked ones among them, and a counter of steps.
+#![tactic(auto)]
+
+pub mod edges;
+pub mod incidence;
+mod slots;
+pub mod steps;
+pub mod xored;
+
+pub use crate::edges::Edges;
+pub use crate::incidence::Incidence;
+pub use crate::steps::Steps;
+pub use crate::xored::Xored;

@@ -1,0 +1,301 @@
+-- What a round does, by the definitions.
+use Rattle.std.proofs.Common.{◌≡◌, ◌≢◌, ◌⊎◌, ℕ, suc, ◌+◌, ◌<◌, ◌≤◌, Bool, true, false, cond, not, eqb, leb, ◌&&◌, ◌||◌, List, [], ◌∷◌, ◌++◌, length, get_or, map, Some, None, sym, refl, ap, ◌∙◌, subst, inl, inr, arith}
+use Rattle.std.specs.List.{Contains, count_by, filter, list_any, list_all, position_or_len}
+use Rattle.std.specs.List.Sorted.{IsStrictlyIncreasing}
+use Rattle.std.proofs.lemmas.Bool.{cases_Bool, cases_lt, cases_eq, eqb-true, eq-eqb, ne_eqb, and_parts, and_from, and_left, or_cases, or_left, or_right, leb-true, le-leb, lt-leb, false≢true, not_from_false}
+use Rattle.std.proofs.lemmas.Option.{get_or_from_slice_get}
+use Rattle.std.proofs.lemmas.List.Sums.{passes_at_first}
+use Rattle.std.proofs.lemmas.List.Folds.{list_any-append}
+use Rattle.cm_spec.specs.Lists.{has}
+use Rattle.cm_spec.specs.Graph.{touches, places, ends_at, degree_in}
+use Rattle.cm_spec.specs.Rounds.{is_left, is_held, left_after, removed_after}
+use Rattle.cm_graph.specs.Graph.{Graph, Links, slot_touches, degree_of, sole_of}
+use Rattle.cm_peel.specs.Incident.{AreLinked, is_free, is_picked, picked_of, soles_at, soles_of_all}
+use Rattle.cm_peel.proofs.Sets.{count_by-cons, filter-filter, has-filter, filter_agree_on, Rises, Rises-filter, has-numbers, has-numbers_high, rising_is_filter, Rises-from_increasing, has-from_Contains, Contains-from_has}
+use Rattle.cm_peel.proofs.Core.{left_after-zero, left_after-suc, left_after_is, left_after_rises}
+use Rattle.cm_peel.proofs.Incident.{slot_by, degree_linked}
+
+-- counts and members
+pub count_by_some : (p : ℕ → Bool) (xs : List ℕ) (e : ℕ) → has xs e ≡ true → p e ≡ true → 1 ≤ count_by p xs
+count_by_some p [] e h pass = absurd (false≢true h)
+count_by_some p (x ∷ xs) e h pass = go (or_cases (eqb x e) (has xs e) h) (λ m. count_by_some p xs e m pass) where
+  go : (eqb x e ≡ true) ⊎ (has xs e ≡ true) → (has xs e ≡ true → 1 ≤ count_by p xs) → 1 ≤ count_by p (x ∷ xs)
+  go (inl same) ih =
+      let o : cond {A = ℕ} (p x) 1 0 ≡ 1 = ap (λ (t : ℕ). cond {A = ℕ} (p t) 1 0) (eqb-true x e same) ∙ ap (λ (b : Bool). cond {A = ℕ} b 1 0) pass in
+      omega (arith, count_by-cons p x xs)
+  go (inr more) ih = omega (arith, count_by-cons p x xs, ih more)
+
+pub count_by_found : (p : ℕ → Bool) (xs : List ℕ) → 1 ≤ count_by p xs → (e : ℕ) × (has xs e ≡ true) × (p e ≡ true)
+count_by_found p [] h = absurd (omega arith)
+count_by_found p (x ∷ xs) h = go (cases_Bool (p x)) (count_by_found p xs) where
+  go : (p x ≡ true) ⊎ (p x ≡ false) → (1 ≤ count_by p xs → (e : ℕ) × (has xs e ≡ true) × (p e ≡ true)) → (e : ℕ) × (has (x ∷ xs) e ≡ true) × (p e ≡ true)
+  go (inl pass) ih = (x, or_left (eqb x x) (has xs x) (eq-eqb x x refl), pass)
+  go (inr fail) ih =
+      let o : cond {A = ℕ} (p x) 1 0 ≡ 0 = ap (λ (b : Bool). cond {A = ℕ} b 1 0) fail in
+      let c : count_by p (x ∷ xs) ≡ cond (p x) 1 0 + count_by p xs = count_by-cons p x xs in
+      let r = ih (omega arith) in
+      (r.0, or_right (eqb x r.0) (has xs r.0) r.1, r.2)
+
+pub count_by_two : (p : ℕ → Bool) (xs : List ℕ) (a b : ℕ) → a ≢ b → has xs a ≡ true → has xs b ≡ true → p a ≡ true → p b ≡ true → 2 ≤ count_by p xs
+count_by_two p [] a b ne ha hb pa pb = absurd (false≢true ha)
+count_by_two p (x ∷ xs) a b ne ha hb pa pb = go (or_cases (eqb x a) (has xs a) ha) (or_cases (eqb x b) (has xs b) hb) (λ m n. count_by_two p xs a b ne m n pa pb) where
+  one_at : (e : ℕ) → x ≡ e → p e ≡ true → cond {A = ℕ} (p x) 1 0 ≡ 1
+  one_at e same pass = ap (λ (t : ℕ). cond {A = ℕ} (p t) 1 0) same ∙ ap (λ (b : Bool). cond {A = ℕ} b 1 0) pass
+
+  go : (eqb x a ≡ true) ⊎ (has xs a ≡ true) → (eqb x b ≡ true) ⊎ (has xs b ≡ true) → (has xs a ≡ true → has xs b ≡ true → 2 ≤ count_by p xs) → 2 ≤ count_by p (x ∷ xs)
+  go (inl sa) (inl sb) ih = absurd (ne (sym (eqb-true x a sa) ∙ eqb-true x b sb))
+  go (inl sa) (inr mb) ih = omega (arith, count_by-cons p x xs, one_at a (eqb-true x a sa) pa, count_by_some p xs b mb pb)
+  go (inr ma) (inl sb) ih = omega (arith, count_by-cons p x xs, one_at b (eqb-true x b sb) pb, count_by_some p xs a ma pa)
+  go (inr ma) (inr mb) ih = omega (arith, count_by-cons p x xs, ih ma mb)
+
+pub place_within : {X : Type 0} (p : X → Bool) (xs : List X) → 1 ≤ count_by p xs → position_or_len p xs < length xs
+place_within p [] h = absurd (omega arith)
+place_within p (x ∷ xs) h = go (p x) refl (place_within p xs) where
+  go : (b : Bool) → p x ≡ b → (1 ≤ count_by p xs → position_or_len p xs < length xs) → cond (not (p x)) (1 + position_or_len p xs) 0 < suc (length xs)
+  go true is ih = rw is (omega arith)
+  go false is ih =
+      let o : cond {A = ℕ} (p x) 1 0 ≡ 0 = ap (λ (b : Bool). cond {A = ℕ} b 1 0) is in
+      let c : count_by p (x ∷ xs) ≡ cond (p x) 1 0 + count_by p xs = count_by-cons p x xs in
+      let less : position_or_len p xs < length xs = ih (omega arith) in
+      let n : cond {A = ℕ} (not (p x)) (1 + position_or_len p xs) 0 ≡ 1 + position_or_len p xs = ap (λ (b : Bool). cond {A = ℕ} (not b) (1 + position_or_len p xs) 0) is in
+      omega arith
+
+-- what is left, by membership
+pub has_left : (edges : List (List ℕ)) (t e : ℕ) → has (left_after edges t) e ≡ (has (places edges) e && is_left edges t e)
+has_left edges t e = ap (λ s. has s e) (left_after_is edges t) ∙ has-filter (is_left edges t) (places edges) e
+
+pub has_place : (edges : List (List ℕ)) (e : ℕ) → e < length edges → has (places edges) e ≡ true
+has_place edges e h = has-numbers 0 (length edges) e (omega arith) (omega arith)
+
+pub place_below : (edges : List (List ℕ)) (e : ℕ) → has (places edges) e ≡ true → e < length edges
+place_below edges e h = omega (arith, has-numbers_high 0 (length edges) e h)
+
+pub has_left_from : (edges : List (List ℕ)) (t e : ℕ) → e < length edges → is_left edges t e ≡ true → has (left_after edges t) e ≡ true
+has_left_from edges t e h m = has_left edges t e ∙ and_from _ _ (has_place edges e h) m
+
+pub is_left_from : (edges : List (List ℕ)) (t e : ℕ) → has (left_after edges t) e ≡ true → (e < length edges) × (is_left edges t e ≡ true)
+is_left_from edges t e m =
+    let both = and_parts (has (places edges) e) (is_left edges t e) (sym (has_left edges t e) ∙ m) in
+    (place_below edges e both.0, both.1)
+
+-- an end of an edge that is left has a degree
+pub degree_some : (edges : List (List ℕ)) (t e v : ℕ) → has (left_after edges t) e ≡ true → touches v (ends_at edges e) ≡ true → 1 ≤ degree_in edges (left_after edges t) v
+degree_some edges t e v m h = count_by_some (λ e. touches v (ends_at edges e)) (left_after edges t) e m h
+
+-- degrees in the incidence
+pub degree_left : (graph : Graph) (t : ℕ) (l : Links) (v : ℕ) → AreLinked graph (is_left graph.edges t) l → degree_of l v ≡ degree_in graph.edges (left_after graph.edges t) v
+degree_left graph t l v a = degree_linked graph (is_left graph.edges t) l v a ∙ ap (λ s. degree_in graph.edges s v) (sym (left_after_is graph.edges t))
+
+pub any_not_all : (d e : ℕ → ℕ) (ends : List ℕ) → ((v : ℕ) → d v ≡ e v) → ((v : ℕ) → has ends v ≡ true → 1 ≤ d v) → list_any (λ v. eqb (d v) 1) ends ≡ not (list_all (λ v. leb 2 (e v)) ends)
+any_not_all d e [] same some = refl
+any_not_all d e (x ∷ xs) same some = go (cases_lt (d x) 2) (any_not_all d e xs same (λ v m. some v (or_right (eqb x v) (has xs v) m))) where
+  go : (d x < 2) ⊎ (2 ≤ d x) → list_any (λ v. eqb (d v) 1) xs ≡ not (list_all (λ v. leb 2 (e v)) xs) → (eqb (d x) 1 || list_any (λ v. eqb (d v) 1) xs) ≡ not (leb 2 (e x) && list_all (λ v. leb 2 (e v)) xs)
+  go (inl few) ih =
+      let least : 1 ≤ d x = some x (or_left (eqb x x) (has xs x) (eq-eqb x x refl)) in
+      or_left _ _ (eq-eqb (d x) 1 (omega arith)) ∙ sym (not_from_false _ (and_left _ _ (lt-leb 2 (e x) (omega (arith, same x)))))
+  go (inr many) ih =
+      let f : eqb (d x) 1 ≡ false = ne_eqb (d x) 1 (λ s. absurd (omega arith)) in
+      let g : leb 2 (e x) ≡ true = le-leb 2 (e x) (omega (arith, same x)) in
+      ap (λ b. b || list_any (λ v. eqb (d v) 1) xs) f ∙ (ih ∙ sym (ap (λ b. not (b && list_all (λ v. leb 2 (e v)) xs)) g))
+
+-- an edge that is left is picked exactly where the next round removes it
+pub picked_is : (graph : Graph) (t : ℕ) (l : Links) (e : ℕ) → AreLinked graph (is_left graph.edges t) l → has (left_after graph.edges t) e ≡ true → is_picked l graph.edges e ≡ not (is_held graph.edges (left_after graph.edges t) e)
+picked_is graph t l e a m =
+    any_not_all (degree_of l) (degree_in graph.edges (left_after graph.edges t)) (ends_at graph.edges e) (λ v. degree_left graph t l v a)
+    (λ v h. let some : 1 ≤ degree_in graph.edges (left_after graph.edges t) v = degree_some graph.edges t e v m h in omega (arith, degree_left graph t l v a))
+
+pub picked_within : (graph : Graph) (t : ℕ) (l : Links) (xs : List ℕ) → AreLinked graph (is_left graph.edges t) l → ((e : ℕ) → has xs e ≡ true → has (left_after graph.edges t) e ≡ true) → picked_of l graph.edges xs ≡ filter (λ e. not (is_held graph.edges (left_after graph.edges t) e)) xs
+picked_within graph t l xs a inside = filter_agree_on (is_picked l graph.edges) (λ e. not (is_held graph.edges (left_after graph.edges t) e)) xs (λ e m. picked_is graph t l e a (inside e m))
+
+pub picked_first : (graph : Graph) (l : Links) → AreLinked graph (is_left graph.edges 0) l → picked_of l graph.edges (places graph.edges) ≡ removed_after graph.edges 0
+picked_first graph l a =
+    ap (picked_of l graph.edges) (sym (left_after-zero graph.edges)) ∙ picked_within graph 0 l (left_after graph.edges 0) a (λ e m. m)
+
+pub same_twice : (b : Bool) → (b && b) ≡ b
+same_twice true = refl
+same_twice false = refl
+
+pub has_removed : (edges : List (List ℕ)) (t e : ℕ) → has (removed_after edges t) e ≡ (has (left_after edges t) e && not (is_held edges (left_after edges t) e))
+has_removed edges t e = has-filter (λ e. not (is_held edges (left_after edges t) e)) (left_after edges t) e
+
+pub picked_again : (graph : Graph) (t : ℕ) (l : Links) → AreLinked graph (is_left graph.edges t) l → picked_of l graph.edges (removed_after graph.edges t) ≡ removed_after graph.edges t
+picked_again graph t l a =
+    let q : ℕ → Bool = λ e. not (is_held graph.edges (left_after graph.edges t) e) in
+    picked_within graph t l (removed_after graph.edges t) a (λ e m. (and_parts _ _ (sym (has_removed graph.edges t e) ∙ m)).0)
+    ∙ (filter-filter q q (left_after graph.edges t) ∙ filter_agree_on (λ e. q e && q e) q (left_after graph.edges t) (λ e m. same_twice (q e)))
+
+-- the one edge of a vertex
+pub seen : (v : ℕ) (ends : List ℕ) (c : Bool) → slot_touches v (cond c (Some ends) None) ≡ (c && touches v ends)
+seen v ends true = refl
+seen v ends false = refl
+
+pub sole_found : (graph : Graph) (p : ℕ → Bool) (l : Links) (v : ℕ) → AreLinked graph p l → degree_of l v ≡ 1 → (sole_of l v < length graph.edges) × (p (sole_of l v) ≡ true) × (touches v (ends_at graph.edges (sole_of l v)) ≡ true)
+sole_found graph p l v a one =
+    let s : ℕ = sole_of l v in
+    let within : s < length l.slots = place_within (slot_touches v) l.slots (omega (arith, one)) in
+    let short : s < length graph.edges = omega (arith, a.many) in
+    let slot : get_or l.slots s None ≡ slot_by graph p s = get_or_from_slice_get l.slots s (slot_by graph p s) None (a.each s short) in
+    let touching : slot_touches v (get_or l.slots s None) ≡ true = passes_at_first (slot_touches v) l.slots None within in
+    let both = and_parts (p s) (touches v (ends_at graph.edges s)) (sym (seen v (ends_at graph.edges s) (p s)) ∙ (ap (slot_touches v) (sym slot) ∙ touching)) in
+    (short, both.0, both.1)
+
+pub sole_is : (graph : Graph) (p : ℕ → Bool) (l : Links) (v f : ℕ) → AreLinked graph p l → degree_of l v ≡ 1 → f < length graph.edges → p f ≡ true → touches v (ends_at graph.edges f) ≡ true → sole_of l v ≡ f
+sole_is graph p l v f a one h pass touching = elim (cases_eq (sole_of l v) f) [
+  | inl same ↦ same
+  | inr other ↦
+      let s = sole_found graph p l v a one in
+      let xs : List ℕ = filter p (places graph.edges) in
+      let in₁ : has xs (sole_of l v) ≡ true = has-filter p (places graph.edges) (sole_of l v) ∙ and_from _ _ (has_place graph.edges (sole_of l v) s.0) s.1 in
+      let in₂ : has xs f ≡ true = has-filter p (places graph.edges) f ∙ and_from _ _ (has_place graph.edges f h) pass in
+      let two : 2 ≤ degree_in graph.edges xs v = count_by_two (λ e. touches v (ends_at graph.edges e)) xs (sole_of l v) f other in₁ in₂ s.2 touching in
+      absurd (omega (arith, degree_linked graph p l v a, one))
+]
+
+-- members of the soles
+pub has_map : (f : ℕ → ℕ) (xs : List ℕ) (e : ℕ) → has (map f xs) e ≡ true → (x : ℕ) × (has xs x ≡ true) × (f x ≡ e)
+has_map f [] e h = absurd (false≢true h)
+has_map f (x ∷ xs) e h = go (or_cases (eqb (f x) e) (has (map f xs) e) h) (has_map f xs e) where
+  go : (eqb (f x) e ≡ true) ⊎ (has (map f xs) e ≡ true) → (has (map f xs) e ≡ true → (y : ℕ) × (has xs y ≡ true) × (f y ≡ e)) → (y : ℕ) × (has (x ∷ xs) y ≡ true) × (f y ≡ e)
+  go (inl same) ih = (x, or_left (eqb x x) (has xs x) (eq-eqb x x refl), eqb-true (f x) e same)
+  go (inr more) ih = let r = ih more in (r.0, or_right (eqb x r.0) (has xs r.0) r.1, r.2)
+
+pub has_map_from : (f : ℕ → ℕ) (xs : List ℕ) (x : ℕ) → has xs x ≡ true → has (map f xs) (f x) ≡ true
+has_map_from f [] x h = absurd (false≢true h)
+has_map_from f (y ∷ ys) x h = go (or_cases (eqb y x) (has ys x) h) (has_map_from f ys x) where
+  go : (eqb y x ≡ true) ⊎ (has ys x ≡ true) → (has ys x ≡ true → has (map f ys) (f x) ≡ true) → (eqb (f y) (f x) || has (map f ys) (f x)) ≡ true
+  go (inl same) ih = or_left _ _ (eq-eqb (f y) (f x) (ap f (eqb-true y x same)))
+  go (inr more) ih = or_right _ _ (ih more)
+
+pub has-append : (xs ys : List ℕ) (e : ℕ) → has (xs ++ ys) e ≡ (has xs e || has ys e)
+has-append xs ys e = list_any-append (λ x. eqb x e) xs ys
+
+-- a sole is that of a free end of one of the edges
+pub record IsSoleOf (l : Links) (edges : List (List ℕ)) (es : List ℕ) (f : ℕ) : Type 0 where
+  pub edge : ℕ
+  pub vertex : ℕ
+  pub among : has es edge ≡ true
+  pub touching : touches vertex (ends_at edges edge) ≡ true
+  pub free : degree_of l vertex ≡ 1
+  pub is : sole_of l vertex ≡ f
+
+pub sole_at : (l : Links) (edges : List (List ℕ)) (e f : ℕ) → has (soles_at l edges e) f ≡ true → IsSoleOf l edges (e ∷ []) f
+sole_at l edges e f h =
+    let r = has_map (sole_of l) (filter (is_free l) (ends_at edges e)) f h in
+    let both = and_parts (has (ends_at edges e) r.0) (is_free l r.0) (sym (has-filter (is_free l) (ends_at edges e) r.0) ∙ r.1) in
+    record { edge = e; vertex = r.0; among = or_left _ _ (eq-eqb e e refl); touching = both.0; free = eqb-true _ _ both.1; is = r.2 }
+
+pub sole_among : (l : Links) (edges : List (List ℕ)) (es : List ℕ) (f : ℕ) → has (soles_of_all l edges es) f ≡ true → IsSoleOf l edges es f
+sole_among l edges [] f h = absurd (false≢true h)
+sole_among l edges (e ∷ es) f h = go (or_cases (has (soles_at l edges e) f) (has (soles_of_all l edges es) f) (sym (has-append (soles_at l edges e) (soles_of_all l edges es) f) ∙ h)) (sole_among l edges es f) where
+  go : (has (soles_at l edges e) f ≡ true) ⊎ (has (soles_of_all l edges es) f ≡ true) → (has (soles_of_all l edges es) f ≡ true → IsSoleOf l edges es f) → IsSoleOf l edges (e ∷ es) f
+  go (inl first) ih =
+      let r = sole_at l edges e f first in
+      let same : e ≡ r.edge = go₂ (or_cases (eqb e r.edge) false r.among) in
+      record { edge = r.edge; vertex = r.vertex; among = or_left _ _ (eq-eqb e r.edge same); touching = r.touching; free = r.free; is = r.is } where
+        go₂ : {a b : ℕ} → (eqb a b ≡ true) ⊎ (false ≡ true) → a ≡ b
+        go₂ (inl s) = eqb-true _ _ s
+        go₂ (inr s) = absurd (false≢true s)
+  go (inr more) ih =
+      let r = ih more in
+      record { edge = r.edge; vertex = r.vertex; among = or_right (eqb e r.edge) (has es r.edge) r.among; touching = r.touching; free = r.free; is = r.is }
+
+pub sole_from : (l : Links) (edges : List (List ℕ)) (es : List ℕ) (e v : ℕ) → has es e ≡ true → touches v (ends_at edges e) ≡ true → degree_of l v ≡ 1 → has (soles_of_all l edges es) (sole_of l v) ≡ true
+sole_from l edges [] e v m h one = absurd (false≢true m)
+sole_from l edges (d ∷ ds) e v m h one = has-append (soles_at l edges d) (soles_of_all l edges ds) (sole_of l v) ∙ go (or_cases (eqb d e) (has ds e) m) (λ n. sole_from l edges ds e v n h one) where
+  go : (eqb d e ≡ true) ⊎ (has ds e ≡ true) → (has ds e ≡ true → has (soles_of_all l edges ds) (sole_of l v) ≡ true) → (has (soles_at l edges d) (sole_of l v) || has (soles_of_all l edges ds) (sole_of l v)) ≡ true
+  go (inl same) ih =
+      let at : touches v (ends_at edges d) ≡ true = ap (λ x. touches v (ends_at edges x)) (eqb-true d e same) ∙ h in
+      let kept : has (filter (is_free l) (ends_at edges d)) v ≡ true = has-filter (is_free l) (ends_at edges d) v ∙ and_from _ _ at (eq-eqb _ 1 one) in
+      or_left _ _ (has_map_from (sole_of l) (filter (is_free l) (ends_at edges d)) v kept)
+  go (inr more) ih = or_right _ _ (ih more)
+
+-- an edge that is removed next has an end of degree one
+pub not_held_end : (d : ℕ → ℕ) (ends : List ℕ) → not (list_all (λ v. leb 2 (d v)) ends) ≡ true → (v : ℕ) × (has ends v ≡ true) × (d v < 2)
+not_held_end d [] h = absurd (false≢true h)
+not_held_end d (x ∷ xs) h = go (cases_lt (d x) 2) (not_held_end d xs) where
+  go : (d x < 2) ⊎ (2 ≤ d x) → (not (list_all (λ v. leb 2 (d v)) xs) ≡ true → (v : ℕ) × (has xs v ≡ true) × (d v < 2)) → (v : ℕ) × (has (x ∷ xs) v ≡ true) × (d v < 2)
+  go (inl few) ih = (x, or_left (eqb x x) (has xs x) (eq-eqb x x refl), few)
+  go (inr many) ih =
+      let r = ih (sym (ap (λ b. not (b && list_all (λ v. leb 2 (d v)) xs)) (le-leb 2 (d x) many)) ∙ h) in
+      (r.0, or_right (eqb x r.0) (has xs r.0) r.1, r.2)
+
+pub held_end : (d : ℕ → ℕ) (ends : List ℕ) (v : ℕ) → list_all (λ v. leb 2 (d v)) ends ≡ true → has ends v ≡ true → 2 ≤ d v
+held_end d [] v h m = absurd (false≢true m)
+held_end d (x ∷ xs) v h m =
+    let both = and_parts (leb 2 (d x)) (list_all (λ v. leb 2 (d v)) xs) h in
+    go both.0 (or_cases (eqb x v) (has xs v) m) (held_end d xs v both.1) where
+      go : leb 2 (d x) ≡ true → (eqb x v ≡ true) ⊎ (has xs v ≡ true) → (has xs v ≡ true → 2 ≤ d v) → 2 ≤ d v
+      go two (inl same) ih = subst (λ y. 2 ≤ d y) (eqb-true x v same) (leb-true 2 (d x) two)
+      go two (inr more) ih = ih more
+
+-- a degree that fell was that of a removed edge's end
+pub count_by-both : (p q : ℕ → Bool) (xs : List ℕ) → count_by q (filter p xs) + count_by q (filter (λ e. not (p e)) xs) ≡ count_by q xs
+count_by-both p q [] = refl
+count_by-both p q (x ∷ xs) = go (p x) (count_by-both p q xs) where
+  go : (b : Bool) → count_by q (filter p xs) + count_by q (filter (λ e. not (p e)) xs) ≡ count_by q xs → count_by q (cond b (x ∷ filter p xs) (filter p xs)) + count_by q (cond (not b) (x ∷ filter (λ e. not (p e)) xs) (filter (λ e. not (p e)) xs)) ≡ count_by q (x ∷ xs)
+  go true ih = omega (arith, count_by-cons q x (filter p xs), count_by-cons q x xs)
+  go false ih = omega (arith, count_by-cons q x (filter (λ e. not (p e)) xs), count_by-cons q x xs)
+
+pub degree_parts : (edges : List (List ℕ)) (t v : ℕ) → degree_in edges (left_after edges (suc t)) v + degree_in edges (removed_after edges t) v ≡ degree_in edges (left_after edges t) v
+degree_parts edges t v =
+    ap (λ s. degree_in edges s v + degree_in edges (removed_after edges t) v) (left_after-suc edges t)
+    ∙ count_by-both (is_held edges (left_after edges t)) (λ e. touches v (ends_at edges e)) (left_after edges t)
+
+-- the soles of a removed round are the next round
+pub soles_are_next : (graph : Graph) (t : ℕ) (l : Links) → AreLinked graph (is_left graph.edges (suc t)) l → (f : ℕ) → has (soles_of_all l graph.edges (removed_after graph.edges t)) f ≡ true → has (removed_after graph.edges (suc t)) f ≡ true
+soles_are_next graph t l a f h =
+    let edges : List (List ℕ) = graph.edges in
+    let r : IsSoleOf l edges (removed_after edges t) f = sole_among l edges (removed_after edges t) f h in
+    let s = sole_found graph (is_left edges (suc t)) l r.vertex a r.free in
+    let in' : has (left_after edges (suc t)) (sole_of l r.vertex) ≡ true = has_left_from edges (suc t) (sole_of l r.vertex) s.0 s.1 in
+    let one : degree_in edges (left_after edges (suc t)) r.vertex ≡ 1 = sym (degree_left graph (suc t) l r.vertex a) ∙ r.free in
+    let fails : not (is_held edges (left_after edges (suc t)) (sole_of l r.vertex)) ≡ true = go (cases_Bool (is_held edges (left_after edges (suc t)) (sole_of l r.vertex))) (λ held.
+    let two : 2 ≤ degree_in edges (left_after edges (suc t)) r.vertex = held_end (degree_in edges (left_after edges (suc t))) (ends_at edges (sole_of l r.vertex)) r.vertex held s.2 in
+    absurd (omega arith)) in
+    subst (λ x. has (removed_after edges (suc t)) x ≡ true) r.is (has_removed edges (suc t) (sole_of l r.vertex) ∙ and_from _ _ in' fails) where
+      go : {b : Bool} → (b ≡ true) ⊎ (b ≡ false) → (b ≡ true → ⊥) → not b ≡ true
+      go (inl yes') no' = absurd (no' yes')
+      go (inr no') f = not_from_false _ no'
+
+pub next_are_soles : (graph : Graph) (t : ℕ) (l : Links) → AreLinked graph (is_left graph.edges (suc t)) l → (f : ℕ) → has (removed_after graph.edges (suc t)) f ≡ true → has (soles_of_all l graph.edges (removed_after graph.edges t)) f ≡ true
+next_are_soles graph t l a f h =
+    let edges : List (List ℕ) = graph.edges in
+    let both = and_parts (has (left_after edges (suc t)) f) (not (is_held edges (left_after edges (suc t)) f)) (sym (has_removed edges (suc t) f) ∙ h) in
+    let r = not_held_end (degree_in edges (left_after edges (suc t))) (ends_at edges f) both.1 in
+    let v : ℕ = r.0 in
+    let place = is_left_from edges (suc t) f both.0 in
+    let some : 1 ≤ degree_in edges (left_after edges (suc t)) v = degree_some edges (suc t) f v both.0 r.1 in
+    let few : degree_in edges (left_after edges (suc t)) v < 2 = r.2 in
+    let one : degree_of l v ≡ 1 = degree_left graph (suc t) l v a ∙ omega arith in
+    let parts = and_parts (is_left edges t f) (is_held edges (left_after edges t) f) place.1 in
+    let two : 2 ≤ degree_in edges (left_after edges t) v = held_end (degree_in edges (left_after edges t)) (ends_at edges f) v parts.1 r.1 in
+    let gone : degree_in edges (left_after edges (suc t)) v + degree_in edges (removed_after edges t) v ≡ degree_in edges (left_after edges t) v = degree_parts edges t v in
+    let e = count_by_found (λ e. touches v (ends_at edges e)) (removed_after edges t) (omega arith) in
+    let is : sole_of l v ≡ f = sole_is graph (is_left edges (suc t)) l v f a one place.0 place.1 r.1 in
+    subst (λ x. has (soles_of_all l edges (removed_after edges t)) x ≡ true) is (sole_from l edges (removed_after edges t) e.0 v e.1 e.2 one)
+
+-- two rising lists of places that have the same
+pub rising_same : (edges : List (List ℕ)) (xs ys : List ℕ) → Rises 0 xs → Rises 0 ys → ((e : ℕ) → has ys e ≡ true → e < length edges) → ((e : ℕ) → has xs e ≡ true → has ys e ≡ true) → ((e : ℕ) → has ys e ≡ true → has xs e ≡ true) → xs ≡ ys
+rising_same edges xs ys r s inside to from =
+    let n : ℕ = length edges in
+    let a : xs ≡ filter (has xs) (places edges) = rising_is_filter 0 n xs r (λ e m. omega (arith, inside e (to e m))) in
+    let b : ys ≡ filter (has ys) (places edges) = rising_is_filter 0 n ys s (λ e m. omega (arith, inside e m)) in
+    a ∙ (filter_agree_on (has xs) (has ys) (places edges) (λ e m. go (cases_Bool (has xs e)) (cases_Bool (has ys e)) (to e) (from e)) ∙ sym b) where
+      go : {a b : Bool} → (a ≡ true) ⊎ (a ≡ false) → (b ≡ true) ⊎ (b ≡ false) → (a ≡ true → b ≡ true) → (b ≡ true → a ≡ true) → a ≡ b
+      go (inl p) (inl q) t f = p ∙ sym q
+      go (inl p) (inr q) t f = p ∙ sym (t p)
+      go (inr p) (inl q) t f = f q ∙ sym q
+      go (inr p) (inr q) t f = p ∙ sym q
+
+pub removed_rises : (edges : List (List ℕ)) (t : ℕ) → Rises 0 (removed_after edges t)
+removed_rises edges t = Rises-filter (λ e. not (is_held edges (left_after edges t) e)) 0 (left_after edges t) (left_after_rises edges t)
+
+pub removed_is_left : (edges : List (List ℕ)) (t e : ℕ) → has (removed_after edges t) e ≡ true → has (left_after edges t) e ≡ true
+removed_is_left edges t e m = (and_parts _ _ (sym (has_removed edges t e) ∙ m)).0
+
+pub next_is : (graph : Graph) (t : ℕ) (l : Links) (next : List ℕ) → AreLinked graph (is_left graph.edges (suc t)) l → IsStrictlyIncreasing next
+    → ((e : ℕ) → (Contains next e → Contains (soles_of_all l graph.edges (removed_after graph.edges t)) e) × (Contains (soles_of_all l graph.edges (removed_after graph.edges t)) e → Contains next e)) → next ≡ removed_after graph.edges (suc t)
+next_is graph t l next a up same = rising_same graph.edges next (removed_after graph.edges (suc t)) (Rises-from_increasing 0 next up (λ _. omega arith)) (removed_rises graph.edges (suc t))
+    (λ e m. (is_left_from graph.edges (suc t) e (removed_is_left graph.edges (suc t) e m)).0)
+    (λ e m. soles_are_next graph t l a e (has-from_Contains _ e ((same e).0 (Contains-from_has next e m))))
+    (λ e m. has-from_Contains next e ((same e).1 (Contains-from_has _ e (next_are_soles graph t l a e m))))

@@ -1,0 +1,5 @@
+use Rattle.cm_peel.proofs.Core as core
+use Rattle.cm_peel.proofs.laws.empty_rest.Goals as goal
+
+pub returns : goal.returns
+returns c = record { core = core.empty_core; rest = core.empty_rest }

@@ -1,0 +1,13 @@
+use Rattle.std.proofs.Common.{◌+◌, ◌-◌, ◌*◌, ◌≤◌, length, vec_len}
+use Rattle.cm_peel.specs.AtRound.{AtRound}
+use Rattle.cm_peel.proofs.peeled.peel.Given as goal
+
+abbrev pub invariant-rounds : goal.invariant-rounds
+invariant-rounds g l = record {
+  state : AtRound l.edges l.level (g.I.Incidence.links l.incidence) l.picked.items l.order.items l.levels.items l.pivots.items;
+  fits : length l.edges.edges ≤ 67108864;
+  steps : l.steps ≤ l.fn.steps + 2 * (g.row.K * length l.edges.edges) + 4 * (g.row.K * vec_len l.order) + g.row.K * vec_len l.picked;
+}
+
+abbrev pub decreases-rounds : goal.decreases-rounds
+decreases-rounds g l = length l.edges.edges - vec_len l.order

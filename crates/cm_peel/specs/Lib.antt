@@ -1,0 +1,3 @@
+pub mod Incident
+pub mod AtRound
+pub mod Peeling
