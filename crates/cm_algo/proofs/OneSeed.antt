@@ -1,0 +1,125 @@
+-- One seed, and the list of them.
+use Rattle.std.proofs.Common.{◌≡◌, ◌≢◌, ◌⊎◌, ℕ, zero, suc, ◌+◌, ◌-◌, ◌*◌, ◌<◌, ◌≤◌, Bool, true, false, List, [], ◌∷◌, length, map, get_or, Result, Ok, Err, sym, refl, ap, ◌∙◌, subst, inl, inr, arith, Option, Some, None, nat_eq}
+use Rattle.std.specs.Prelude.{find}
+use Rattle.std.proofs.Math.Nat.{mul-add, mul-le-mul_left}
+use Rattle.std.proofs.lemmas.Bool.{cases_lt, ne_eqb}
+use Rattle.cm_outer.specs.declared.key_pass.KeyFault.{KeyFault}
+use Rattle.cm_outer.specs.declared.key_pass.KeyFault.TheVariants.{Read, TooLong, TooMany}
+use Rattle.cm_algo.specs.Builds.{IsGiven, IsLeft}
+use Rattle.cm_algo.specs.Fails.{IsToldFault}
+use Rattle.cm_outer.specs.Passes.{Told, GivesKey}
+use Rattle.cm_spec.specs.Built.{edge_of, tag_of, graph_of, cells_under, is_peeled, first_seed, IsFirst, AllCored}
+use Rattle.cm_peel.proofs.Core.{empty_core, empty_rest}
+use Rattle.cm_spec.specs.Cells.{plan_of, cells_of}
+use Rattle.cm_spec.specs.Rounds.{rest_of}
+use Rattle.cm_spec.specs.Rule.{Rule, IsSize, IsRule, IsCount, IsRatio}
+
+-- a fault that a pass gave
+pub told_fault : (told : Told) (before now line : ℕ) (key : List ℕ) (fault : KeyFault) → GivesKey told before now line key (Err fault) → IsToldFault told fault
+told_fault told before now line key Read h = tt
+told_fault told before now line key (TooLong at) h = h.fault_is
+told_fault told before now line key TooMany h = h.fault_is
+
+length_map : {A B : Type 0} (f : A → B) (xs : List A) → length (map f xs) ≡ length xs
+length_map f [] = refl
+length_map f (x ∷ xs) = ap suc (length_map f xs)
+
+-- the graph of one seed
+pub record IsHashed (r : Rule) (keys : List (ℕ × List ℕ)) (m c seed : ℕ) (edges : List (List ℕ)) (tags : List ℕ) : Type 0 where
+  pub many : m ≡ length keys
+  pub edges_are : edges ≡ graph_of r keys c seed
+  pub tags_are : tags ≡ map (tag_of r seed) keys
+
+pub hashed_from : (r : Rule) (keys : List (ℕ × List ℕ)) (m c seed n : ℕ) (edges : List (List ℕ)) (tags : List ℕ) → n ≡ r.size m c → edges ≡ map (edge_of r n seed) keys → tags ≡ map (tag_of r seed) keys → length edges ≡ m → IsHashed r keys m c seed edges tags
+hashed_from r keys m c seed n edges tags size e t long =
+    let many : m ≡ length keys = sym long ∙ (ap length e ∙ length_map (edge_of r n seed) keys) in
+    record {
+      many = many;
+      edges_are = e ∙ (ap (λ k. map (edge_of r k seed) keys) size ∙ ap (λ k. map (edge_of r (r.size k c) seed) keys) many);
+      tags_are = t;
+    }
+
+pub given_from : (r : Rule) (keys : List (ℕ × List ℕ)) (m c seed n : ℕ) (edges : List (List ℕ)) (tags cells : List ℕ) → n ≡ r.size m c → IsHashed r keys m c seed edges tags → rest_of edges ≡ [] → cells ≡ cells_of (plan_of r n edges tags) → (m ≡ length keys) × IsGiven r keys c seed cells
+given_from r keys m c seed n edges tags cells size h none is = (
+  h.many,
+  (
+    ap rest_of (sym h.edges_are) ∙ none,
+    is ∙ (ap (λ k. cells_of (plan_of r k edges tags)) (size ∙ ap (λ k. r.size k c) h.many)
+        ∙ (ap (λ es. cells_of (plan_of r (r.size (length keys) c) es tags)) h.edges_are
+            ∙ ap (λ ts. cells_of (plan_of r (r.size (length keys) c) (graph_of r keys c seed) ts)) h.tags_are)),
+  ),
+)
+
+pub left_from : (r : Rule) (keys : List (ℕ × List ℕ)) (m c seed : ℕ) (edges : List (List ℕ)) (tags : List ℕ) → IsHashed r keys m c seed edges tags → rest_of edges ≢ [] → IsLeft r keys c seed
+left_from r keys m c seed edges tags h some e = some (ap rest_of h.edges_are ∙ e)
+
+pub no_keys : {A : Type 0} (xs : List A) → length xs ≡ 0 → xs ≡ []
+no_keys [] h = refl
+no_keys (x ∷ xs) h = absurd (omega arith)
+
+pub not_nil : (xs : List ℕ) → 0 < length xs → xs ≢ []
+not_nil [] h e = absurd (omega arith)
+not_nil (x ∷ xs) h e = absurd (let z : length (x ∷ xs) ≡ 0 = ap length e in omega arith)
+
+pub steps_more : (k m n s0 s t i : ℕ) → s ≤ s0 + 8 * (k * m) * i → t ≤ s + 8 * (k * m) → m ≡ n → t ≤ s0 + 8 * (k * n) * (i + 1)
+steps_more k m n s0 s t i a b e =
+    let more : 8 * (k * m) * (i + 1) ≡ 8 * (k * m) * i + 8 * (k * m) * 1 = mul-add (8 * (k * m)) i 1 in
+    let same : 8 * (k * m) * (i + 1) ≡ 8 * (k * n) * (i + 1) = ap (λ (x : ℕ). 8 * (k * x) * (i + 1)) e in
+    let whole : t ≤ s0 + 8 * (k * m) * (i + 1) = omega arith in
+    subst (λ (x : ℕ). t ≤ s0 + x) same whole
+
+pub steps_err : (k m n s0 s t i len : ℕ) → s ≤ s0 + 8 * (k * m) * i → t ≤ s + 8 * (k * m) → m ≡ n → i < len → t ≤ s0 + 8 * (k * n) * len
+steps_err k m n s0 s t i len a b e l =
+    let more : t ≤ s0 + 8 * (k * n) * (i + 1) = steps_more k m n s0 s t i a b e in
+    let up : i + 1 ≤ len = omega arith in
+    omega (arith, mul-le-mul_left (8 * (k * n)) up)
+
+pub steps_end : (k m n s0 s i len : ℕ) → s ≤ s0 + 8 * (k * m) * i → m ≡ n → i ≤ len → s ≤ s0 + 8 * (k * n) * len
+steps_end k m n s0 s i len a e l =
+    let same : s ≤ s0 + 8 * (k * n) * i = subst (λ (x : ℕ). s ≤ s0 + 8 * (k * x) * i) e a in
+    omega (arith, mul-le-mul_left (8 * (k * n)) l)
+
+-- one more seed th-- one more seed that leaves a rest
+pub left_more : (P : ℕ → Type 0) (i j : ℕ) → ((j : ℕ) → j < i → P j) → P i → j < i + 1 → P j
+left_more P i j h p l = go (cases_lt j i) where
+  go : (j < i) ⊎ (i ≤ j) → P j
+  go (inl low) = h j low
+  go (inr high) = let s : i ≡ j = omega arith in subst P s p
+
+-- the first of a list that passes a test
+find_at : (p : ℕ → Bool) (xs : List ℕ) (i : ℕ) → i < length xs → p (get_or xs i 0) ≡ true → ((j : ℕ) → j < i → p (get_or xs j 0) ≡ false) → find p xs ≡ Some (get_or xs i 0)
+find_at p [] i l h b = absurd (omega arith)
+find_at p (x ∷ xs) zero l h b = rw h refl
+find_at p (x ∷ xs) (suc i) l h b = let f : p x ≡ false = b 0 (omega arith) in rw f (find_at p xs i (omega arith) h (λ j m. b (suc j) (omega arith)))
+
+find_none : (p : ℕ → Bool) (xs : List ℕ) → ((j : ℕ) → j < length xs → p (get_or xs j 0) ≡ false) → find p xs ≡ None
+find_none p [] b = refl
+find_none p (x ∷ xs) b = let f : p x ≡ false = b 0 (omega arith) in rw f (find_none p xs (λ j m. b (suc j) (omega arith)))
+
+peeled_is : (xs : List ℕ) → xs ≡ [] → nat_eq (length xs) 0 ≡ true
+peeled_is xs e = rw e refl
+
+left_is : (xs : List ℕ) → xs ≢ [] → nat_eq (length xs) 0 ≡ false
+left_is [] h = absurd (h refl)
+left_is (x ∷ xs) h = ne_eqb (length (x ∷ xs)) 0 (λ z. absurd (omega arith))
+
+-- the seed at a place is the first, for all before it leave a rest
+pub chosen_at : (r : Rule) (keys : List (ℕ × List ℕ)) (c i : ℕ) (seeds : List ℕ) → i < length seeds → rest_of (graph_of r keys c (get_or seeds i 0)) ≡ []
+    → ((j : ℕ) → j < i → rest_of (graph_of r keys c (get_or seeds j 0)) ≢ []) → first_seed r keys c seeds ≡ Some (get_or seeds i 0)
+chosen_at r keys c i seeds l none left = find_at (is_peeled r keys c) seeds i l (peeled_is _ none) (λ j m. left_is _ (left j m))
+
+pub none_chosen : (r : Rule) (keys : List (ℕ × List ℕ)) (c : ℕ) (seeds : List ℕ) → ((j : ℕ) → j < length seeds → rest_of (graph_of r keys c (get_or seeds j 0)) ≢ []) → first_seed r keys c seeds ≡ None
+none_chosen r keys c seeds left = find_none (is_peeled r keys c) seeds (λ j m. left_is _ (left j m))
+
+-- the same with the 2-core
+pub first_at : (r : Rule) (keys : List (ℕ × List ℕ)) (c i : ℕ) (seeds : List ℕ) → i < length seeds → rest_of (graph_of r keys c (get_or seeds i 0)) ≡ []
+    → ((j : ℕ) → j < i → rest_of (graph_of r keys c (get_or seeds j 0)) ≢ []) → IsFirst r keys c seeds i (get_or seeds i 0)
+first_at r keys c i seeds l none left = record {
+  within = l;
+  at = refl;
+  empty = empty_core _ none;
+  earlier = λ j m core. left j m (empty_rest _ core);
+}
+
+pub all_cored : (r : Rule) (keys : List (ℕ × List ℕ)) (c : ℕ) (seeds : List ℕ) → ((j : ℕ) → j < length seeds → rest_of (graph_of r keys c (get_or seeds j 0)) ≢ []) → AllCored r keys c seeds
+all_cored r keys c seeds left = λ j m core. left j m (empty_rest _ core)

@@ -1,0 +1,52 @@
+//! What a scheme is.
+ghost use Rattle.std.specs.Prelude.{◌≡◌, ℕ, ◌+◌, ◌-◌, ◌*◌, ◌/◌, ◌%◌, ◌^◌, ◌<◌, ◌≤◌, List, length};
+ghost use Rattle.cm_spec.specs.Rule.{Rule, IsRule, IsCount, IsRatio, IsSize};
+
+use cm_bits::Cells;
+
+/// An algorithm: from the words of a key to an edge with `K` ends, and from the number of a key to what its cells add up to.
+pub trait Scheme<const K: usize> {
+    /// Where the cells are kept.
+    type Table: Cells + Drop;
+
+    /// All that the methods compute.
+    ghost rule: { Self → Rule };
+
+    /// The number of vertices for `m` keys and the ratio `c` in millionths.
+    fn size(&self, m: u32, c: u32) -> u32
+        requires many { IsCount m }
+        requires ratio { IsRatio c }
+        ensures size { result ≡ (rule self.now).size m c };
+
+    /// The ends of a key over `n` vertices, from its three words.
+    fn edge(&self, words: [u32; 3], n: u32) -> [u32; K]
+        requires size { IsSize (rule self.now) n }
+        ensures edge { result ≡ (rule self.now).edge words n };
+
+    /// What is kept of a key's words until the cells are set; 0 where nothing is.
+    fn tag(&self, words: [u32; 3]) -> u32
+        ensures tag { result ≡ (rule self.now).tag words };
+
+    /// What sums of cells are taken modulo.
+    fn modulus(&self, m: u32) -> u32
+        requires many { IsCount m }
+        ensures modulus { result ≡ (rule self.now).modulus m };
+
+    /// What cells are below.
+    fn bound(&self, m: u32) -> u32
+        requires many { IsCount m }
+        ensures bound { result ≡ (rule self.now).bound m };
+
+    /// The value of an untouched cell.
+    fn idle(&self) -> u32
+        ensures idle { result ≡ (rule self.now).idle };
+
+    /// What the cells of a key's ends add up to, by its number, its pivot's position and its tag.
+    fn target(&self, number: u32, position: u32, tag: u32) -> u32
+        ensures target { result ≡ (rule self.now).target number position tag };
+
+    // The rule keeps its laws, and the table serves its bound.
+    ghost laws: { (s : Self) → IsRule K (rule s) };
+
+    ghost bound_fits: { (s : Self) (m : ℕ) → IsCount m → Self.Table.fits ((rule s).bound m) };
+}

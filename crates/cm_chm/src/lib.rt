@@ -1,0 +1,9 @@
+//! CHM (Czech, Havas, Majewski 1992): the number of a key is the sum of two cells, modulo the number of keys.
+#![tactic(auto)]
+
+mod chm;
+mod scheme;
+
+pub use crate::chm::Chm;
+pub use crate::scheme::ChmScheme;
+
