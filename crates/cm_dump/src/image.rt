@@ -1,0 +1,43 @@
+//! The image of a table, written in pieces.
+ghost use Rattle.std.specs.Prelude.{◌≡◌, ◌<◌, ◌≤◌, ◌+◌, ◌-◌, ℕ, List, map, length, [], min};
+ghost use Rattle.std.specs.List.{range_with_len};
+ghost use Rattle.cm_spec.specs.Lists.{list_of};
+ghost use Rattle.cm_outer.specs.Causes.{HasCause};
+ghost use Rattle.cm_outer.specs.Writing.{Writes};
+
+use arrayvec::ArrayVec;
+use cm_bits::Cells;
+use cm_outer::{Failed, Sink};
+
+/// How many bytes are gathered before they are written.
+const PIECE: u64 = 4096;
+
+/// Gathers the bytes of a table's image from `from` up to `until`.
+fn gather<C: Cells>(table: &C, from: u64, until: u64, piece: &mut ArrayVec<u8, 4096>)
+    requires order { from ≤ until }
+    requires room { until ≤ from + 4096 }
+    requires inside { until ≤ C.image_size (length (C.cells table.now)) (C.bound_of table.now) }
+    ensures piece { piece.new.items ≡ map (C.image_byte (C.bound_of table.now) (C.cells table.now)) (range_with_len from (until - from)) }
+{
+    piece.clear();
+    for i in from..until {
+        piece.push(table.byte(i));
+    }
+}
+
+/// Writes the image of a table. Fails exactly where the sink does, which has then taken a prefix of the image.
+pub(crate) fn save_image<C: Cells, O: Sink>(table: &C, out: &mut O) -> Result<(), Failed>
+    ensures bytes { Writes (O.written out.old) (O.written out.new) (list_of (C.image_byte (C.bound_of table.now) (C.cells table.now)) (C.image_size (length (C.cells table.now)) (C.bound_of table.now))) result }
+    ensures cause { HasCause (O.faults out.old) (O.faults out.new) result }
+{
+    let len = C::image_len(table.len(), table.bound());
+    let mut piece = ArrayVec::<u8, 4096>::new();
+    let mut at = 0;
+    'pieces: while at < len {
+        let until = at + PIECE.min(len - at);
+        gather(table, at, until, &mut piece);
+        out.write(piece.as_slice())?;
+        at = until;
+    }
+    Ok(())
+}

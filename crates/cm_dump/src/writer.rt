@@ -1,0 +1,64 @@
+//! A function of any algorithm, and its dump.
+ghost use Rattle.std.specs.Prelude.{◌≡◌, ◌++◌, ◌∷◌, [], List, ℕ, length};
+ghost use Rattle.cm_outer.specs.Causes.{HasCause};
+ghost use Rattle.cm_outer.specs.Writing.{Writes};
+ghost use Rattle.cm_spec.specs.Dump.{header, chm_dump};
+ghost use Rattle.cm_dump.specs.Dumps.{dump_of};
+
+use crate::image::save_image;
+use cm_bits::Cells;
+use cm_chm::Chm;
+use cm_outer::{Failed, Sink, write_pieces};
+
+/// A function of any algorithm.
+#[derive(Drop)]
+pub enum Func {
+    Chm(Chm),
+}
+
+/// Writes the header of a dump: the algorithm's number, its parameter `b`, the number of keys, the ratio in millionths and the
+/// seed.
+#[tactic(auto, unfolding(cm_spec::specs::Dump::header))]
+fn save_header<O: Sink>(
+    algorithm: u8,
+    b: u8,
+    keys: u32,
+    ratio: u32,
+    seed: u32,
+    out: &mut O,
+) -> Result<(), Failed>
+    ensures bytes { Writes (O.written out.old) (O.written out.new) (header algorithm b keys ratio seed) result }
+    ensures cause { HasCause (O.faults out.old) (O.faults out.new) result }
+{
+    write_pieces(
+        out,
+        &[
+            b"CMPHDMP1",
+            &[algorithm, b, 0, 0],
+            &keys.to_le_bytes(),
+            &ratio.to_le_bytes(),
+            &seed.to_le_bytes(),
+        ],
+    )
+}
+
+/// Writes the dump of a CHM function.
+#[tactic(auto, unfolding(cm_spec::specs::Dump::chm_dump, cm_spec::specs::Dump::fields_image))]
+fn save_chm<O: Sink>(chm: &Chm, out: &mut O) -> Result<(), Failed>
+    ensures bytes { Writes (O.written out.old) (O.written out.new) (chm_dump chm.now) result }
+    ensures cause { HasCause (O.faults out.old) (O.faults out.new) result }
+{
+    save_header(1, 0, chm.keys(), chm.c(), chm.seed(), out)?;
+    save_image(chm.cells(), out)
+}
+
+/// Writes the dump of a function. Fails exactly where the sink does, which has then taken a prefix of the dump. It takes no
+/// memory.
+pub fn save<O: Sink>(function: &Func, out: &mut O) -> Result<(), Failed>
+    ensures bytes { Writes (O.written out.old) (O.written out.new) (dump_of function.now) result }
+    ensures cause { HasCause (O.faults out.old) (O.faults out.new) result }
+{
+    match function {
+        Func::Chm(chm) => save_chm(chm, out),
+    }
+}
