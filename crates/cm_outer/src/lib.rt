@@ -11,6 +11,8 @@ mod mem_source;
 mod notes;
 mod sink;
 mod source;
+#[cfg(test)]
+mod tests;
 
 pub use disk::Disk;
 pub use fault::{DiskFault, Failed};
