@@ -1,6 +1,6 @@
 use crate::{
-    Disk, DiskFault, Failed, KeyBuf, KeyFault, MAX_KEYS, MemDisk, MemSink, MemSource, Notes, Sink,
-    Source, write_pieces,
+    Disk, DiskFault, Failed, KeyBuf, KeyFault, MAX_KEY_LEN, MAX_KEYS, MemDisk, MemSink, MemSource,
+    Notes, Sink, Source, write_pieces,
 };
 use std::alloc::Global;
 use std::test::Fail;
@@ -149,6 +149,7 @@ fn texts_and_limits(rt: HostRuntime) -> Result<(), Fail> {
         "the keys cannot be read; line 2 is too long; there are too many keys"
     );
     assert_eq!(rt; MAX_KEYS, 16_777_216);
+    assert_eq!(rt; MAX_KEY_LEN, 65_535);
     assert_eq!(rt; KeyBuf::new().capacity(), 65_535);
     assert_eq!(rt; one_byte(alloc).map(|bytes| bytes.len()), Ok(1));
     Ok(())
