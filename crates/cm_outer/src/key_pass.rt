@@ -8,8 +8,11 @@ use thiserror::Error;
 /// How many keys a pass gives at most.
 pub const MAX_KEYS: u32 = 16_777_216;
 
-/// Room for one key, of at most 65,535 bytes.
-pub type KeyBuf = ArrayVec<u8, 65535>;
+/// How many bytes a key has at most.
+pub const MAX_KEY_LEN: usize = 65_535;
+
+/// Room for one key.
+pub type KeyBuf = ArrayVec<u8, MAX_KEY_LEN>;
 
 /// Why a pass stopped before the end of its keys. Lines are counted from 1.
 #[derive(Clone, Copy, Debug, PartialEq, Eq, Error)]

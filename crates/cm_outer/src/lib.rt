@@ -11,10 +11,12 @@ mod mem_source;
 mod notes;
 mod sink;
 mod source;
+#[cfg(test)]
+mod tests;
 
 pub use disk::Disk;
 pub use fault::{DiskFault, Failed};
-pub use key_pass::{KeyBuf, KeyFault, KeyPass, MAX_KEYS};
+pub use key_pass::{KeyBuf, KeyFault, KeyPass, MAX_KEY_LEN, MAX_KEYS};
 pub use mem_disk::MemDisk;
 pub use mem_sink::MemSink;
 pub use mem_source::MemSource;

@@ -1,0 +1,81 @@
+-- What is left of the keys.
+use Rattle.std.proofs.Common.{◌≡◌, ◌∙◌, ℕ, zero, suc, ◌+◌, ◌-◌, ◌<◌, ◌≤◌, List, [], ◌∷◌, length, take, drop, ap, sym, arith, refl, Option, Some, None, true, false, nat_lt}
+use Rattle.std.proofs.lemmas.List.{drop-drop}
+use Rattle.cm_outer.specs.declared.key_pass.KeyFault.{KeyFault}
+use Rattle.cm_outer.specs.declared.key_pass.KeyFault.TheVariants.{TooLong, TooMany}
+use Rattle.cm_outer.specs.Passes.{Told, Ends}
+use Rattle.cm_keys.specs.Lines.{pieces, looked_at, with_key, keys_from, lines_of}
+use Rattle.cm_keys.specs.LinePass.{IsOpen}
+use Rattle.cm_keys.specs.Leaving.{looked_at_after, keys_after, IsLeft}
+use Rattle.cm_keys.specs.Buffering.{IsLong}
+
+-- at the start all lines are ahead
+looked_at_first : (first : Option ℕ) (ps : List (List ℕ)) → looked_at first ps ≡ looked_at_after 0 first ps
+looked_at_first None ps = refl
+looked_at_first (Some first) ps = let e : first ≡ first - 0 = omega arith in ap (λ (k : ℕ). take k ps) e
+
+-- at the start all is left
+pub left_first : (max longest end : ℕ) (first : Option ℕ) (bytes : List ℕ) → IsLeft (lines_of max longest end first bytes) 0 (keys_after max longest first 0 (pieces end bytes))
+unfolding lines_of
+left_first max longest end first bytes =
+    let e = ap (keys_from max longest 1) (looked_at_first first (pieces end bytes)) in
+    record { keys = ap (λ told. told.keys) e; count = omega (arith, ap (λ told. length told.keys) e); fault = ap (λ told. told.fault) e }
+
+-- where more lines are looked at, the next is the first of them
+looked_at_next : (first : Option ℕ) (given : ℕ) (p : List ℕ) (ps : List (List ℕ)) → IsOpen first given → looked_at_after given first (p ∷ ps) ≡ p ∷ looked_at_after (given + 1) first ps
+looked_at_next None given p ps open_first = refl
+looked_at_next (Some first) given p ps open_first =
+    let e : first - given ≡ suc (first - (given + 1)) = omega (arith, open_first) in ap (λ (k : ℕ). take k (p ∷ ps)) e
+
+ltb_no : (m n : ℕ) → n ≤ m → nat_lt m n ≡ false
+ltb_no m n le = grind (arith, le)
+
+ltb_yes : (m n : ℕ) → m < n → nat_lt m n ≡ true
+ltb_yes m n lt = grind (arith, lt)
+
+-- a key that is given
+pub left_key : (max longest : ℕ) (first : Option ℕ) (given : ℕ) (p : List ℕ) (ps : List (List ℕ)) → IsOpen first given → given < max → length p ≤ longest
+    → keys_after max longest first given (p ∷ ps) ≡ with_key (given + 1, p) (keys_after max longest first (given + 1) ps)
+left_key max longest first given p ps open_first some short =
+    ap (keys_from max longest (given + 1)) (looked_at_next first given p ps open_first)
+    ∙ rw (ltb_no max (given + 1) (omega (arith, some))) (rw (ltb_no longest (length p) short) refl)
+
+-- a line that is too long
+pub left_long : (max longest : ℕ) (first : Option ℕ) (given : ℕ) (ps : List (List ℕ)) → IsOpen first given → given < max → IsLong longest ps
+    → keys_after max longest first given ps ≡ record { keys = []; fault = Some (TooLong (given + 1)) }
+left_long max longest first given [] open_first some long = absurd long
+left_long max longest first given (p ∷ ps) open_first some long =
+    ap (keys_from max longest (given + 1)) (looked_at_next first given p ps open_first)
+    ∙ rw (ltb_no max (given + 1) (omega (arith, some))) (rw (ltb_yes longest (length p) long) refl)
+
+-- a line too many
+pub left_many : (max longest : ℕ) (first : Option ℕ) (given : ℕ) (ps : List (List ℕ)) → IsOpen first given → max ≤ given → 0 < length ps
+    → keys_after max longest first given ps ≡ record { keys = []; fault = Some TooMany }
+left_many max longest first given [] open_first all some = absurd (omega (arith, some))
+left_many max longest first given (p ∷ ps) open_first all some =
+    ap (keys_from max longest (given + 1)) (looked_at_next first given p ps open_first)
+    ∙ rw (ltb_yes max (given + 1) (omega (arith, all))) refl
+
+take_none : (k : ℕ) → take {A = List ℕ} k [] ≡ []
+take_none zero = refl
+take_none (suc k) = refl
+
+-- no line is left
+pub left_none : (max longest : ℕ) (first : Option ℕ) (given : ℕ) → keys_after max longest first given [] ≡ record { keys = []; fault = None }
+left_none max longest None given = refl
+left_none max longest (Some first) given = ap (keys_from max longest (given + 1)) (take_none (first - given))
+
+-- no line more is looked at
+pub left_done : (max longest first given : ℕ) (ps : List (List ℕ)) → first ≤ given → keys_after max longest (Some first) given ps ≡ record { keys = []; fault = None }
+left_done max longest first given ps all =
+    let e : first - given ≡ 0 = omega (arith, all) in ap (λ (k : ℕ). keys_from max longest (given + 1) (take k ps)) e
+
+-- after a key
+pub leaves_key : (whole : Told) (given : ℕ) (key : ℕ × List ℕ) (left : Told) → IsLeft whole given (with_key key left) → IsLeft whole (given + 1) left × (drop given whole.keys ≡ key ∷ drop (given + 1) whole.keys)
+leaves_key whole given key left is =
+    let e : drop (given + 1) whole.keys ≡ left.keys = sym (drop-drop 1 given whole.keys) ∙ ap (λ (l : List (ℕ × List ℕ)). drop 1 l) is.keys in
+    (record { keys = e; count = omega (arith, is.count); fault = is.fault }, is.keys ∙ ap (λ (l : List (ℕ × List ℕ)). key ∷ l) (sym e))
+
+-- at the end
+pub leaves_none : (whole : Told) (given : ℕ) (fault : Option KeyFault) → IsLeft whole given (record { keys = []; fault = fault }) → Ends whole given fault
+leaves_none whole given fault is = record { none_left = is.keys; all = omega (arith, is.count); fault_is = is.fault }

@@ -1,0 +1,44 @@
+-- Bytes that wait in a buffer before those of a source.
+use Rattle.std.specs.Prelude.{◌≡◌, ◌-◌, ◌+◌, ◌<◌, ◌≤◌, ◌++◌, ◌∷◌, [], ℕ, List, length, Option, Some, drop, take, Result, Ok, Err}
+use Rattle.std.specs.Option.{option_map}
+use Rattle.cm_outer.specs.declared.fault.Failed.{Failed}
+use Rattle.cm_keys.specs.Lines.{push_first, pieces}
+use Rattle.cm_keys.specs.declared.buffered.Part.{Part}
+use Rattle.cm_keys.specs.declared.buffered.Part.TheVariants.{Whole, More, Long}
+use Rattle.cm_keys.specs.declared.buffered.Line.{Line}
+use Rattle.cm_keys.specs.declared.buffered.Line.TheVariants as lines
+
+-- what waits in the buffer
+abbrev pub ready_in : List ℕ → ℕ → ℕ → List ℕ
+ready_in buf start until = take (until - start) (drop start buf)
+
+-- what is left: the bytes that wait, and those that the source hasn't given
+abbrev pub left_bytes : Option (List ℕ) → ℕ → List ℕ → Option (List ℕ)
+left_bytes told place ready = option_map (λ bytes. ready ++ drop place bytes) told
+
+-- bytes without an end, before the first piece
+abbrev pub with_front : List ℕ → List (List ℕ) → List (List ℕ)
+with_front [] ps = ps
+with_front (b ∷ bs) ps = push_first b (with_front bs ps)
+
+-- The bytes have no end of a line: they stand before the first piece of what follows.
+abbrev pub HasNoEnd : ℕ → List ℕ → Type 0
+HasNoEnd end part = (more : List ℕ) → pieces end (part ++ more) ≡ with_front part (pieces end more)
+
+-- There is a first piece, and it is longer.
+abbrev pub IsLong : ℕ → List (List ℕ) → Type 0
+IsLong longest [] = ⊥
+IsLong longest (p ∷ ps) = longest < length p
+
+-- What a key was given of the bytes that wait: the rest of its line, all of them, or less than is there of the line.
+abbrev pub TakesPart : ℕ → ℕ → List ℕ → List ℕ → List ℕ → List ℕ → Part → Type 0
+TakesPart longest end ready left old new Whole = (part : List ℕ) × HasNoEnd end part × (new ≡ old ++ part) × (ready ≡ part ++ end ∷ left) × (length new ≤ longest)
+TakesPart longest end ready left old new More = HasNoEnd end ready × (new ≡ old ++ ready) × (left ≡ []) × (0 < length ready) × (length new ≤ longest)
+TakesPart longest end ready left old new Long = (part : List ℕ) × (rest : List ℕ) × HasNoEnd end part × (ready ≡ part ++ rest) × (longest < length old + length part)
+
+-- What was read of the pieces that were left.
+abbrev pub ReadsLine : ℕ → ℕ → Option (List ℕ) → Option (List ℕ) → List ℕ → Result Line Failed → Type 0
+ReadsLine longest end old new key (Ok lines.Key) = (option_map (pieces end) old ≡ option_map (λ rest. key ∷ pieces end rest) new) × (length key ≤ longest)
+ReadsLine longest end old new key (Ok lines.End) = (option_map (pieces end) old ≡ option_map (λ rest. []) new) × (option_map (pieces end) new ≡ option_map (λ rest. []) new)
+ReadsLine longest end old new key (Ok lines.TooLong) = (rest : List ℕ) → old ≡ Some rest → IsLong longest (pieces end rest)
+ReadsLine longest end old new key (Err f) = Unit {0}

@@ -1,0 +1,5 @@
+pub mod Lines
+pub mod LinesLaws
+pub mod LinePass
+pub mod Buffering
+pub mod Leaving

@@ -1,0 +1,45 @@
+-- A pass over the lines of a source, as contracts see it.
+use Rattle.std.specs.Prelude.{◌≡◌, ◌⊎◌, ◌<◌, ◌≤◌, ◌+◌, ℕ, List, Option, None, Some, Bool, true, false}
+use Rattle.std.specs.Option.{option_map}
+use Rattle.cm_outer.specs.Passes.{Told}
+use Rattle.cm_outer.specs.declared.key_pass.KeyFault.{KeyFault}
+use Rattle.cm_outer.specs.declared.key_pass.KeyFault.TheVariants.{Read, TooLong, TooMany}
+use Rattle.cm_keys.specs.Lines.{lines_of}
+
+-- what the source tells; how many lines are looked at, where not all; how many keys were given since the last rewind;
+-- whether the source has come to its end with no byte left; whether a key may be asked for; the source's count of faults
+pub record LinePass : Type 0 where
+  pub bytes : Option (List ℕ)
+  pub first : Option ℕ
+  pub given : ℕ
+  pub ended : Bool
+  pub usable : Bool
+  pub faults : ℕ
+
+-- a pass at its start
+abbrev pub new_pass : Option (List ℕ) → Option ℕ → ℕ → LinePass
+new_pass bytes first faults = record { bytes = bytes; first = first; given = 0; ended = false; usable = true; faults = faults }
+
+-- the keys of a pass: those of the bytes that its source tells
+abbrev pub keys_of : ℕ → ℕ → ℕ → LinePass → Option Told
+keys_of max longest end pass = option_map (lines_of max longest end pass.first) pass.bytes
+
+-- A further line is looked at.
+abbrev pub IsOpen : Option ℕ → ℕ → Type 0
+IsOpen None given = Unit {0}
+IsOpen (Some first) given = given < first
+
+-- All lines that are looked at were given.
+abbrev pub IsFull : Option ℕ → ℕ → Type 0
+IsFull None given = ⊥
+IsFull (Some first) given = first ≤ given
+
+-- There is no further key: the first lines were given, or the source has come to its end with no byte left.
+abbrev pub IsDone : LinePass → Type 0
+IsDone pass = IsFull pass.first pass.given ⊎ (pass.ended ≡ true)
+
+-- The line at fault is looked at and is the one after the keys that were given, of which there are the most where it is too many.
+abbrev pub IsNextLine : ℕ → LinePass → KeyFault → Type 0
+IsNextLine max pass Read = Unit {0}
+IsNextLine max pass (TooLong line) = (line ≡ pass.given + 1) × (pass.given < max) × IsOpen pass.first pass.given
+IsNextLine max pass TooMany = (pass.given ≡ max) × IsOpen pass.first pass.given

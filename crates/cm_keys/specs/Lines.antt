@@ -1,0 +1,35 @@
+-- The keys of a text.
+use Rattle.std.specs.Prelude.{◌==◌, ◌+◌, ℕ, List, length, Option, None, Some, [], ◌∷◌, take, if◌then◌else◌, nat_lt}
+use Rattle.cm_outer.specs.Passes.{Told}
+use Rattle.cm_outer.specs.declared.key_pass.KeyFault.TheVariants.{TooLong, TooMany}
+
+-- a byte before the first piece; where there is none it is a piece
+abbrev pub push_first : ℕ → List (List ℕ) → List (List ℕ)
+push_first b [] = (b ∷ []) ∷ []
+push_first b (p ∷ ps) = (b ∷ p) ∷ ps
+
+-- the bytes split at each byte `end`; the last piece counts only where it isn't empty
+abbrev pub pieces : ℕ → List ℕ → List (List ℕ)
+pieces end [] = []
+pieces end (b ∷ bs) = if b == end then [] ∷ pieces end bs else push_first b (pieces end bs)
+
+-- the lines that are looked at: the first ones, or all
+abbrev pub looked_at : Option ℕ → List (List ℕ) → List (List ℕ)
+looked_at None lines = lines
+looked_at (Some first) lines = take first lines
+
+-- one key more in front
+abbrev pub with_key : ℕ × List ℕ → Told → Told
+with_key key told = record { keys = key ∷ told.keys; fault = told.fault }
+
+-- the lines as keys, numbered from `line` on, up to the first that is at fault: its number is above `max`, or it has more than `longest` bytes
+abbrev pub keys_from : ℕ → ℕ → ℕ → List (List ℕ) → Told
+keys_from max longest line [] = record { keys = []; fault = None }
+keys_from max longest line (p ∷ ps) =
+    if nat_lt max line then record { keys = []; fault = Some TooMany }
+    else if nat_lt longest (length p) then record { keys = []; fault = Some (TooLong line) }
+    else with_key (line, p) (keys_from max longest (line + 1) ps)
+
+-- The numbered keys of a text, and the fault at their end.
+unfoldable pub lines_of : ℕ → ℕ → ℕ → Option ℕ → List ℕ → Told
+lines_of max longest end first bytes = keys_from max longest 1 (looked_at first (pieces end bytes))

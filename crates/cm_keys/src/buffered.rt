@@ -1,0 +1,178 @@
+// A source that is read by large pieces.
+ghost use Rattle.std.specs.Prelude.{◌≡◌, ◌<◌, ◌≤◌, ◌++◌, ◌+◌, [], true, false, Ok, IfOk, OnOk, length, drop};
+ghost use Rattle.std.specs.Option.{ForSome};
+ghost use Rattle.cm_outer.specs.Causes.{HasCause};
+ghost use Rattle.cm_keys.specs.Buffering.{ready_in, left_bytes, TakesPart, ReadsLine};
+ghost use Rattle.cm_keys.specs.declared.buffered.TheConstants.{ROOM};
+
+use cm_outer::{Failed, KeyBuf, MAX_KEY_LEN, Source};
+use memchr::memchr;
+
+/// How many bytes wait at most.
+const ROOM: usize = 65_536;
+
+/// What a key was given of the bytes that wait.
+pub enum Part {
+    /// The rest of its line.
+    Whole,
+    /// All of them.
+    More,
+    /// Not all that there is of its line.
+    Long,
+}
+
+/// What was read.
+pub enum Line {
+    /// A line within the longest key.
+    Key,
+    /// The end, with no byte of a further line.
+    End,
+    /// More bytes than the longest key has, of a line whose end wasn't found yet.
+    TooLong,
+}
+
+/// A source whose bytes are read by pieces of some size.
+pub struct Buffered<S: Source> {
+    pub source: S,
+    /// The bytes from `start` to `until` wait.
+    pub buf: [u8; ROOM],
+    pub start: usize,
+    pub until: usize,
+    /// The source has given all.
+    pub ended: bool,
+    ghost in_order: { start ≤ until },
+    ghost in_buf: { until ≤ ROOM },
+    ghost size: { length buf ≡ ROOM },
+    ghost none_waits: { ended ≡ true → start ≡ until },
+    ghost none_left: { ended ≡ true → ForSome (S.told source) (λ bytes. drop (S.place source) bytes ≡ []) },
+}
+
+impl<S: Source> Buffered<S> {
+    pub fn new(source: S) -> Buffered<S>
+        ensures source { result.source ≡ source }
+        ensures ready { ready_in result.buf result.start result.until ≡ [] }
+        ensures ended { result.ended ≡ false }
+    {
+        Buffered {
+            source,
+            buf: [0; ROOM],
+            start: 0,
+            until: 0,
+            ended: false,
+        }
+    }
+
+    pub fn into_source(self) -> S
+        ensures source { result ≡ self.source }
+    {
+        let Buffered {
+            source,
+            buf: _,
+            start: _,
+            until: _,
+            ended: _,
+        } = self;
+        source
+    }
+
+    pub fn rewind(&mut self) -> Result<(), Failed>
+        ensures told { S.told self.new.source ≡ S.told self.old.source }
+        ensures start { OnOk result (S.place self.new.source ≡ 0) }
+        ensures ready { ready_in self.new.buf self.new.start self.new.until ≡ [] }
+        ensures ended { self.new.ended ≡ false }
+        ensures cause { HasCause (S.faults self.old.source) (S.faults self.new.source) result }
+    {
+        self.start = 0;
+        self.until = 0;
+        self.ended = false;
+        self.source.rewind()
+    }
+
+    /// Whether a byte is left. One that is waits then.
+    pub fn has_more(&mut self) -> Result<bool, Failed>
+        ensures told { S.told self.new.source ≡ S.told self.old.source }
+        ensures left { OnOk result (left_bytes (S.told self.new.source) (S.place self.new.source) (ready_in self.new.buf self.new.start self.new.until)
+            ≡ left_bytes (S.told self.old.source) (S.place self.old.source) (ready_in self.old.buf self.old.start self.old.until)) }
+        ensures more { IfOk result (λ more. more ≡ true → self.new.start < self.new.until) }
+        ensures none { IfOk result (λ more. more ≡ false → (ready_in self.new.buf self.new.start self.new.until ≡ [])
+            × ForSome (S.told self.new.source) (λ bytes. drop (S.place self.new.source) bytes ≡ [])) }
+        ensures ended { IfOk result (λ more. more ≡ false → self.new.ended ≡ true) }
+        ensures stays { self.old.ended ≡ true → result ≡ Ok false }
+        ensures cause { HasCause (S.faults self.old.source) (S.faults self.new.source) result }
+    {
+        if self.start < self.until {
+            return Ok(true);
+        }
+        if self.ended {
+            return Ok(false);
+        }
+        self.start = 0;
+        self.until = 0;
+        let n = self.source.read(&mut self.buf)?;
+        self.until = n;
+        self.ended = n == 0;
+        Ok(n > 0)
+    }
+
+    /// Gives a key what waits of its line.
+    fn take_part(&mut self, end: u8, key: &mut KeyBuf) -> Part
+        requires waits { self.old.start < self.old.until }
+        ensures source { self.new.source ≡ self.old.source }
+        ensures takes { TakesPart MAX_KEY_LEN end (ready_in self.old.buf self.old.start self.old.until)
+            (ready_in self.new.buf self.new.start self.new.until) key.old.items key.new.items result }
+    {
+        let ready = &self.buf[self.start..self.until];
+        match memchr(end, ready) {
+            Some(n) => {
+                if !put(key, &ready[..n]) {
+                    return Part::Long;
+                }
+                self.start += n + 1;
+                Part::Whole
+            }
+            None => {
+                if !put(key, ready) {
+                    return Part::Long;
+                }
+                self.start = self.until;
+                Part::More
+            }
+        }
+    }
+
+    /// Reads a line into the key, without its end.
+    pub fn read_line(&mut self, end: u8, key: &mut KeyBuf) -> Result<Line, Failed>
+        ensures told { S.told self.new.source ≡ S.told self.old.source }
+        ensures line { ReadsLine MAX_KEY_LEN end (left_bytes (S.told self.old.source) (S.place self.old.source) (ready_in self.old.buf self.old.start self.old.until))
+            (left_bytes (S.told self.new.source) (S.place self.new.source) (ready_in self.new.buf self.new.start self.new.until)) key.new.items result }
+        ensures ended { IfOk result (λ line. line ≡ Line.End → self.new.ended ≡ true) }
+        ensures stays { self.old.ended ≡ true → result ≡ Ok Line.End }
+        ensures cause { HasCause (S.faults self.old.source) (S.faults self.new.source) result }
+    {
+        key.clear();
+        // Each part but the last has a byte at least.
+        for _ in 0..MAX_KEY_LEN + 1 {
+            if !self.has_more()? {
+                if key.is_empty() {
+                    return Ok(Line::End);
+                }
+                return Ok(Line::Key);
+            }
+            match self.take_part(end, key) {
+                Part::Whole => return Ok(Line::Key),
+                Part::Long => return Ok(Line::TooLong),
+                Part::More => {}
+            }
+        }
+        unreachable!()
+    }
+}
+
+/// Appends to a key, if there is room.
+fn put(key: &mut KeyBuf, part: &[u8]) -> bool
+    ensures fits { result ≡ true → key.new.items ≡ key.old.items ++ part.now }
+    ensures room { result ≡ true → length key.new.items ≤ MAX_KEY_LEN }
+    ensures full { result ≡ false → MAX_KEY_LEN < length key.old.items + length part.now }
+{
+    key.try_extend_from_slice(part).is_ok()
+}

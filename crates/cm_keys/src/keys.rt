@@ -1,0 +1,192 @@
+ghost use Rattle.std.specs.Prelude.{◌≡◌, ◌<◌, ◌≤◌, ◌+◌, ◌↔◌, Ok, true, false, OnOk, OnErr, IfOk, IfErr, IsTrue, IsOkUnless, if◌then◌else◌, option_map};
+ghost use Rattle.std.specs.Option.{ForSome};
+ghost use Rattle.cm_outer.specs.Passes.{HasKeyCause, GivesKey};
+ghost use Rattle.cm_keys.specs.Lines.{lines_of};
+ghost use Rattle.cm_keys.specs.LinePass.{IsDone, IsFull, IsNextLine, IsOpen, keys_of, new_pass};
+
+use crate::buffered::{Buffered, Line};
+use cm_outer::{Failed, KeyBuf, KeyFault, KeyPass, MAX_KEY_LEN, MAX_KEYS, Source};
+use std::marker::Model;
+
+/// The byte that ends a line.
+pub const LINE_END: u8 = 10;
+
+/// The lines of a source as keys. A line goes without the byte that ends it, and a last one that has no end counts where
+/// it has a byte. Lines are numbered from 1.
+pub struct Keys<S: Source> {
+    bytes: Buffered<S>,
+    first: Option<u32>,
+    given: u32,
+    usable: bool,
+}
+
+impl<S: Source> Model for Keys<S> {
+    ghost use Rattle.cm_keys.specs.LinePass.{LinePass};
+    ghost use Rattle.cm_keys.specs.Leaving.{IsPassing};
+    ghost use Rattle.cm_keys.specs.Buffering.{ready_in};
+    ghost use Rattle.cm_keys.specs.declared.keys.TheConstants.{LINE_END};
+    ghost use Rattle.cm_outer.specs.declared.key_pass.TheConstants.{MAX_KEYS, MAX_KEY_LEN};
+
+    ghost Value = { LinePass };
+
+    ghost view = { λ k. record {
+      bytes = S.told k.bytes.source;
+      first = k.first;
+      given = k.given;
+      ended = k.bytes.ended;
+      usable = k.usable;
+      faults = S.faults k.bytes.source;
+    } };
+
+    ghost invariant = { λ k. IsPassing MAX_KEYS MAX_KEY_LEN LINE_END k.first k.given k.usable (S.told k.bytes.source) (S.place k.bytes.source)
+        (ready_in k.bytes.buf k.bytes.start k.bytes.until) };
+}
+
+impl<S: Source> Keys<S> {
+    /// The lines of a source that stands at its start; with `first`, that many of them at most.
+    pub fn new(source: S, first: Option<u32>) -> Keys<S>
+        requires start { ForSome (S.told source) (λ _. S.place source ≡ 0) }
+        ensures state { result ≡ new_pass (S.told source) first (S.faults source) }
+        ensures told { ⟦<Keys<S> as KeyPass>⟧.told result ≡ option_map (lines_of MAX_KEYS MAX_KEY_LEN LINE_END first) (S.told source) }
+        ensures place { ⟦<Keys<S> as KeyPass>⟧.place result ≡ 0 }
+        ensures last { ⟦<Keys<S> as KeyPass>⟧.last result ≡ 0 }
+        ensures usable { ⟦<Keys<S> as KeyPass>⟧.usable result ≡ true }
+        ensures faults { ⟦<Keys<S> as KeyPass>⟧.faults result ≡ S.faults source }
+    {
+        Keys {
+            bytes: Buffered::new(source),
+            first,
+            given: 0,
+            usable: true,
+        }
+    }
+
+    /// Gives the source back, which may have given more bytes than those of the keys.
+    pub fn into_source(self) -> S
+        ensures told { S.told result ≡ self.bytes }
+        ensures faults { S.faults result ≡ self.faults }
+    {
+        let Keys {
+            bytes,
+            first: _,
+            given: _,
+            usable: _,
+        } = self;
+        bytes.into_source()
+    }
+}
+
+/// Whether a further line is looked at.
+fn is_open(first: Option<u32>, given: u32) -> bool
+    ensures open { result ≡ true → IsOpen first given }
+    ensures full { result ≡ false → IsFull first given }
+{
+    match first {
+        None => true,
+        Some(first) => given < first,
+    }
+}
+
+impl<S: Source> KeyPass for Keys<S> {
+    ghost use Rattle.cm_keys.specs.declared.keys.TheConstants.{LINE_END};
+    ghost use Rattle.cm_outer.specs.declared.key_pass.TheConstants.{MAX_KEYS, MAX_KEY_LEN};
+
+    ghost told = { λ k. keys_of MAX_KEYS MAX_KEY_LEN LINE_END k };
+
+    ghost place = { λ k. k.given };
+
+    ghost last = { λ k. k.given };
+
+    ghost usable = { λ k. k.usable };
+
+    ghost faults = { λ k. k.faults };
+
+    fn usable(&self) -> bool {
+        self.usable
+    }
+
+    fn next(&mut self, key: &mut KeyBuf) -> Result<bool, KeyFault>
+        requires usable { IsTrue self.old.usable }
+        ensures told { keys_of MAX_KEYS MAX_KEY_LEN LINE_END self.new ≡ keys_of MAX_KEYS MAX_KEY_LEN LINE_END self.old }
+        ensures gives { ForSome (keys_of MAX_KEYS MAX_KEY_LEN LINE_END self.old) (λ told.
+            GivesKey told self.old.given self.new.given self.new.given key.new.items result) }
+        ensures cause { HasKeyCause self.old.faults self.new.faults result }
+        ensures counts { IfOk result (λ more. self.new.given ≡ self.old.given + (if more then 1 else 0)) }
+        ensures few { self.new.given ≤ MAX_KEYS }
+        ensures rises { IfOk result (λ more. more ≡ true → self.old.given < self.new.given) }
+        ensures ended { IfOk result (λ more. more ≡ false → self.new.given ≡ self.old.given) }
+        ensures refused { OnErr result (self.new.given ≡ self.old.given) }
+        ensures usable { OnOk result (self.new.usable ≡ true) }
+        ensures unusable { OnErr result (self.new.usable ≡ false) }
+
+        // The source goes on telling the same, and the lines that are looked at stay as many.
+        ensures bytes { self.new.bytes ≡ self.old.bytes }
+        ensures first { self.new.first ≡ self.old.first }
+
+        // It answers false exactly where there is no further line, and goes on so.
+        ensures over { IfOk result (λ more. more ≡ false → IsDone self.new) }
+        ensures done { IsDone self.old → result ≡ Ok false }
+
+        // A line at fault is the next one.
+        ensures fault { IfErr result (IsNextLine MAX_KEYS self.old) }
+    {
+        if !is_open(self.first, self.given) {
+            return Ok(false);
+        }
+        self.usable = false;
+        if self.given == MAX_KEYS {
+            return match self.bytes.has_more() {
+                Ok(true) => Err(KeyFault::TooMany),
+                Ok(false) => {
+                    self.usable = true;
+                    Ok(false)
+                }
+                Err(Failed) => Err(KeyFault::Read),
+            };
+        }
+        match self.bytes.read_line(LINE_END, key) {
+            Ok(Line::Key) => {
+                self.given += 1;
+                self.usable = true;
+                Ok(true)
+            }
+            Ok(Line::End) => {
+                self.usable = true;
+                Ok(false)
+            }
+            Ok(Line::TooLong) => Err(KeyFault::TooLong {
+                line: self.given + 1,
+            }),
+            Err(Failed) => Err(KeyFault::Read),
+        }
+    }
+
+    fn rewind(&mut self) -> Result<(), KeyFault>
+        ensures told { keys_of MAX_KEYS MAX_KEY_LEN LINE_END self.new ≡ keys_of MAX_KEYS MAX_KEY_LEN LINE_END self.old }
+        ensures start { OnOk result (self.new.given ≡ 0) }
+        ensures read { IsOkUnless result KeyFault.Read }
+        ensures cause { HasKeyCause self.old.faults self.new.faults result }
+        ensures refused { OnErr result (self.new.given ≡ self.old.given) }
+        ensures usable { OnOk result (self.new.usable ≡ true) }
+        ensures unusable { OnErr result (self.new.usable ≡ false) }
+
+        // It is as a new one.
+        ensures ok { OnOk result (self.new ≡ new_pass self.old.bytes self.old.first self.old.faults) }
+        ensures bytes { self.new.bytes ≡ self.old.bytes }
+        ensures first { self.new.first ≡ self.old.first }
+    {
+        self.usable = false;
+        match self.bytes.rewind() {
+            Ok(()) => {
+                self.given = 0;
+                self.usable = true;
+                Ok(())
+            }
+            Err(Failed) => Err(KeyFault::Read),
+        }
+    }
+
+    fn line(&self) -> u32 {
+        self.given
+    }
+}
