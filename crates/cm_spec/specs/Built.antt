@@ -5,6 +5,7 @@ use Rattle.cm_spec.specs.Rounds.{rest_of}
 use Rattle.cm_spec.specs.Core.{HasEmptyCore}
 use Rattle.cm_spec.specs.Rule.{Rule}
 use Rattle.cm_spec.specs.Cells.{plan_of, cells_of}
+use Rattle.cm_spec.specs.Chm.{Chm, chm_rule}
 
 -- the ends of a numbered key over n vertices
 abbrev pub edge_of : Rule → ℕ → ℕ → ℕ × List ℕ → List ℕ
@@ -21,6 +22,10 @@ graph_of r keys c seed = map (edge_of r (r.size (length keys) c) seed) keys
 -- the cells of that graph
 abbrev pub cells_under : Rule → List (ℕ × List ℕ) → ℕ → ℕ → List ℕ
 cells_under r keys c seed = cells_of (plan_of r (r.size (length keys) c) (graph_of r keys c seed) (map (tag_of r seed) keys))
+
+-- the CHM function of keys under a seed
+abbrev pub chm_under : List (ℕ × List ℕ) → ℕ → ℕ → Chm
+chm_under keys c seed = record { keys = length keys; ratio = c; seed = seed; cells = cells_under chm_rule keys c seed }
 
 -- whether peeling removes every edge of the keys under a seed
 abbrev pub is_peeled : Rule → List (ℕ × List ℕ) → ℕ → ℕ → Bool

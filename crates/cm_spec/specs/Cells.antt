@@ -16,8 +16,12 @@ pub record Plan : Type 0 where
 -- the plan of a rule for a graph over n vertices, with a tag for each edge
 abbrev pub plan_of : Rule → ℕ → List (List ℕ) → List ℕ → Plan
 plan_of r n edges tags = record {
-  vertices = n; edges = edges; target = λ e. r.target e (pivot_of edges e) (slice_index tags e);
-  modulus = r.modulus (length edges); idle = r.idle }
+  vertices = n;
+  edges = edges;
+  target = λ e. r.target e (pivot_of edges e) (slice_index tags e);
+  modulus = r.modulus (length edges);
+  idle = r.idle;
+}
 
 -- the vertex at the pivot of an edge
 abbrev pub pivot_vertex : List (List ℕ) → ℕ → ℕ

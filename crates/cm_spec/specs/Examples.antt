@@ -1,7 +1,5 @@
 -- Inputs of the worked examples: keys as bytes, each with its line, and graphs.
-use Rattle.std.specs.Prelude.{ℕ, List, [], ◌∷◌, length, codes}
-use Rattle.cm_spec.specs.Built.{graph_of, cells_under}
-use Rattle.cm_spec.specs.Chm.{Chm, chm_rule}
+use Rattle.std.specs.Prelude.{ℕ, List, [], ◌∷◌}
 
 -- one empty key; an empty key and `a`; `a` and `b`; two empty keys
 abbrev pub one_empty : List (ℕ × List ℕ)
@@ -15,10 +13,6 @@ a_and_b = (1, 97 ∷ []) ∷ (2, 98 ∷ []) ∷ []
 
 abbrev pub two_empty : List (ℕ × List ℕ)
 two_empty = (1, []) ∷ (2, []) ∷ []
-
--- the CHM function of keys under a seed
-abbrev pub chm_under : List (ℕ × List ℕ) → ℕ → ℕ → Chm
-chm_under keys c seed = record { keys = length keys; ratio = c; seed = seed; cells = cells_under chm_rule keys c seed }
 
 -- a path of three edges; a ring of three; the ring with an edge that hangs on it; one edge with three ends
 abbrev pub path : List (List ℕ)

@@ -1,11 +1,11 @@
 //! Worked examples of the definitions.
 ghost use Rattle.std.specs.Prelude.{◌≡◌, ◌++◌, [], ◌∷◌, map, Some, None, codes};
 ghost use Rattle.cm_spec.specs.Bdz.{bdz_size, bdz_edge};
-ghost use Rattle.cm_spec.specs.Built.{graph_of, first_seed};
+ghost use Rattle.cm_spec.specs.Built.{graph_of, chm_under, first_seed};
 ghost use Rattle.cm_spec.specs.Cells.{cells_of, plan_of};
 ghost use Rattle.cm_spec.specs.Chm.{chm_size, chm_rule, chm_answer};
 ghost use Rattle.cm_spec.specs.Dump.{magic, chm_dump};
-ghost use Rattle.cm_spec.specs.Examples.{one_empty, empty_and_a, a_and_b, two_empty, chm_under, path, ring, hung_ring, triple};
+ghost use Rattle.cm_spec.specs.Examples.{one_empty, empty_and_a, a_and_b, two_empty, path, ring, hung_ring, triple};
 ghost use Rattle.cm_spec.specs.Lookup2.{words};
 ghost use Rattle.cm_spec.specs.Rounds.{level_of, pivot_of, order_of, rest_of};
 
