@@ -49,8 +49,8 @@ at_once_is p before es r apart = go 0 es r apart where
   go low (e ∷ es) r apart =
       let rest : one_by_one p before es ≡ at_once p before es = go (suc e) es r.1 (λ a b m n ne. apart a b (or_right (eqb e a) (has es a) m) (or_right (eqb e b) (has es b) n) ne) in
       let same : value_at p (one_by_one p before es) e ≡ value_at p before e = value_same p (one_by_one p before es) before e (λ u m ne. kept p before es u (λ f n s.
-          let other : e ≢ f = λ d. both_ways _ (rises_below (suc e) f es r.1 (let d' : e ≡ f = d in omega arith)) n in
-          both_ways _ (apart f e (or_right (eqb e f) (has es f) n) (or_left _ _ (eq-eqb e e refl)) other) (subst (λ w. has (ends_at p.edges e) w ≡ true) (sym s) m))) in
+      let other : e ≢ f = λ d. both_ways _ (rises_below (suc e) f es r.1 (let d' : e ≡ f = d in omega arith)) n in
+      both_ways _ (apart f e (or_right (eqb e f) (has es f) n) (or_left _ _ (eq-eqb e e refl)) other) (subst (λ w. has (ends_at p.edges e) w ≡ true) (sym s) m))) in
       ap (λ c. set c (pivot_vertex p.edges e) (value_at p (one_by_one p before es) e)) rest ∙ ap (λ x. set (at_once p before es) (pivot_vertex p.edges e) x) same
 
 -- one round
@@ -71,14 +71,14 @@ unfolding cells_from
 from_is p zero t = refl
 from_is p (suc d) t =
     sym (one_by_one-append p (all_idle p) (removed_after p.edges t) (rounds p.edges d (suc t))
-        ∙ (round_is p (one_by_one p (all_idle p) (rounds p.edges d (suc t))) t
-            ∙ ap (λ c. at_once p c (removed_after p.edges t)) (sym (from_is p d (suc t)))))
+    ∙ (round_is p (one_by_one p (all_idle p) (rounds p.edges d (suc t))) t
+    ∙ ap (λ c. at_once p c (removed_after p.edges t)) (sym (from_is p d (suc t)))))
 
 pub rounds_are : (edges : List (List ℕ)) (d t : ℕ) → order_upto edges t ++ rounds edges d t ≡ order_upto edges (d + t)
 rounds_are edges zero t = append-nil (order_upto edges t) ∙ (let s : t ≡ 0 + t = omega arith in ap (order_upto edges) s)
 rounds_are edges (suc d) t =
     sym (append_assoc (order_upto edges t) (removed_after edges t) (rounds edges d (suc t)))
-        ∙ (rounds_are edges d (suc t) ∙ (let s : d + suc t ≡ suc d + t = omega arith in ap (order_upto edges) s))
+    ∙ (rounds_are edges d (suc t) ∙ (let s : d + suc t ≡ suc d + t = omega arith in ap (order_upto edges) s))
 
 -- the definition by rounds is the order's, one by one
 pub cells_are : (p : Plan) → cells_of p ≡ one_by_one p (all_idle p) (order_of p.edges)

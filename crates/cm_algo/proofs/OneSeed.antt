@@ -46,7 +46,7 @@ given_from r keys m c seed n edges tags cells size h none is = (
     ap rest_of (sym h.edges_are) ∙ none,
     is ∙ (ap (λ k. cells_of (plan_of r k edges tags)) (size ∙ ap (λ k. r.size k c) h.many)
         ∙ (ap (λ es. cells_of (plan_of r (r.size (length keys) c) es tags)) h.edges_are
-            ∙ ap (λ ts. cells_of (plan_of r (r.size (length keys) c) (graph_of r keys c seed) ts)) h.tags_are)),
+        ∙ ap (λ ts. cells_of (plan_of r (r.size (length keys) c) (graph_of r keys c seed) ts)) h.tags_are)),
   ),
 )
 

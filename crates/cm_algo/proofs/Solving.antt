@@ -155,7 +155,7 @@ completes modulus target sum h =
     let q : ℕ = a / modulus in
     let r : ℕ = sum / modulus in
     let whole : a % modulus + sum + modulus * q ≡ target + modulus * (r + 1) =
-        omega (arith, div-add-mod a modulus, div-add-mod sum modulus, mul-add modulus r 1) in
+    omega (arith, div-add-mod a modulus, div-add-mod sum modulus, mul-add modulus r 1) in
     sym (add-mul-mod_self_left (a % modulus + sum) modulus q) ∙ (ap (λ n. n % modulus) whole ∙ (add-mul-mod_self_left target modulus (r + 1) ∙ mod-eq_of_lt h))
 
 -- each edge of the list is solved
@@ -190,7 +190,7 @@ solved p (e ∷ es) a h =
     let long : length cells ≡ p.vertices = length-one_by_one p (all_idle p) es ∙ length-replicate p.vertices p.idle in
     let here : get_or (set cells v x) v 0 ≡ x = get_or-set_same cells v x 0 (omega (arith, fit.within)) in
     let whole : sum_by (λ u. get_or (set cells v x) u 0) (ends_at p.edges e) ≡ x + sum_but cells v (ends_at p.edges e) =
-        sum_split (set cells v x) (ends_at p.edges e) v fit.distinct fit.touching ∙ (ap (λ n. n + sum_but (set cells v x) v (ends_at p.edges e)) here ∙ ap (λ n. x + n) (sum_but-set cells (ends_at p.edges e) v x)) in
+    sum_split (set cells v x) (ends_at p.edges e) v fit.distinct fit.touching ∙ (ap (λ n. n + sum_but (set cells v x) v (ends_at p.edges e)) here ∙ ap (λ n. x + n) (sum_but-set cells (ends_at p.edges e) v x)) in
     let first : sum_by (λ u. get_or (set cells v x) u 0) (ends_at p.edges e) % p.modulus ≡ p.target e = ap (λ n. n % p.modulus) whole ∙ completes p.modulus (p.target e) (sum_but cells v (ends_at p.edges e)) fit.target in
     let first_below : get_or (set cells v x) v 0 < p.modulus = subst (λ n. n < p.modulus) (sym here) (completing_below p.modulus (p.target e) (sum_but cells v (ends_at p.edges e)) (omega (arith, fit.target))) in
     record {
@@ -201,6 +201,7 @@ solved p (e ∷ es) a h =
           → sum_by (λ u. get_or (set cells (pivot_vertex p.edges e) x) u 0) (ends_at p.edges f) % p.modulus ≡ p.target f
       go₁ cells x first ih f (inl same) = subst (λ y. sum_by (λ u. get_or (set cells (pivot_vertex p.edges e) x) u 0) (ends_at p.edges y) % p.modulus ≡ p.target y) (eqb-true e f same) first
       go₁ cells x first ih f (inr more) = ap (λ n. n % p.modulus) (untouched cells (ends_at p.edges f) (pivot_vertex p.edges e) x (a.0 f more)) ∙ ih.sums f more
+
       go₂ : (cells : List ℕ) (x : ℕ) → get_or (set cells (pivot_vertex p.edges e) x) (pivot_vertex p.edges e) 0 < p.modulus → Solves p es cells → (f : ℕ) → (eqb e f ≡ true) ⊎ (has es f ≡ true)
           → get_or (set cells (pivot_vertex p.edges e) x) (pivot_vertex p.edges f) 0 < p.modulus
       go₂ cells x first ih f (inl same) = subst (λ y. get_or (set cells (pivot_vertex p.edges e) x) (pivot_vertex p.edges y) 0 < p.modulus) (eqb-true e f same) first
@@ -233,18 +234,17 @@ busy_are p (e ∷ es) a h le = busy_more p e es a h le (busy_are p es a.1 (λ f 
 pub cells_solved : (p : Plan) → rest_of p.edges ≡ [] → ((e : ℕ) → IsRemoved p.edges e → IsFit p e) → AreSolved p (cells_of p)
 cells_solved p none h =
     subst (AreSolved p) (sym (cells_are p)) (
-        let s : Solves p (order_of p.edges) (one_by_one p (all_idle p) (order_of p.edges)) = solved p (order_of p.edges) (apart-order p.edges) (λ e m. h e (order_removed p.edges (length p.edges) e m)) in
-        record {
-          long = length-one_by_one p (all_idle p) (order_of p.edges) ∙ length-replicate p.vertices p.idle;
-          sums = λ e l. s.sums e (there e l);
-          below = λ e l. s.below e (there e l);
-          idle = λ v l n. kept p (all_idle p) (order_of p.edges) v (λ f m. n f (order_removed p.edges (length p.edges) f m).place) ∙ get_or-replicate p.vertices v p.idle 0 l;
-          busy = λ le. busy_are p (order_of p.edges) (apart-order p.edges) (λ e m. h e (order_removed p.edges (length p.edges) e m)) le
-              ∙ omega (arith, length-order p.edges (length p.edges), no_left);
-        }) where
+    let s : Solves p (order_of p.edges) (one_by_one p (all_idle p) (order_of p.edges)) = solved p (order_of p.edges) (apart-order p.edges) (λ e m. h e (order_removed p.edges (length p.edges) e m)) in
+    record {
+      long = length-one_by_one p (all_idle p) (order_of p.edges) ∙ length-replicate p.vertices p.idle;
+      sums = λ e l. s.sums e (there e l);
+      below = λ e l. s.below e (there e l);
+      idle = λ v l n. kept p (all_idle p) (order_of p.edges) v (λ f m. n f (order_removed p.edges (length p.edges) f m).place) ∙ get_or-replicate p.vertices v p.idle 0 l;
+      busy = λ le. busy_are p (order_of p.edges) (apart-order p.edges) (λ e m. h e (order_removed p.edges (length p.edges) e m)) le
+          ∙ omega (arith, length-order p.edges (length p.edges), no_left);
+    }) where
       no_left : length (left_after p.edges (length p.edges)) ≡ 0
       no_left = ap length none
-
 
       there : (e : ℕ) → e < length p.edges → has (order_of p.edges) e ≡ true
       there e l = all_removed p.edges (length p.edges) e l (ap (λ xs. has xs e) none)
@@ -291,12 +291,12 @@ loop_step p cells new order ends (suc i) e position target modulus h n g po ta m
     let e_is : e ≡ get_or order i 0 = is ∙ ap (λ k. get_or order k 0) less in
     let at : get_or ends position 0 ≡ pivot_vertex p.edges e = ap (λ xs. get_or xs position 0) same ∙ ap (λ k. get_or (ends_at p.edges e) k 0) po in
     let value : completing modulus target (sum_but cells (get_or ends position 0) ends) ≡ value_at p cells e =
-        ap (λ k. completing k target (sum_but cells (get_or ends position 0) ends)) mo ∙ (ap (λ k. completing p.modulus k (sum_but cells (get_or ends position 0) ends)) ta
-            ∙ (ap (λ k. completing p.modulus (p.target e) (sum_but cells k ends)) at ∙ ap (λ xs. completing p.modulus (p.target e) (sum_but cells (pivot_vertex p.edges e) xs)) same)) in
+    ap (λ k. completing k target (sum_but cells (get_or ends position 0) ends)) mo ∙ (ap (λ k. completing p.modulus k (sum_but cells (get_or ends position 0) ends)) ta
+    ∙ (ap (λ k. completing p.modulus (p.target e) (sum_but cells k ends)) at ∙ ap (λ xs. completing p.modulus (p.target e) (sum_but cells (pivot_vertex p.edges e) xs)) same)) in
     n ∙ (ap (λ k. set cells k (completing modulus target (sum_but cells (get_or ends position 0) ends))) at ∙ (ap (λ x. set cells (pivot_vertex p.edges e) x) value
-        ∙ (ap (λ c. set c (pivot_vertex p.edges e) (value_at p c e)) h
-            ∙ (ap (λ f. set (one_by_one p (all_idle p) (drop (suc i) order)) (pivot_vertex p.edges f) (value_at p (one_by_one p (all_idle p) (drop (suc i) order)) f)) e_is
-                ∙ (ap (one_by_one p (all_idle p)) (sym (drop_one order i (omega arith))) ∙ ap (λ k. one_by_one p (all_idle p) (drop k order)) (sym less))))))
+    ∙ (ap (λ c. set c (pivot_vertex p.edges e) (value_at p c e)) h
+    ∙ (ap (λ f. set (one_by_one p (all_idle p) (drop (suc i) order)) (pivot_vertex p.edges f) (value_at p (one_by_one p (all_idle p) (drop (suc i) order)) f)) e_is
+    ∙ (ap (one_by_one p (all_idle p)) (sym (drop_one order i (omega arith))) ∙ ap (λ k. one_by_one p (all_idle p) (drop k order)) (sym less))))))
 
 pub loop_end : (p : Plan) (cells order : List ℕ) (i : ℕ) → cells ≡ one_by_one p (all_idle p) (drop i order) → i ≡ 0 → order ≡ order_of p.edges → cells ≡ cells_of p
 loop_end p cells order i h z o = h ∙ (ap (λ k. one_by_one p (all_idle p) (drop k order)) z ∙ (ap (one_by_one p (all_idle p)) o ∙ sym (cells_are p)))

@@ -2,12 +2,12 @@
 #![tactic(auto)]
 
 mod cells;
-mod seeds;
 mod fault;
 mod passes;
 mod scheme;
+mod seeds;
 
 pub use crate::cells::assign;
-pub use crate::seeds::{Built, build};
 pub use crate::fault::BuildFault;
 pub use crate::scheme::Scheme;
+pub use crate::seeds::{Built, build};

@@ -19,6 +19,7 @@ size_most n s =
     omega (arith, s.is) where
       go : {x : ℕ} → x ≤ 10000000 * 67108864 → x ≤ 671088640000000
       go h = omega arith
+
       mul-le-mul : (a b : ℕ) → a ≤ 10000000 → b ≤ 67108864 → a * b ≤ 10000000 * 67108864
       mul-le-mul a b l m = omega (arith, mul-le-mul_left a m, mul-le-mul_left 67108864 l, mul_comm a 67108864)
 
@@ -55,6 +56,7 @@ pair_is_edge a b n l k ne = (in_pair, distinct) where
   in_pair zero d h = l
   in_pair (suc zero) d h = k
   in_pair (suc (suc i)) d h = absurd (omega arith)
+
   distinct : AllPairs (λ u v. u ≢ v) (a ∷ b ∷ [])
   distinct zero zero d i j e = absurd (omega arith)
   distinct zero (suc zero) d i j e = ne e

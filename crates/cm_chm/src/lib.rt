@@ -6,4 +6,3 @@ mod scheme;
 
 pub use crate::chm::Chm;
 pub use crate::scheme::ChmScheme;
-

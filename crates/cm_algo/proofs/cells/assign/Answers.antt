@@ -63,9 +63,9 @@ edges-preserved g c =
 pub returns-clause-cells : goal.returns-clause-cells
 returns-clause-cells g c =
     loop_end (plan_of (g.S.Scheme.rule c.args.scheme.now) c.args.edges.now.vertices c.args.edges.now.edges c.args.tags.now) (g.S.Table.Cells.cells c.edges.table) c.order-order.result.now c.edges.i
-        c.edges.invariant.cells (omega (arith, c.edges-test.false)) (c.order-order.ensures ∙ c.requires.peeling.order)
+    c.edges.invariant.cells (omega (arith, c.edges-test.false)) (c.order-order.ensures ∙ c.requires.peeling.order)
 
 pub returns-clause-solved : goal.returns-clause-solved
 returns-clause-solved g c =
     subst (AreSolved (plan_of (g.S.Scheme.rule c.args.scheme.now) c.args.edges.now.vertices c.args.edges.now.edges c.args.tags.now)) (sym (returns-clause-cells g c))
-        (plan_solved g.row.K (g.S.Scheme.rule c.args.scheme.now) c.args.edges.now.vertices c.args.edges.now.edges c.args.tags.now (g.met.S.Scheme.laws c.args.scheme.now) c.requires.many c.len-m.ensures.edges c.requires.empty)
+    (plan_solved g.row.K (g.S.Scheme.rule c.args.scheme.now) c.args.edges.now.vertices c.args.edges.now.edges c.args.tags.now (g.met.S.Scheme.laws c.args.scheme.now) c.requires.many c.len-m.ensures.edges c.requires.empty)

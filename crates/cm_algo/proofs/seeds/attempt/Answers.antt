@@ -26,11 +26,11 @@ returns-then-is_empty-clause-made g c = λ told is.
     let none : rest_of c.hash_all.new.edges.edges ≡ [] = sym c.in_ok-peeled.ensures.peeling.rest ∙ (sym c.rest.ensures ∙ nil) in
     let size : c.in_ok-edges.edges.vertices ≡ (g.S.Scheme.rule c.args.scheme.now).size c.args.m c.args.c = c.in_ok-edges.ensures.vertices ∙ c.size.ensures.size in
     let h : IsHashed (g.S.Scheme.rule c.args.scheme.now) told.keys c.args.m c.args.c c.args.seed c.hash_all.new.edges.edges c.hash_all.new.tags.items =
-        hashed_from (g.S.Scheme.rule c.args.scheme.now) told.keys c.args.m c.args.c c.args.seed c.in_ok-edges.edges.vertices c.hash_all.new.edges.edges c.hash_all.new.tags.items
-            size (c.in_ok-hash_all.ensures.edges told is) (c.in_ok-hash_all.ensures.tags told is) c.in_ok-hash_all.ensures.long.0 in
+    hashed_from (g.S.Scheme.rule c.args.scheme.now) told.keys c.args.m c.args.c c.args.seed c.in_ok-edges.edges.vertices c.hash_all.new.edges.edges c.hash_all.new.tags.items
+    size (c.in_ok-hash_all.ensures.edges told is) (c.in_ok-hash_all.ensures.tags told is) c.in_ok-hash_all.ensures.long.0 in
     given_from (g.S.Scheme.rule c.args.scheme.now) told.keys c.args.m c.args.c c.args.seed c.hash_all.new.edges.vertices c.hash_all.new.edges.edges c.hash_all.new.tags.items (g.S.Table.Cells.cells c.in_ok-table.table)
-        (c.hash_all.ensures.vertices ∙ size) h none
-        (c.in_ok-table.ensures.cells ∙ ap (λ (ts : List ℕ). cells_of (plan_of (g.S.Scheme.rule c.args.scheme.now) c.hash_all.new.edges.vertices c.hash_all.new.edges.edges ts)) c.deref.ensures.value)
+    (c.hash_all.ensures.vertices ∙ size) h none
+    (c.in_ok-table.ensures.cells ∙ ap (λ (ts : List ℕ). cells_of (plan_of (g.S.Scheme.rule c.args.scheme.now) c.hash_all.new.edges.vertices c.hash_all.new.edges.edges ts)) c.deref.ensures.value)
 
 pub returns-clause-left : goal.returns-clause-left
 returns-clause-left g c = λ told is.
@@ -38,6 +38,6 @@ returns-clause-left g c = λ told is.
     let some : rest_of c.hash_all.new.edges.edges ≢ [] = λ e. not_nil c.rest.result.now long (c.rest.ensures ∙ (c.in_ok-peeled.ensures.peeling.rest ∙ e)) in
     let size : c.in_ok-edges.edges.vertices ≡ (g.S.Scheme.rule c.args.scheme.now).size c.args.m c.args.c = c.in_ok-edges.ensures.vertices ∙ c.size.ensures.size in
     let h : IsHashed (g.S.Scheme.rule c.args.scheme.now) told.keys c.args.m c.args.c c.args.seed c.hash_all.new.edges.edges c.hash_all.new.tags.items =
-        hashed_from (g.S.Scheme.rule c.args.scheme.now) told.keys c.args.m c.args.c c.args.seed c.in_ok-edges.edges.vertices c.hash_all.new.edges.edges c.hash_all.new.tags.items
-            size (c.in_ok-hash_all.ensures.edges told is) (c.in_ok-hash_all.ensures.tags told is) c.in_ok-hash_all.ensures.long.0 in
+    hashed_from (g.S.Scheme.rule c.args.scheme.now) told.keys c.args.m c.args.c c.args.seed c.in_ok-edges.edges.vertices c.hash_all.new.edges.edges c.hash_all.new.tags.items
+    size (c.in_ok-hash_all.ensures.edges told is) (c.in_ok-hash_all.ensures.tags told is) c.in_ok-hash_all.ensures.long.0 in
     left_from (g.S.Scheme.rule c.args.scheme.now) told.keys c.args.m c.args.c c.args.seed c.hash_all.new.edges.edges c.hash_all.new.tags.items h some

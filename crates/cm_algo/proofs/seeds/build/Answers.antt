@@ -16,8 +16,7 @@ returns-in-Some-clause-first g c = λ told is.
     let a = c.in_ok-m.ensures.all told is in
     let made = rw c.in-Some.is at c.in_ok-cells.ensures.made in
     let given = made told (c.loop-i.invariant.told ∙ is) in
-    let left = c.loop-i.invariant.left told is in
-    (
+    let left = c.loop-i.invariant.left told is in (
       a.1,
       record {
         place = c.loop-i.i;

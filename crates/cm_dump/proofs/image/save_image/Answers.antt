@@ -12,7 +12,7 @@ returns-in_err-write-clause-bytes g c =
     let wrote = c.in_err-write.ensures.bytes in
     let within : c.pieces.at + c.min.result ≤ g.C.Cells.image_size (length (g.C.Cells.cells c.args.table.now)) (g.C.Cells.bound_of c.args.table.now) = search rules in
     piece_stopped f _ (g.O.Sink.written c.pieces.out) _ c.pieces.at c.min.result _ _ within c.from_residual.ensures.0 c.pieces.invariant.bytes
-        (wrote.0, wrote.1 ∙ ap (λ (xs : List ℕ). then_bytes (g.O.Sink.written c.pieces.out) (take wrote.0 xs)) is)
+    (wrote.0, wrote.1 ∙ ap (λ (xs : List ℕ). then_bytes (g.O.Sink.written c.pieces.out) (take wrote.0 xs)) is)
 
 pub pieces-preserved : goal.pieces-preserved
 pieces-preserved g c =

@@ -1,0 +1,2 @@
+mod Builds
+mod Outcomes

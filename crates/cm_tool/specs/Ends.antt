@@ -1,0 +1,33 @@
+-- What a job that stopped answers and says.
+use Rattle.std.specs.Prelude.{◌≡◌, ◌≢◌, ◌<◌, ◌^◌, ℕ, List, [], take, Option}
+use Rattle.cm_outer.specs.Writing.{then_bytes}
+use Rattle.cm_tool.specs.declared.stop.Stop.{Stop}
+use Rattle.cm_tool.specs.declared.stop.Stop.TheVariants.{Memory, Read, Write, Cored, Changed, NoKeys, TooLong, TooMany}
+use Rattle.cm_tool.specs.Messages.{no_seed, out_of_memory, cannot_read, cannot_write, keys_changed, no_keys, line_too_long, too_many_keys}
+
+-- the status of a job that stopped
+abbrev pub status_of : Stop → ℕ
+status_of Memory = 6
+status_of Read = 4
+status_of Write = 5
+status_of Cored = 1
+status_of (Changed first again) = 7
+status_of NoKeys = 8
+status_of (TooLong line) = 8
+status_of TooMany = 8
+
+-- its message about a keys file
+abbrev pub message_of : List ℕ → Stop → List ℕ
+message_of keys Memory = out_of_memory
+message_of keys Read = cannot_read keys
+message_of keys Write = cannot_write keys
+message_of keys Cored = no_seed
+message_of keys (Changed first again) = keys_changed keys first again
+message_of keys NoKeys = no_keys keys
+message_of keys (TooLong line) = line_too_long keys line
+message_of keys TooMany = too_many_keys keys
+
+-- err got the text, or a front of it where its own count rose
+pub record Says (text : List ℕ) (old new : Option (List ℕ)) (before now : ℕ) : Type 0 where
+  pub front : (n : ℕ) × (new ≡ then_bytes old (take n text))
+  pub whole : before < 2 ^ 63 → now ≡ before → new ≡ then_bytes old text

@@ -1,0 +1,111 @@
+-- What each end of a build leaves.
+use Rattle.std.specs.Prelude.{◌≡◌, ◌≢◌, ◌⊎◌, ◌<◌, ◌≤◌, ℕ, List, [], length, take, Option, None, Some, Result, Ok, Err}
+use Rattle.std.specs.Option.{ForSome}
+use Rattle.std.specs.FinMap as map
+use Rattle.cm_outer.specs.Causes.{Rose}
+use Rattle.cm_outer.specs.Files.{Files, file_at, with_file}
+use Rattle.cm_algo.specs.declared.fault.BuildFault.{BuildFault}
+use Rattle.cm_algo.specs.declared.fault.BuildFault.TheVariants as build_fault
+use Rattle.cm_outer.specs.Passes.{Told}
+use Rattle.cm_outer.specs.declared.key_pass.KeyFault.{KeyFault}
+use Rattle.cm_outer.specs.declared.key_pass.KeyFault.TheVariants as key_fault
+use Rattle.cm_spec.specs.Built.{first_seed, chm_under, IsFirst, AllCored}
+use Rattle.cm_spec.specs.Chm.{Chm, chm_rule}
+use Rattle.cm_spec.specs.Dump.{chm_dump}
+use Rattle.cm_dump.specs.declared.writer.Func.{Func}
+use Rattle.cm_dump.specs.declared.writer.Func.TheVariants as func
+use Rattle.cm_tool.specs.Job.{Job, target_of}
+use Rattle.cm_tool.specs.Outcome.{keys_in, ratio, seeds_tried}
+use Rattle.cm_tool.specs.declared.stop.Stop.{Stop}
+use Rattle.cm_tool.specs.declared.stop.Stop.TheVariants.{Memory, Read, Write, Cored, Changed, NoKeys, TooLong, TooMany}
+
+-- which counts of the disk an end has raised: that of reading, and that of writing
+abbrev pub HasStopCause : {T : Type 0} → ℕ → ℕ → ℕ → ℕ → Result T Stop → Type 0
+HasStopCause r r' w w' (Ok _) = (r' ≡ r) × (w' ≡ w)
+HasStopCause r r' w w' (Err Memory) = (r' ≡ r) × (w' ≡ w)
+HasStopCause r r' w w' (Err Read) = (r ≤ r') × Rose r r' × (w' ≡ w)
+HasStopCause r r' w w' (Err Write) = (r' ≡ r) × (w ≤ w') × Rose w w'
+HasStopCause r r' w w' (Err Cored) = (r' ≡ r) × (w' ≡ w)
+HasStopCause r r' w w' (Err (Changed first again)) = (r' ≡ r) × (w' ≡ w)
+HasStopCause r r' w w' (Err NoKeys) = (r' ≡ r) × (w' ≡ w)
+HasStopCause r r' w w' (Err (TooLong line)) = (r' ≡ r) × (w' ≡ w)
+HasStopCause r r' w w' (Err TooMany) = (r' ≡ r) × (w' ≡ w)
+
+-- the function of told keys: that of the first seed whose graph has an empty 2-core
+pub record IsChmOf (told : Told) (c : ℕ) (seeds : List ℕ) (f : Chm) : Type 0 where
+  pub no_fault : told.fault ≡ None
+  pub some : 0 < length told.keys
+  pub chosen : first_seed chm_rule told.keys c seeds ≡ Some f.seed
+  pub first : (place : ℕ) × IsFirst chm_rule told.keys c seeds place f.seed
+  pub is : f ≡ chm_under told.keys c f.seed
+
+-- the function of the keys in these bytes
+abbrev pub IsFunctionOf : Job → List ℕ → Chm → Type 0
+IsFunctionOf job bytes f = IsChmOf (keys_in bytes) ratio (seeds_tried job) f
+
+-- why a refused pass stops a job
+abbrev pub stop_from_key : KeyFault → Stop
+stop_from_key key_fault.Read = Read
+stop_from_key (key_fault.TooLong line) = TooLong line
+stop_from_key key_fault.TooMany = TooMany
+
+-- why a refused build stops a job
+abbrev pub stop_from : BuildFault → Stop
+stop_from build_fault.Memory = Memory
+stop_from build_fault.NoKeys = NoKeys
+stop_from (build_fault.Cored seed) = Cored
+stop_from (build_fault.Key fault) = stop_from_key fault
+stop_from (build_fault.Changed first again) = Changed first again
+
+-- the two numbers of keys that changed differ
+abbrev pub Differs : Stop → Type 0
+Differs Memory = Unit {0}
+Differs Read = Unit {0}
+Differs Write = Unit {0}
+Differs Cored = Unit {0}
+Differs (Changed first again) = again ≢ first
+Differs NoKeys = Unit {0}
+Differs (TooLong line) = Unit {0}
+Differs TooMany = Unit {0}
+
+-- the keys are refused so
+abbrev pub Refuses : Job → Told → Stop → Type 0
+Refuses job told Memory = Unit {0}
+Refuses job told Read = Unit {0}
+Refuses job told Write = ⊥
+Refuses job told Cored = (told.fault ≡ None) × (0 < length told.keys) × (first_seed chm_rule told.keys ratio (seeds_tried job) ≡ None) × AllCored chm_rule told.keys ratio (seeds_tried job)
+Refuses job told (Changed first again) = ⊥
+Refuses job told NoKeys = (told.fault ≡ None) × (told.keys ≡ [])
+Refuses job told (TooLong line) = told.fault ≡ Some (key_fault.TooLong line)
+Refuses job told TooMany = told.fault ≡ Some key_fault.TooMany
+
+-- a refusal over files: one for the keys alone shows that the keys file is there
+abbrev pub IsRefused : Job → Files → Stop → Type 0
+IsRefused job files Memory = Unit {0}
+IsRefused job files Read = Unit {0}
+IsRefused job files Write = ⊥
+IsRefused job files Cored = (bytes : List ℕ) × (file_at files job.keys ≡ Some bytes) × Refuses job (keys_in bytes) Cored
+IsRefused job files (Changed first again) = ⊥
+IsRefused job files NoKeys = (bytes : List ℕ) × (file_at files job.keys ≡ Some bytes) × Refuses job (keys_in bytes) NoKeys
+IsRefused job files (TooLong line) = (bytes : List ℕ) × (file_at files job.keys ≡ Some bytes) × Refuses job (keys_in bytes) (TooLong line)
+IsRefused job files TooMany = (bytes : List ℕ) × (file_at files job.keys ≡ Some bytes) × Refuses job (keys_in bytes) TooMany
+
+-- the bytes are the dump of the function of the keys file
+abbrev pub Saves : Job → Files → List ℕ → Type 0
+Saves job files dump = (bytes : List ℕ) × (f : Chm) × (file_at files job.keys ≡ Some bytes) × IsFunctionOf job bytes f × (dump ≡ chm_dump f)
+
+-- the files are as before, or the function file holds a front of the dump
+abbrev pub IsPart : Job → List ℕ → Option Files → Option Files → Type 0
+IsPart job dump old new = (new ≡ old) ⊎ ((n : ℕ) × (new ≡ with_file (target_of job.keys) (take n dump) old))
+
+-- what each end of a build leaves of the files
+abbrev pub Leaves : Job → Option Files → Option Files → Result (Unit {0}) Stop → Type 0
+Leaves job old new (Ok _) = (dump : List ℕ) × (new ≡ with_file (target_of job.keys) dump old) × ForSome old (λ files. Saves job files dump)
+Leaves job old new (Err Memory) = (new ≡ old) ⊎ (new ≡ with_file (target_of job.keys) [] old)
+Leaves job old new (Err Read) = new ≡ old
+Leaves job old new (Err Write) = (dump : List ℕ) × IsPart job dump old new × ForSome old (λ files. Saves job files dump)
+Leaves job old new (Err Cored) = (new ≡ old) × ForSome old (λ files. IsRefused job files Cored)
+Leaves job old new (Err (Changed first again)) = (new ≡ old) × ForSome old (λ files. IsRefused job files (Changed first again))
+Leaves job old new (Err NoKeys) = (new ≡ old) × ForSome old (λ files. IsRefused job files NoKeys)
+Leaves job old new (Err (TooLong line)) = (new ≡ old) × ForSome old (λ files. IsRefused job files (TooLong line))
+Leaves job old new (Err TooMany) = (new ≡ old) × ForSome old (λ files. IsRefused job files TooMany)

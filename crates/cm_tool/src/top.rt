@@ -1,0 +1,66 @@
+//! The top call.
+ghost use Rattle.std.specs.Prelude.{[], ◌≡◌, ◌≢◌, ◌<◌, ◌^◌, ◌⊎◌, ◌↔◌, ℕ, List, None, map, string_bytes};
+ghost use Rattle.std.specs.Option.{ForSome};
+ghost use Rattle.cm_outer.specs.Files.{with_file};
+ghost use Rattle.cm_tool.specs.Ends.{Says};
+ghost use Rattle.cm_tool.specs.Job.{target_of};
+ghost use Rattle.cm_tool.specs.Outcome.{outcome_of};
+ghost use Rattle.cm_tool.specs.Run.{IsStatus, IfJob, Reaches, TookFirst, IsCored, SavedPart, IsMessage};
+
+use crate::building::build_file;
+use crate::job::read_words;
+use crate::report::{report, say};
+use cm_outer::{Disk, Sink};
+use std::alloc::Global;
+
+/// Does what the words of a command line ask for, and answers the status: 0 done, 1 no seed of the list gives a function, 2 the
+/// words ask for nothing known, 4 the keys file can't be opened, read or rewound, 5 the function file can't be created, written
+/// or closed, 6 want of memory, 7 the keys changed between passes, 8 no keys, a line that is too long, or too many keys.
+pub fn run<D: Disk, O: Sink, E: Sink>(
+    alloc: Global,
+    words: &[String],
+    disk: &mut D,
+    out: &mut O,
+    err: &mut E,
+) -> u8
+    ensures status { IsStatus result }
+
+    // A count of reading rose exactly where the status is 4.
+    ensures read { D.read_faults disk.old < 2 ^ 63 → ((result ≡ 4) ↔ (D.read_faults disk.old < D.read_faults disk.new)) }
+
+    // A count of writing or of out rose exactly where it is 5.
+    ensures write { D.write_faults disk.old < 2 ^ 63 → O.faults out.old < 2 ^ 63 →
+        ((result ≡ 5) ↔ ((D.write_faults disk.old < D.write_faults disk.new) ⊎ (O.faults out.old < O.faults out.new))) }
+
+    // Without want of memory or a fault, status, out, err and files are the stated function of the words and the files.
+    ensures outcome { result ≢ 4 → result ≢ 5 → result ≢ 6 → ForSome (D.files disk.old) (λ files.
+        Reaches (map string_bytes words.now) files result (O.written out.old) (O.written out.new) (E.written err.old) (E.written err.new) (E.faults err.old) (E.faults err.new) (D.files disk.new)) }
+
+    // A build takes the first seed whose graph has an empty 2-core, and is refused where there is none.
+    ensures first { result ≡ 0 → ForSome (D.files disk.old) (λ files. IfJob (map string_bytes words.now) (TookFirst files)) }
+    ensures cored { result ≡ 1 → ForSome (D.files disk.old) (λ files. IfJob (map string_bytes words.now) (IsCored files)) }
+
+    // Told files never change between passes.
+    ensures unchanged { ForSome (D.files disk.old) (λ _. result ≢ 7) }
+
+    // A file that isn't there can't be read.
+    ensures missing { ForSome (D.files disk.old) (λ files. outcome_of (map string_bytes words.now) files ≡ None → (result ≡ 4) ⊎ (result ≡ 6)) }
+
+    // What a refusal leaves of the files, and of out.
+    ensures kept { result ≢ 0 → result ≢ 5 → result ≢ 6 → D.files disk.new ≡ D.files disk.old }
+    ensures part { result ≡ 5 → ForSome (D.files disk.old) (λ files. IfJob (map string_bytes words.now) (SavedPart (map string_bytes words.now) files (D.files disk.old) (D.files disk.new))) }
+    ensures memory { result ≡ 6 → (D.files disk.new ≡ D.files disk.old) ⊎ IfJob (map string_bytes words.now) (λ job. D.files disk.new ≡ with_file (target_of job.keys) [] (D.files disk.old)) }
+    ensures out { (O.written out.new ≡ O.written out.old) × (O.faults out.new ≡ O.faults out.old) }
+
+    // Err gets the message of the status, or a front of it where err itself fails.
+    ensures err { (text : List ℕ) × IsMessage (map string_bytes words.now) result text × Says text (E.written err.old) (E.written err.new) (E.faults err.old) (E.faults err.new) }
+{
+    let Some(job) = read_words(words) else {
+        say(err, &[b"cmph: bad arguments; cmph -h shows the usage\n"]);
+        return 2;
+    };
+    match build_file(alloc, &job, disk) {
+        Ok(()) => 0,
+        Err(stop) => report(job.keys, stop, err),
+    }
+}
