@@ -1,0 +1,167 @@
+//! Real files. Nothing here tells contents. A call that was interrupted is made again.
+ghost use Rattle.std.specs.Prelude.{◌≡◌, ◌≤◌, None, IfSome, length};
+
+use crate::std_sink::StdSink;
+use cm_outer::{Disk, DiskFault, Failed, Sink, Source};
+use std::fs;
+use std::fs::OpenFile;
+use std::io;
+use std::io::{ErrorKind, Read, Seek, SeekFrom, Write};
+use std::rt::Files;
+
+/// A file that is read.
+#[derive(Drop)]
+pub struct FileReader<F> {
+    file: F,
+    faults: u64,
+}
+
+/// Reads, and answers how many bytes came.
+fn read_some<F: Read>(file: &mut F, buf: &mut [u8]) -> Option<usize>
+    ensures bound { IfSome result (λ n. n ≤ length buf.old) }
+{
+    for _ in 0..u64::MAX {
+        match file.read(buf) {
+            Ok(count) => return Some(count),
+            Err(error) => {
+                if error.kind() != ErrorKind::Interrupted {
+                    return None;
+                }
+            }
+        }
+    }
+    None
+}
+
+impl<F: Read + Seek> Source for FileReader<F> {
+    ghost told = { λ _. None };
+
+    ghost place = { λ _. 0 };
+
+    ghost faults = { λ s. s.faults };
+
+    fn read(&mut self, buf: &mut [u8]) -> Result<usize, Failed> {
+        match read_some(&mut self.file, buf) {
+            Some(count) => Ok(count),
+            None => {
+                self.faults = self.faults.saturating_add(1);
+                Err(Failed)
+            }
+        }
+    }
+
+    fn rewind(&mut self) -> Result<(), Failed> {
+        match self.file.seek(SeekFrom::Start(0)) {
+            Ok(_) => Ok(()),
+            Err(_) => {
+                self.faults = self.faults.saturating_add(1);
+                Err(Failed)
+            }
+        }
+    }
+}
+
+/// Opens with these options, as often as it takes.
+fn open_with<R: Files>(rt: &R, options: &fs::OpenOptions, path: &str) -> io::Result<R::File> {
+    for _ in 0..u64::MAX {
+        match options.open(rt, path) {
+            Ok(file) => return Ok(file),
+            Err(error) => {
+                if error.kind() != ErrorKind::Interrupted {
+                    return Err(error);
+                }
+            }
+        }
+    }
+    Err(io::Error::from(ErrorKind::Interrupted))
+}
+
+/// Whether the file is on its disk, where it can be put there: a pipe or a device can't, and that is no fault.
+fn is_synced<F: OpenFile>(file: &F) -> bool {
+    for _ in 0..u64::MAX {
+        match file.sync_all() {
+            Ok(()) => return true,
+            Err(error) => match error.kind() {
+                ErrorKind::Interrupted => {}
+                ErrorKind::InvalidInput | ErrorKind::Unsupported => return true,
+                _ => return false,
+            },
+        }
+    }
+    false
+}
+
+/// The files of the system.
+#[derive(Drop)]
+pub struct FileDisk<'a, R> {
+    rt: &'a R,
+    read_faults: u64,
+    write_faults: u64,
+}
+
+impl<'a, R: Files> FileDisk<'a, R> {
+    /// No call has failed yet.
+    pub fn new(rt: &'a R) -> FileDisk<'a, R>
+        ensures files { ⟦<FileDisk<'a, R> as Disk>⟧.files result ≡ None }
+        ensures read_faults { ⟦<FileDisk<'a, R> as Disk>⟧.read_faults result ≡ 0 }
+        ensures write_faults { ⟦<FileDisk<'a, R> as Disk>⟧.write_faults result ≡ 0 }
+    {
+        FileDisk {
+            rt,
+            read_faults: 0,
+            write_faults: 0,
+        }
+    }
+}
+
+impl<'a, R: Files> Disk for FileDisk<'a, R> {
+    type Reader = FileReader<R::File>;
+
+    type Writer = StdSink<R::File>;
+
+    ghost files = { λ _. None };
+
+    ghost read_faults = { λ d. d.read_faults };
+
+    ghost write_faults = { λ d. d.write_faults };
+
+    fn open(&mut self, path: &str) -> Result<FileReader<R::File>, DiskFault> {
+        match open_with(self.rt, fs::OpenOptions::new().read(true), path) {
+            Ok(file) => Ok(FileReader { file, faults: 0 }),
+            Err(_) => {
+                self.read_faults = self.read_faults.saturating_add(1);
+                Err(DiskFault::Failed)
+            }
+        }
+    }
+
+    fn shut(&mut self, reader: FileReader<R::File>) {
+        if reader.faults > 0 {
+            self.read_faults = self.read_faults.saturating_add(1);
+        }
+    }
+
+    fn create(&mut self, path: &str) -> Result<StdSink<R::File>, DiskFault> {
+        let mut options = fs::OpenOptions::new();
+        let _ = options.write(true).create(true).truncate(true);
+        match open_with(self.rt, &options, path) {
+            Ok(file) => Ok(StdSink::new(file)),
+            Err(_) => {
+                self.write_faults = self.write_faults.saturating_add(1);
+                Err(DiskFault::Failed)
+            }
+        }
+    }
+
+    fn close(&mut self, _path: &str, writer: StdSink<R::File>) -> Result<(), Failed> {
+        let mut writer = writer;
+        let sent = writer.write(&[]).is_ok();
+        let (file, faults) = writer.into_parts();
+        if sent && faults == 0 && is_synced(&file) {
+            Ok(())
+        } else {
+            self.write_faults = self.write_faults.saturating_add(1);
+            Err(Failed)
+        }
+    }
+}

@@ -1,0 +1,39 @@
+//! The program `cmph`: the top call over real files and the standard streams.
+#![tactic(auto)]
+
+mod file_disk;
+mod std_sink;
+
+use cm_tool::run;
+use file_disk::FileDisk;
+use std::alloc::{Alloc, AllocError, Global};
+use std::env;
+use std::env::Env;
+use std::io::ErrorKind;
+use std::process::ExitCode;
+use std_sink::StdSink;
+
+/// The words of the command line. Words that aren't UTF-8 are read as none, which asks for nothing known.
+fn words_of<R: Env + Alloc<A = Global>>(rt: &R) -> Result<Vec<String>, AllocError> {
+    let mut words = Vec::new(rt.alloc());
+    match env::args(rt) {
+        Ok(args) => {
+            for word in args {
+                words.push(word)?;
+            }
+            Ok(words)
+        }
+        Err(e) if e.kind() == ErrorKind::OutOfMemory => Err(AllocError),
+        Err(_) => Ok(words),
+    }
+}
+
+fn main(rt: HostRuntime) -> ExitCode {
+    let mut out = StdSink::new(rt.stdout());
+    let mut err = StdSink::by_lines(rt.stderr());
+    let mut disk = FileDisk::new(&rt);
+    match words_of(&rt) {
+        Ok(words) => ExitCode::from(run(rt.alloc(), &words, &mut disk, &mut out, &mut err)),
+        Err(_) => ExitCode::from(6),
+    }
+}

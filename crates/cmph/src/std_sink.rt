@@ -1,0 +1,86 @@
+//! What is written to one of std's writers. It doesn't tell what it holds.
+ghost use Rattle.std.specs.Prelude.{◌≡◌, None};
+
+use arrayvec::ArrayVec;
+use cm_outer::{Failed, Sink};
+use std::io::Write;
+
+/// A writer behind a buffer. An empty piece sends on what waits there; by lines, so does a piece that ends one.
+#[derive(Drop)]
+pub struct StdSink<W> {
+    writer: W,
+    waiting: ArrayVec<u8, 8192>,
+    by_lines: bool,
+    faults: u64,
+}
+
+impl<W: Write> StdSink<W> {
+    /// A sink that keeps bytes back until its buffer is full.
+    pub fn new(writer: W) -> StdSink<W>
+        ensures written { ⟦<StdSink<W> as Sink>⟧.written result ≡ None }
+        ensures faults { ⟦<StdSink<W> as Sink>⟧.faults result ≡ 0 }
+    {
+        StdSink {
+            writer,
+            waiting: ArrayVec::new(),
+            by_lines: false,
+            faults: 0,
+        }
+    }
+
+    /// A sink that sends each line on.
+    pub fn by_lines(writer: W) -> StdSink<W>
+        ensures written { ⟦<StdSink<W> as Sink>⟧.written result ≡ None }
+        ensures faults { ⟦<StdSink<W> as Sink>⟧.faults result ≡ 0 }
+    {
+        StdSink {
+            writer,
+            waiting: ArrayVec::new(),
+            by_lines: true,
+            faults: 0,
+        }
+    }
+
+    /// The writer, and how often writing to it has failed.
+    pub fn into_parts(self) -> (W, u64)
+        ensures faults { result.1 ≡ ⟦<StdSink<W> as Sink>⟧.faults self }
+    {
+        let StdSink {
+            writer,
+            waiting: _,
+            by_lines: _,
+            faults,
+        } = self;
+        (writer, faults)
+    }
+
+    /// Sends on what waits, and then the piece where it doesn't fit the buffer.
+    fn pass_on(&mut self, piece: &[u8]) -> bool
+        ensures faults { self.new.faults ≡ self.old.faults }
+    {
+        if piece.is_empty() || self.waiting.try_extend_from_slice(piece).is_err() {
+            if self.writer.write_all(self.waiting.as_slice()).is_err() {
+                return false;
+            }
+            self.waiting.clear();
+            return self.writer.write_all(piece).is_ok() && self.writer.flush().is_ok();
+        }
+        true
+    }
+}
+
+impl<W: Write> Sink for StdSink<W> {
+    ghost written = { λ _. None };
+
+    ghost faults = { λ s. s.faults };
+
+    fn write(&mut self, piece: &[u8]) -> Result<(), Failed> {
+        let ends_line = self.by_lines && piece.last() == Some(&b'\n');
+        if self.pass_on(piece) && (!ends_line || self.pass_on(&[])) {
+            Ok(())
+        } else {
+            self.faults = self.faults.saturating_add(1);
+            Err(Failed)
+        }
+    }
+}
