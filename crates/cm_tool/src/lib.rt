@@ -9,3 +9,6 @@ mod storing;
 mod top;
 
 pub use crate::top::run;
+
+#[cfg(test)]
+mod tests;

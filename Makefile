@@ -1,0 +1,33 @@
+# make            proves and builds bin/cmph
+# make demo       builds a function over a word list and shows it
+# make check      the gate: proves everything from nothing, and runs all tests
+# make install    puts the program into $(PREFIX)/bin
+PREFIX ?= /usr/local
+SOURCES := crates.txt $(wildcard crates/*/src/*.rt crates/*/specs/*.antt) $(shell find crates -path '*/out' -prune -o -name '*.antt' -print)
+
+all: bin/cmph
+
+# rt run proves every crate below the program before it links it; what it runs on here is thrown away.
+bin/cmph: $(SOURCES)
+	@echo "Proving and building cmph. The first time takes about 15 minutes on four processors; each crate is named as it comes."
+	@mkdir -p bin
+	@scratch=$$(mktemp -d) && cp examples/words $$scratch/ && cd crates/cmph && rt run -- -g $$scratch/words; status=$$?; rm -rf $$scratch; exit $$status
+	@cp crates/cmph/out/cmph $@
+
+demo: bin/cmph
+	@scratch=$$(mktemp -d) && cp examples/words $$scratch/ && \
+	echo "\$$ cmph -g words        ($$(wc -l < examples/words) words, one a line)" && \
+	bin/cmph -g $$scratch/words && \
+	echo "\$$ od -A d -t x1z words.mph | head -n 8" && od -A d -t x1z $$scratch/words.mph | head -n 8 && \
+	echo "words.mph has $$(wc -c < $$scratch/words.mph) bytes"; status=$$?; rm -rf $$scratch; exit $$status
+
+check:
+	bash .ci/run
+
+install: bin/cmph
+	install -D -m 755 bin/cmph $(DESTDIR)$(PREFIX)/bin/cmph
+
+clean:
+	rm -rf bin crates/*/out
+
+.PHONY: all demo check install clean
