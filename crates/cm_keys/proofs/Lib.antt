@@ -1,3 +1,5 @@
 mod PieceLemmas
 mod LeaveLemmas
 mod NextLemmas
+pub mod NumberingLemmas
+pub mod SplittingLemmas

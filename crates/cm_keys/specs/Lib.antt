@@ -3,3 +3,5 @@ pub mod LinesLaws
 pub mod LinePass
 pub mod Buffering
 pub mod Leaving
+pub mod NumberingLaws
+pub mod SplittingLaws

@@ -1,10 +1,16 @@
 //! The keys of a source: its lines, as a pass that can be repeated.
 #![tactic(auto)]
 
+ghost use Rattle.std.specs.Prelude.{ℕ, List, Option};
+ghost use Rattle.cm_keys.specs.Lines.{lines_of, pieces};
 ghost use Rattle.cm_keys.specs.LinesLaws.{CarriageReturn, EmptyKeys, NoLines, LongestKeys, LongLine, ManyLines, FirstLines};
+ghost use Rattle.cm_keys.specs.NumberingLaws.{AreNumbered};
+ghost use Rattle.cm_keys.specs.SplittingLaws.{AreLines};
 
 mod buffered;
 mod keys;
+#[cfg(test)]
+mod tests;
 
 pub use keys::{Keys, LINE_END};
 
@@ -18,4 +24,15 @@ pub fn worked_rows()
     ensures long_line { LongLine }
     ensures many_lines { ManyLines }
     ensures first_lines { FirstLines }
+{}
+
+/// The pieces of every text are its lines.
+pub fn splitting()
+    ensures lines { (end : ℕ) (bytes : List ℕ) → AreLines end bytes (pieces end bytes) }
+{}
+
+/// The keys of every text are numbered from line 1 without a gap and keep within their limits, and a fault is of the line
+/// after them.
+pub fn numbering()
+    ensures numbered { (max longest end : ℕ) (first : Option ℕ) (bytes : List ℕ) → AreNumbered max longest first (lines_of max longest end first bytes) }
 {}
