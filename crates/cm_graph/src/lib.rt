@@ -11,3 +11,6 @@ pub use crate::edges::Edges;
 pub use crate::incidence::Incidence;
 pub use crate::steps::Steps;
 pub use crate::xored::Xored;
+
+#[cfg(test)]
+mod tests;

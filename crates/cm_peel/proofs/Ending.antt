@@ -103,6 +103,7 @@ ended graph t l picked order levels pivots rest a empty rest_are =
       level = same_number_lists levels (map (level_of edges) (places edges)) (a.levels_long ∙ sym (length-map_numbers (level_of edges) 0 n))
           (λ k h. level_at k (omega (arith, a.levels_long)) ∙ sym (map_numbers (level_of edges) 0 n k (omega (arith, a.levels_long)) ∙ ap (level_of edges) (omega arith)));
       pivot = λ e h above. a.pivot e h (go₂ edges t e h same (stable_at edges t none) above (cases_Bool (is_left edges (suc t) e)));
+      levels_long = a.levels_long;
       pivots_long = a.pivots_long;
       rest = rest_are ∙ (ap (λ m. filter (is_zero_at levels) (numbers_from 0 m)) a.levels_long ∙ (filter_agree_on (is_zero_at levels) (is_left edges n) (places edges)
           (λ e m. let h : e < n = place_below edges e m in ap (λ x. eqb x 0) (level_at e h) ∙ go₃ edges e h (cases_Bool (is_left edges n e))) ∙ sym (left_after_is edges n)));

@@ -1,3 +1,4 @@
 pub mod Incident
 pub mod AtRound
 pub mod Peeling
+pub mod Examples

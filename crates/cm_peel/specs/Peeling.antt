@@ -15,6 +15,7 @@ pub record IsPeelingOf (edges : List (List ℕ)) (p : Peeling) : Type 0 where
   pub order : p.order ≡ order_of edges
   pub level : p.levels ≡ map (level_of edges) (places edges)
   pub pivot : (e : ℕ) → e < length edges → 0 < level_of edges e → slice_index p.pivots e ≡ pivot_of edges e
+  pub levels_long : length p.levels ≡ length edges
   pub pivots_long : length p.pivots ≡ length edges
   pub rest : p.rest ≡ rest_of edges
 

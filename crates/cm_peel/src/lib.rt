@@ -5,7 +5,7 @@ pub mod laws;
 pub mod peeled;
 mod round;
 
-pub use crate::laws::{empty_rest, rest_is_core};
+pub use crate::laws::{empty_rest, examples, rest_is_core};
 pub use crate::peeled::{Peeled, peel};
 
 #[cfg(test)]

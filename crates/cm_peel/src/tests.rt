@@ -1,12 +1,59 @@
-ghost use Rattle.std.specs.Prelude.{◌≡◌, ◌<◌};
+ghost use Rattle.std.specs.Prelude.{◌≡◌, ◌<◌, length, IfOk};
 
-use crate::peeled::{Peeled, peel};
-use cm_graph::{Edges, Steps, Xored};
+use crate::{Peeled, peel};
+use cm_graph::{Edges, Incidence, Steps, Xored};
 use std::alloc::{AllocError, Global};
 use std::marker::Brand;
 use std::sync::ledger::{Blank, Ledger};
 use std::test::Fail;
 
+/// Peels edges with two ends over a given incidence, with steps that nobody reads.
+fn peel_pairs<I: Incidence<2> + Drop, L: Ledger>(
+    alloc: Global,
+    edges: &Edges<2>,
+    blank: Blank,
+) -> Result<Peeled<2>, AllocError>
+    requires name { blank.name ≡ L.name }
+    requires parts { blank.parts ≡ L.parts }
+    requires some { 0 < blank.parts }
+    ensures levels { IfOk result (λ p. length p.levels ≡ length edges.now.edges) }
+    ensures pivots { IfOk result (λ p. length p.pivots ≡ length edges.now.edges) }
+{
+    let mut steps = Steps::<L>::new(blank);
+    peel::<2, I, L>(alloc, edges, &mut steps)
+}
+
+fn peeled_pairs(alloc: Global, edges: &Edges<2>) -> Result<Peeled<2>, AllocError>
+    ensures levels { IfOk result (λ p. length p.levels ≡ length edges.now.edges) }
+    ensures pivots { IfOk result (λ p. length p.pivots ≡ length edges.now.edges) }
+{
+    peel_pairs::<Xored<2>, Brand>(alloc, edges, Blank::new(1))
+}
+
+/// Peels edges with three ends over a given incidence, with steps that nobody reads.
+fn peel_triples<I: Incidence<3> + Drop, L: Ledger>(
+    alloc: Global,
+    edges: &Edges<3>,
+    blank: Blank,
+) -> Result<Peeled<3>, AllocError>
+    requires name { blank.name ≡ L.name }
+    requires parts { blank.parts ≡ L.parts }
+    requires some { 0 < blank.parts }
+    ensures levels { IfOk result (λ p. length p.levels ≡ length edges.now.edges) }
+    ensures pivots { IfOk result (λ p. length p.pivots ≡ length edges.now.edges) }
+{
+    let mut steps = Steps::<L>::new(blank);
+    peel::<3, I, L>(alloc, edges, &mut steps)
+}
+
+fn peeled_triples(alloc: Global, edges: &Edges<3>) -> Result<Peeled<3>, AllocError>
+    ensures levels { IfOk result (λ p. length p.levels ≡ length edges.now.edges) }
+    ensures pivots { IfOk result (λ p. length p.pivots ≡ length edges.now.edges) }
+{
+    peel_triples::<Xored<3>, Brand>(alloc, edges, Blank::new(1))
+}
+
+/// Adds an edge, unless it isn't one over the vertices.
 fn add(edges: &mut Edges<2>, first: u32, second: u32) -> Result<bool, AllocError> {
     let n = edges.vertices();
     if first < n && second < n && first != second && edges.len() < 67108864 {
@@ -17,64 +64,95 @@ fn add(edges: &mut Edges<2>, first: u32, second: u32) -> Result<bool, AllocError
     }
 }
 
-fn peel_pairs<L: Ledger>(
+/// The level of each edge, and the pivot of each removed one (0 for the others).
+fn marks<const K: usize>(
     alloc: Global,
-    edges: &Edges<2>,
-    blank: Blank,
-) -> Result<Peeled<2>, AllocError>
-    requires name { blank.name ≡ L.name }
-    requires parts { blank.parts ≡ L.parts }
-    requires some { 0 < blank.parts }
+    m: u32,
+    peeled: &Peeled<K>,
+) -> Result<Vec<(u32, u32)>, AllocError>
+    requires levels { length peeled.now.levels ≡ m }
+    requires pivots { length peeled.now.pivots ≡ m }
 {
-    let mut steps = Steps::<L>::new(blank);
-    peel::<2, Xored<2>, L>(alloc, edges, &mut steps)
-}
-
-fn peeled(alloc: Global, edges: &Edges<2>) -> Result<Peeled<2>, AllocError> {
-    peel_pairs::<Brand>(alloc, edges, Blank::new(1))
+    let mut marks = Vec::new(alloc);
+    for e in 0..m {
+        let level = peeled.level(e);
+        let pivot = if level > 0 { peeled.pivot(e) } else { 0 };
+        marks.push((level, pivot))?;
+    }
+    Ok(marks)
 }
 
 #[test]
 fn path(rt: HostRuntime) -> Result<(), Fail> {
     let mut edges = Edges::<2>::new(rt.alloc(), 4);
-    assert!(rt; add(&mut edges, 0, 1)?);
-    assert!(rt; add(&mut edges, 1, 2)?);
-    assert!(rt; add(&mut edges, 2, 3)?);
-    let p = peeled(rt.alloc(), &edges)?;
-    assert_eq!(rt; p.order(), [0, 2, 1].as_slice());
-    assert_eq!(rt; p.rest().len(), 0);
+    for v in 0..3u32 {
+        assert!(rt; add(&mut edges, v, v + 1)?);
+    }
+    let peeled = peeled_pairs(rt.alloc(), &edges)?;
+    let marks = marks(rt.alloc(), edges.len(), &peeled)?;
+    assert_eq!(rt; marks.as_slice(), [(1, 0), (2, 0), (1, 1)].as_slice());
+    assert_eq!(rt; peeled.order(), [0, 2, 1].as_slice());
+    assert_eq!(rt; peeled.rest().len(), 0);
     Ok(())
 }
 
 #[test]
 fn ring(rt: HostRuntime) -> Result<(), Fail> {
     let mut edges = Edges::<2>::new(rt.alloc(), 4);
-    assert!(rt; add(&mut edges, 0, 1)?);
-    assert!(rt; add(&mut edges, 1, 2)?);
-    assert!(rt; add(&mut edges, 2, 0)?);
+    for v in 0..3u32 {
+        assert!(rt; add(&mut edges, v, (v + 1) % 3)?);
+    }
+    let bare = peeled_pairs(rt.alloc(), &edges)?;
+    assert_eq!(rt; bare.order().len(), 0);
+    assert_eq!(rt; bare.rest(), [0, 1, 2].as_slice());
     assert!(rt; add(&mut edges, 2, 3)?);
-    let p = peeled(rt.alloc(), &edges)?;
-    assert_eq!(rt; p.order(), [3].as_slice());
-    assert_eq!(rt; p.rest(), [0, 1, 2].as_slice());
+    let tailed = peeled_pairs(rt.alloc(), &edges)?;
+    let marks = marks(rt.alloc(), edges.len(), &tailed)?;
+    assert_eq!(rt;
+        marks.as_slice(),
+        [(0, 0), (0, 0), (0, 0), (1, 1)].as_slice()
+    );
+    assert_eq!(rt; tailed.order(), [3].as_slice());
+    assert_eq!(rt; tailed.rest(), [0, 1, 2].as_slice());
     Ok(())
 }
 
 #[test]
+fn triple(rt: HostRuntime) -> Result<(), Fail> {
+    let mut edges = Edges::<3>::new(rt.alloc(), 9);
+    let none = peeled_triples(rt.alloc(), &edges)?;
+    assert_eq!(rt; none.order().len(), 0);
+    assert_eq!(rt; none.rest().len(), 0);
+    edges.push([0, 3, 6])?;
+    let peeled = peeled_triples(rt.alloc(), &edges)?;
+    let marks = marks(rt.alloc(), edges.len(), &peeled)?;
+    assert_eq!(rt; marks.as_slice(), [(1, 0)].as_slice());
+    assert_eq!(rt; peeled.order(), [0].as_slice());
+    assert_eq!(rt; peeled.rest().len(), 0);
+    Ok(())
+}
+
+/// A `peel` that looks at every edge in every round does not end here.
+#[test]
 fn long_path(rt: HostRuntime) -> Result<(), Fail> {
-    let mut edges = Edges::<2>::new(rt.alloc(), 1_000_001);
+    let mut edges = Edges::<2>::with_capacity(rt.alloc(), 1_000_001, 1_000_000)?;
     for e in 0..1_000_000u32 {
         assert!(rt; add(&mut edges, e, e + 1)?);
     }
-    let p = peeled(rt.alloc(), &edges)?;
-    let order = p.order();
-    assert_eq!(rt; order.len(), 1_000_000);
-    for i in 0..500_000usize {
-        let first = order[2 * i];
-        let second = order[2 * i + 1];
-        let place = i as u32;
-        assert_eq!(rt; first, place);
-        assert_eq!(rt; second, 999_999 - place);
+    let peeled = peeled_pairs(rt.alloc(), &edges)?;
+    let marks = marks(rt.alloc(), edges.len(), &peeled)?;
+    assert_eq!(rt; marks.len(), 1_000_000);
+    for e in 0..1_000_000u32 {
+        let level = (e + 1).min(1_000_000 - e);
+        let pivot = (e >= 500_000) as u32;
+        assert!(rt; marks[e as usize] == (level, pivot));
     }
-    assert_eq!(rt; p.rest().len(), 0);
+    let order = peeled.order();
+    assert_eq!(rt; order.len(), 1_000_000);
+    for i in 0..500_000u32 {
+        assert_eq!(rt; order[2 * i as usize], i);
+        assert_eq!(rt; order[2 * i as usize + 1], 999_999 - i);
+    }
+    assert_eq!(rt; peeled.rest().len(), 0);
     Ok(())
 }

@@ -1,0 +1,76 @@
+ghost use Rattle.std.specs.Prelude.{◌≡◌, ◌<◌};
+
+use crate::{Edges, Incidence, Steps, Xored};
+use std::alloc::{AllocError, Global};
+use std::marker::Brand;
+use std::sync::ledger::{Blank, Ledger};
+use std::test::Fail;
+
+/// Links a path of three edges and then unlinks its first: what is seen of it before, and after.
+fn path<I: Incidence<2> + Drop, L: Ledger>(
+    alloc: Global,
+    blank: Blank,
+) -> Result<[u32; 6], AllocError>
+    requires name { blank.name ≡ L.name }
+    requires parts { blank.parts ≡ L.parts }
+    requires some { 0 < blank.parts }
+{
+    let mut steps = Steps::<L>::new(blank);
+    let mut links = I::empty(alloc, 4, 3)?;
+    links.link(0, [0, 1], &mut steps);
+    links.link(1, [1, 2], &mut steps);
+    links.link(2, [2, 3], &mut steps);
+    let middle = links.degree(1, &mut steps);
+    let last = links.degree(3, &mut steps);
+    let first = links.sole(0, &mut steps);
+    links.unlink(0, [0, 1], &mut steps);
+    let lone = links.degree(0, &mut steps);
+    let freed = links.degree(1, &mut steps);
+    let next = links.sole(1, &mut steps);
+    Ok([middle, last, first, lone, freed, next])
+}
+
+/// Links two edges with three ends that share one, and unlinks the second.
+fn fork<I: Incidence<3> + Drop, L: Ledger>(
+    alloc: Global,
+    blank: Blank,
+) -> Result<[u32; 4], AllocError>
+    requires name { blank.name ≡ L.name }
+    requires parts { blank.parts ≡ L.parts }
+    requires some { 0 < blank.parts }
+{
+    let mut steps = Steps::<L>::new(blank);
+    let mut links = I::empty(alloc, 9, 6)?;
+    links.link(5, [0, 3, 6], &mut steps);
+    links.link(2, [1, 3, 7], &mut steps);
+    let shared = links.degree(3, &mut steps);
+    let sole = links.sole(7, &mut steps);
+    links.unlink(2, [1, 3, 7], &mut steps);
+    let left = links.sole(3, &mut steps);
+    let none = links.degree(7, &mut steps);
+    Ok([shared, sole, left, none])
+}
+
+#[test]
+fn xored(rt: HostRuntime) -> Result<(), Fail> {
+    let seen = path::<Xored<2>, Brand>(rt.alloc(), Blank::new(1))?;
+    assert_eq!(rt; seen, [2, 1, 0, 0, 1, 1]);
+    let seen = fork::<Xored<3>, Brand>(rt.alloc(), Blank::new(1))?;
+    assert_eq!(rt; seen, [2, 2, 5, 0]);
+    Ok(())
+}
+
+#[test]
+fn edges(rt: HostRuntime) -> Result<(), Fail> {
+    let mut pairs = Edges::<2>::new(rt.alloc(), 4);
+    pairs.push([0, 1])?;
+    pairs.push([3, 1])?;
+    assert_eq!(rt; pairs.len(), 2);
+    assert_eq!(rt; pairs.vertices(), 4);
+    assert_eq!(rt; pairs.ends(1), [3, 1]);
+    let mut triples = Edges::<3>::with_capacity(rt.alloc(), 671088645, 1)?;
+    triples.push([671088644, 0, 7])?;
+    assert_eq!(rt; triples.len(), 1);
+    assert_eq!(rt; triples.ends(0), [671088644, 0, 7]);
+    Ok(())
+}
