@@ -1,3 +1,4 @@
+pub mod ByteLemmas
 pub mod DigitsLemmas
 pub mod FaultLemmas
 pub mod FieldsFaultLemmas
@@ -5,3 +6,4 @@ pub mod FieldsLemmas
 pub mod PackedFaultLemmas
 pub mod PackedLemmas
 pub mod PlainLemmas
+pub mod WindowLemmas

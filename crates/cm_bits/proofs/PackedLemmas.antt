@@ -1,7 +1,7 @@
 -- How packed cells are written and read.
-use Rattle.std.specs.Prelude.{◌≡◌, ◌≢◌, ℕ, ◌+◌, ◌-◌, ◌*◌, ◌/◌, ◌%◌, ◌^◌, ◌<◌, ◌≤◌, List, length, slice_index, replicate, set}
+use Rattle.std.specs.Prelude.{◌≡◌, ◌≢◌, ℕ, ◌+◌, ◌*◌, ◌/◌, ◌%◌, ◌^◌, ◌<◌, ◌≤◌, List, length, slice_index, replicate, set}
 use Rattle.std.proofs.Common.{arith, ap, sym, ◌∙◌, inl, inr}
-use Rattle.std.proofs.Math.Nat.{one-le-pow, div-add-mod, mul-le-mul_left, mod-le, div-mul-le_self}
+use Rattle.std.proofs.Math.Nat.{div-add-mod, mul-le-mul_left, mod-le, div-mul-le_self}
 use Rattle.std.proofs.lemmas.Nat.{mod_below, div-mul-add}
 use Rattle.std.proofs.lemmas.Bool.{cases_eq, cases_lt}
 use Rattle.std.proofs.lemmas.List.{ext_get_or, get_or_past, length-set, get_or-set_same, get_or-set_other, get_or-replicate, length-replicate}
@@ -108,33 +108,12 @@ changes d p n i v b bs h q w l m e =
       small = rw is (packed_byte-lt d p (set xs i v) (i / p) h all);
     }
 
--- what `set` computes: the byte without the old digit, and with the new one
-pub record Writes (d p n i v w b : ℕ) (bs : List ℕ) : Type 0 where
-  pub changes : Changes d p n i v (b - b / w % d * w + v * w) bs
-  pub weight : 0 < w
-  pub part : v * w < 256
-  pub byte : b - b / w % d * w + v * w < 256
-
 pub digit_le : (b w d : ℕ) → b / w % d * w ≤ b
 digit_le b w d =
     let a : b / w % d ≤ b / w = mod-le (b / w) d in
     let c : b / w * w ≤ b = div-mul-le_self b w in
     let e : w * (b / w % d) ≤ w * (b / w) = mul-le-mul_left w a in
     omega arith
-
-pub writes : (d p n i v w b : ℕ) (bs : List ℕ) → 2 ≤ d → 0 < p → d ^ p ≤ 256 → IsPacked d p n bs → i < n → v < d → w ≡ d ^ (i % p) → b ≡ slice_index bs (i / p) → Writes d p n i v w b bs
-writes d p n i v w b bs h q f k l m e r =
-    let base : 0 < d = zero_lt d h in
-    let weight : 0 < w = rw e (one-le-pow _ _ base) in
-    let low : b / w % d * w ≤ b = digit_le b w d in
-    let change : Changes d p n i v (b - b / w % d * w + v * w) bs =
-    changes d p n i v (b - b / w % d * w + v * w) bs base q k l m (rw (← e, ← r) (omega arith)) in
-    record {
-      changes = change;
-      weight = weight;
-      part = omega (arith, change.small);
-      byte = omega (arith, change.small);
-    }
 
 pub packed_cells-zero : (d p n : ℕ) → 0 < d → 0 < p → packed_cells d p n (replicate (packed_len p n) 0) ≡ replicate n 0
 packed_cells-zero d p n h q =
@@ -145,3 +124,17 @@ pub IsPacked-zero : (d p n : ℕ) → 0 < d → 0 < p → IsPacked d p n (replic
 IsPacked-zero d p n h q =
     let len : length (replicate n 0) ≡ n = length-replicate {A = ℕ} n 0 in
     packed_of d p n (replicate n 0) _ len (packed_cells-zero d p n h q) (IsImageOf-zero d p n h)
+
+-- a cell of a table, and its byte
+pub cell_inside : (d p n i : ℕ) (bs : List ℕ) → i < length (packed_cells d p n bs) → i < n
+cell_inside d p n i bs h = omega (arith, length-packed_cells d p n bs)
+
+pub byte_there : (d p n i : ℕ) (bs : List ℕ) → 0 < p → IsPacked d p n bs → i < length (packed_cells d p n bs) → i / p < length bs
+byte_there d p n i bs q w h = omega (arith, w.len, place_lt p n i q (cell_inside d p n i bs h))
+
+-- each byte is one that digits can give
+pub byte_whole : (d p n q : ℕ) (bs : List ℕ) → 2 ≤ d → IsPacked d p n bs → q < length bs → slice_index bs q < d ^ p
+byte_whole d p n q bs h w l = rw (w.image q l) (packed_byte-lt d p (packed_cells d p n bs) q (zero_lt d h) (AllBelow-packed_cells d p n bs (zero_lt d h)))
+
+pub changed : (d p n i v b : ℕ) (bs : List ℕ) → 2 ≤ d → 0 < p → IsPacked d p n bs → i < length (packed_cells d p n bs) → v < d → b + slice_index bs (i / p) / d ^ (i % p) % d * d ^ (i % p) ≡ slice_index bs (i / p) + v * d ^ (i % p) → Changes d p n i v b bs
+changed d p n i v b bs h q w l m e = changes d p n i v b bs (zero_lt d h) q w (cell_inside d p n i bs l) m e

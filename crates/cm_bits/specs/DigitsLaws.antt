@@ -28,15 +28,19 @@ digits_sum-lt d f (suc n) h =
     let top : suc (f n) ≤ d = omega (arith, h n (omega arith)) in
     omega (arith, below, pow-succ' d n, mul-le-mul_left (d ^ n) top)
 
--- a digit above the lowest is one of the number without it
-digit_up : (d a x i : ℕ) → 0 < d → a < d → (a + d * x) / d ^ suc i % d ≡ x / d ^ i % d
-digit_up d a x i p l =
+-- the number without its lowest digit
+pub digits_above : (d a x : ℕ) → 0 < d → a < d → (a + d * x) / d ≡ x
+digits_above d a x p l =
     let low : (d * x + a) / d ≡ x + a / d = mul-add-div p x a in
     let none : a / d ≡ 0 = div-eq_of_lt l in
-    let whole : (a + d * x) / d ≡ x = ap (λ m. m / d) (let e : a + d * x ≡ d * x + a = omega arith in e) ∙ low ∙ omega (arith, none) in
-    rw (pow-succ' d i, ← div-div-eq-div-mul (a + d * x) d (d ^ i), whole) refl
+    ap (λ m. m / d) (let e : a + d * x ≡ d * x + a = omega arith in e) ∙ low ∙ omega (arith, none)
 
-digit_lowest : (d a x : ℕ) → a < d → (a + d * x) % d ≡ a
+-- a digit above the lowest is one of the number without it
+digit_up : (d a x i : ℕ) → 0 < d → a < d → (a + d * x) / d ^ suc i % d ≡ x / d ^ i % d
+digit_up d a x i p l = rw (pow-succ' d i, ← div-div-eq-div-mul (a + d * x) d (d ^ i), digits_above d a x p l) refl
+
+-- the lowest digit
+pub digit_lowest : (d a x : ℕ) → a < d → (a + d * x) % d ≡ a
 digit_lowest d a x l =
     ap (λ m. m % d) (let e : a + d * x ≡ d * x + a = omega arith in e) ∙ mul-add-mod_self_left d x a ∙ mod-eq_of_lt l
 

@@ -1,7 +1,8 @@
--- How a table holds its cells: packed cells in the bytes of their image, cells of w bits in words of 64 bits.
-use Rattle.std.specs.Prelude.{◌≡◌, ℕ, ◌+◌, ◌*◌, ◌/◌, ◌%◌, ◌^◌, ◌<◌, List, length, slice_index}
-use Rattle.cm_spec.specs.Image.{digits_sum, packed_len, packed_byte, fields_number}
+-- How a table holds its cells: in the bytes of their image.
+use Rattle.std.specs.Prelude.{◌≡◌, ℕ, ◌+◌, ◌/◌, ◌%◌, ◌^◌, ◌<◌, ◌≤◌, List, length, slice_index}
+use Rattle.cm_spec.specs.Image.{digits_sum, packed_len, packed_byte, fields_len}
 use Rattle.cm_spec.specs.Lists.{list_of}
+use Rattle.cm_bits.specs.Fault.{bytes_number}
 
 -- the n cells that packed bytes hold
 unfoldable pub packed_cells : ℕ → ℕ → ℕ → List ℕ → List ℕ
@@ -17,16 +18,19 @@ pub record IsPacked (d p n : ℕ) (bytes : List ℕ) : Type 0 where
   pub len : length bytes ≡ packed_len p n
   pub image : (q : ℕ) → q < length bytes → slice_index bytes q ≡ packed_byte d p (packed_cells d p n bytes) q
 
--- word j of bytes: eight of them, the first the lowest, and 0 past their end
-unfoldable pub word_of : List ℕ → ℕ → ℕ
-word_of bytes j = digits_sum 256 (λ k. slice_index bytes (8 * j + k)) 8
+-- the bytes of n cells of w bits, and eight more, with nothing past the cells
+pub record IsFields (w n : ℕ) (bytes : List ℕ) : Type 0 where
+  pub len : length bytes ≡ fields_len w n + 8
+  pub fit : (k : ℕ) → slice_index bytes k < 256
+  pub clear : bytes_number bytes < (2 ^ w) ^ n
 
--- the number that words make, the first the lowest
-abbrev pub words_number : List ℕ → ℕ
-words_number words = fields_number 64 words
+-- the number that eight bytes from a place on make, the first the lowest
+unfoldable pub window_at : List ℕ → ℕ → ℕ
+window_at bytes at = digits_sum 256 (λ k. slice_index bytes (at + k)) 8
 
--- words that hold n cells of w bits, and a word more, with nothing past the cells
-pub record IsFields (w n : ℕ) (words : List ℕ) : Type 0 where
-  pub len : length words ≡ n * w / 64 + 2
-  pub fit : (k : ℕ) → slice_index words k < 2 ^ 64
-  pub clear : words_number words < (2 ^ w) ^ n
+-- eight bytes from a place on become those of a number, and the others stay
+pub record PutsWindow (at number : ℕ) (old new : List ℕ) : Type 0 where
+  pub len : length new ≡ length old
+  pub put : (k : ℕ) → k < 8 → slice_index new (at + k) ≡ number / 256 ^ k % 256
+  pub before : (k : ℕ) → k < at → slice_index new k ≡ slice_index old k
+  pub after : (k : ℕ) → at + 8 ≤ k → slice_index new k ≡ slice_index old k

@@ -16,6 +16,7 @@ pub mod fill;
 pub mod packed;
 pub mod packings;
 pub mod plain;
+mod window;
 
 pub use fault::ImageFault;
 pub use fields::Fields;

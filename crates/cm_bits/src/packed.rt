@@ -1,5 +1,5 @@
 // Cells as digits in a small base, several of them in a byte.
-ghost use Rattle.std.specs.Prelude.{◌≡◌, ℕ, ◌+◌, ◌-◌, ◌*◌, ◌/◌, ◌%◌, ◌^◌, ◌<◌, ◌≤◌, length, slice_index, slice_set, replicate, vec_len, position, nat_le};
+ghost use Rattle.std.specs.Prelude.{◌≡◌, ℕ, ◌+◌, ◌-◌, ◌*◌, ◌/◌, ◌%◌, ◌^◌, ◌<◌, ◌≤◌, length, slice_index, slice_set, replicate, vec_len, position, nat_le, IsTrue, ◌↔◌};
 ghost use Rattle.std.specs.Prelude.{refl};
 ghost use Rattle.cm_bits.specs.Bound.{AllBelow};
 ghost use Rattle.cm_bits.specs.Fault.{packed_fault};
@@ -27,10 +27,22 @@ pub trait Packing {
     /// One more than the largest byte.
     const FULL: u32;
 
-    /// The weight of digit i.
-    fn weight(i: u32) -> u32
+    /// Digit i of a byte, the lowest being digit 0.
+    fn digit(byte: u8, i: u32) -> u32
         requires { i < PER_BYTE }
-        ensures { result ≡ BASE ^ i };
+        ensures { result ≡ byte / BASE ^ i % BASE };
+
+    /// The byte with another digit i.
+    fn with_digit(byte: u8, i: u32, digit: u32) -> u8
+        requires place { i < PER_BYTE }
+        requires whole { byte < FULL }
+        requires below { digit < BASE }
+        ensures { result + byte / BASE ^ i % BASE * BASE ^ i ≡ byte + digit * BASE ^ i };
+
+    /// Whether a byte holds nothing from digit i on.
+    fn is_clear(byte: u8, i: u32) -> bool
+        requires { i < PER_BYTE }
+        ensures { IsTrue result ↔ (byte / BASE ^ i ≡ 0) };
 
     ghost is_base: { 2 ≤ BASE };
 
@@ -98,18 +110,14 @@ impl<B: Packing> Cells for Packed<B> {
 
     fn get(&self, i: u32) -> u32 {
         let per_byte = B::PER_BYTE;
-        let byte = self.bytes[(i / per_byte) as usize] as u32;
-        byte / B::weight(i % per_byte) % B::BASE
+        B::digit(self.bytes[(i / per_byte) as usize], i % per_byte)
     }
 
     fn set(&mut self, i: u32, value: u32) {
         let per_byte = B::PER_BYTE;
         let place = (i / per_byte) as usize;
-        let weight = B::weight(i % per_byte);
-        let byte = self.bytes[place] as u32;
-        let rest = byte - byte / weight % B::BASE * weight;
-        let new = rest + value * weight;
-        self.bytes[place] = new as u8;
+        let byte = self.bytes[place];
+        self.bytes[place] = B::with_digit(byte, i % per_byte, value);
     }
 
     fn image_len(n: u32, bound: u32) -> u64 {
@@ -166,7 +174,7 @@ fn fault_in<B: Packing>(n: u32, bytes: &[u8]) -> Option<ImageFault>
     let used = n % per_byte;
     if used != 0 {
         let last = bytes.len() - 1;
-        if bytes[last] as u32 / B::weight(used) != 0 {
+        if !B::is_clear(bytes[last], used) {
             return Some(ImageFault::BadPadding { byte: last as u64 });
         }
     }

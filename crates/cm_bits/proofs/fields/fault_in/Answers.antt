@@ -1,22 +1,17 @@
 use Rattle.std.proofs.Common.{arith, sym, ◌∙◌, ℕ, ◌<◌, get_or, Fits, w8, below_more}
 use Rattle.std.specs.List.{slice_index}
-use Rattle.cm_bits.proofs.FieldsFaultLemmas.{cell_read, words_room, fields_fault-at, fields_fault-padding, padding_last, padding_none}
 use Rattle.cm_bits.specs.FieldsLaws.{fields_fault-none}
+use Rattle.cm_bits.proofs.FieldsFaultLemmas.{spare_cell, fields_fault-at, fields_fault-padding, padding_last, padding_none}
 use Rattle.cm_bits.proofs.fields.fault_in.Goals as goal
-
-pub pair_at-requires : goal.pair_at-requires
-pair_at-requires c = words_room c.args.width c.args.n c.loop-i.i c.args.bytes.now c.args.words.now c.requires.words c.loop-i-test.true
 
 pub returns-then-cell-bound : goal.returns-then-cell-bound
 returns-then-cell-bound c =
-    let small : (i : ℕ) → slice_index c.args.bytes.now i < 256 = λ i. (let f : Fits w8 (get_or c.args.bytes.now i 0) = c.type_inv.bytes i in omega (arith, f)) in
-    let cell = cell_read c.args.width c.args.n c.loop-i.i c.pair_at.result c.part-cell.result c.args.bytes.now c.args.words.now c.requires.width c.requires.whole small c.requires.words c.loop-i-test.true c.pair_at.ensures c.part-cell.ensures in
+    let cell = spare_cell c.args.width c.loop-i.i c.cell.result c.args.bytes.now c.args.held.now c.requires.held c.cell.ensures in
     sym (fields_fault-at c.args.width c.args.n c.args.bound c.loop-i.i c.args.bytes.now c.loop-i-test.true c.loop-i.invariant (rw cell c.if-cell-bound.true))
 
 pub loop-i-preserved : goal.loop-i-preserved
 loop-i-preserved c =
-    let small : (i : ℕ) → slice_index c.args.bytes.now i < 256 = λ i. (let f : Fits w8 (get_or c.args.bytes.now i 0) = c.type_inv.bytes i in omega (arith, f)) in
-    let cell = cell_read c.args.width c.args.n c.loop-i.i c.pair_at.result c.part-cell.result c.args.bytes.now c.args.words.now c.requires.width c.requires.whole small c.requires.words c.loop-i-test.true c.pair_at.ensures c.part-cell.ensures in
+    let cell = spare_cell c.args.width c.loop-i.i c.cell.result c.args.bytes.now c.args.held.now c.requires.held c.cell.ensures in
     below_more _ _ c.loop-i.invariant (rw cell c.if-cell-bound.false)
 
 pub returns-then-bytes-last-ne0 : goal.returns-then-bytes-last-ne0

@@ -1,16 +1,17 @@
-use Rattle.std.proofs.Common.{arith, ap, sym, ◌∙◌, ◌/◌, ◌*◌, ◌%◌, ◌^◌}
+use Rattle.std.proofs.Common.{arith, ◌∙◌}
 use Rattle.std.proofs.lemmas.List.{get_or_read}
-use Rattle.cm_bits.proofs.FieldsLemmas.{fields_byte-word, fields_place}
+use Rattle.cm_bits.proofs.FieldsLemmas.{byte_inside, field_byte_at}
 use Rattle.cm_bits.proofs.fields.FieldsCells.byte.Goals as goal
 
-pub index-word-requires : goal.index-word-requires
-index-word-requires c =
+pub index-requires : goal.index-requires
+index-requires c =
     let s = c.args.self.now in
-    let e = fields_place s.bound s.width s.n c.args.i s.words.items s.is_width s.is_fields c.requires in omega arith
+    let inside = byte_inside s.bound s.width s.n c.args.i s.bytes.items s.is_width c.requires in
+    omega (arith, s.is_fields.len, inside)
 
 pub returns : goal.returns
 returns c =
     let s = c.args.self.now in
-    let there = fields_place s.bound s.width s.n c.args.i s.words.items s.is_width s.is_fields c.requires in
-    ap (λ x. x / 2 ^ (8 * (c.args.i % 8)) % 256) (get_or_read s.words.items (c.args.i / 8) c.index-word.result.now there c.index-word.ensures 0)
-    ∙ rw (← s.is_width) (sym (fields_byte-word s.width s.n c.args.i s.words.items s.is_fields there))
+    let inside = byte_inside s.bound s.width s.n c.args.i s.bytes.items s.is_width c.requires in
+    get_or_read s.bytes.items c.args.i c.index.result.now (omega (arith, s.is_fields.len, inside)) c.index.ensures 0
+    ∙ field_byte_at s.bound s.width s.n c.args.i s.bytes.items s.is_width s.is_fields inside
