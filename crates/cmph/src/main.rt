@@ -37,3 +37,6 @@ fn main(rt: HostRuntime) -> ExitCode {
         Err(_) => ExitCode::from(6),
     }
 }
+
+#[cfg(test)]
+mod tests;
