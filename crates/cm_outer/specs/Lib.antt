@@ -1,4 +1,5 @@
 pub mod Causes
+pub mod Counts
 pub mod Reading
 pub mod Writing
 pub mod Files

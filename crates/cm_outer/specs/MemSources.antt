@@ -1,5 +1,5 @@
 -- A source in memory, as contracts see it.
-use Rattle.std.specs.Prelude.{◌+◌, ◌-◌, ◌^◌, ℕ, List, min}
+use Rattle.std.specs.Prelude.{ℕ, List}
 
 -- the bytes and the place in them; the reads and the rewinds so far, and those that fail; the count of faults
 pub record SourceInMemory : Type 0 where
@@ -10,10 +10,6 @@ pub record SourceInMemory : Type 0 where
   pub rewinds : ℕ
   pub rewind_fails : List ℕ
   pub faults : ℕ
-
--- one more, in a `u64` that stays at its last value
-abbrev pub counted : ℕ → ℕ
-counted n = min (n + 1) (2 ^ 64 - 1)
 
 -- a source that was not called yet
 abbrev pub new_source : List ℕ → List ℕ → List ℕ → SourceInMemory

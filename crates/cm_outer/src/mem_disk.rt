@@ -4,7 +4,8 @@ ghost use Rattle.std.specs.FinMap as maps;
 ghost use Rattle.std.specs.Option.{ForSome};
 ghost use Rattle.cm_outer.specs.Causes.{HasDiskCause, Collects, HasCloseCause};
 ghost use Rattle.cm_outer.specs.Files.{IsThere, Opens, Creates, Closes, file_at};
-ghost use Rattle.cm_outer.specs.MemSources.{counted, new_source};
+ghost use Rattle.cm_outer.specs.Counts.{counted};
+ghost use Rattle.cm_outer.specs.MemSources.{new_source};
 ghost use Rattle.cm_outer.specs.MemSinks.{new_sink};
 
 use crate::mem_file::{MemFile, bytes_at, set_bytes};

@@ -2,7 +2,7 @@
 ghost use Rattle.std.specs.Prelude.{◌≡◌, ◌≤◌, ◌<◌, ◌+◌, ◌-◌, ◌++◌, ◌↔◌, ◌⊎◌, IsTrue, IsErr, IfOk, OnOk, OnErr, Contains, Some, length, take};
 ghost use Rattle.cm_outer.specs.Causes.{HasCause};
 ghost use Rattle.cm_outer.specs.Writing.{Writes};
-ghost use Rattle.cm_outer.specs.MemSources.{counted};
+ghost use Rattle.cm_outer.specs.Counts.{counted};
 ghost use Rattle.cm_outer.specs.MemSinks.{new_sink};
 
 use crate::{Failed, Sink};

@@ -3,7 +3,8 @@ ghost use Rattle.std.specs.Prelude.{◌≡◌, ◌≤◌, ◌<◌, ◌+◌, ◌-
 ghost use Rattle.std.specs.Option.{ForSome};
 ghost use Rattle.cm_outer.specs.Causes.{HasCause};
 ghost use Rattle.cm_outer.specs.Reading.{Gives};
-ghost use Rattle.cm_outer.specs.MemSources.{counted, new_source};
+ghost use Rattle.cm_outer.specs.Counts.{counted};
+ghost use Rattle.cm_outer.specs.MemSources.{new_source};
 
 use crate::{Failed, Source};
 use std::marker::Model;

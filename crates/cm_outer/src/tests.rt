@@ -1,3 +1,8 @@
+ghost use Rattle.std.specs.Prelude.{◌++◌, codes};
+ghost use Rattle.cm_outer.specs.Causes.{HasCause};
+ghost use Rattle.cm_outer.specs.Noting.{Noted};
+ghost use Rattle.cm_outer.specs.Writing.{Writes};
+
 use crate::{
     Disk, DiskFault, Failed, KeyBuf, KeyFault, MAX_KEY_LEN, MAX_KEYS, MemDisk, MemSink, MemSource,
     Notes, Sink, Source, write_pieces,
@@ -28,6 +33,21 @@ fn first_bytes<D: Disk>(disk: &mut D, path: &str, buf: &mut [u8]) -> Result<usiz
     let outcome = reader.read(buf);
     disk.shut(reader);
     Ok(outcome?)
+}
+
+/// The message is stated whole, and is one call.
+fn complain<E: Sink>(notes: &mut Notes, err: &mut E, path: &str)
+    ensures noted { Noted notes.old notes.new (E.written err.old) (E.written err.new) (E.faults err.old) (E.faults err.new) (codes "cmph: " ++ (path.now ++ codes ": no keys\n")) }
+{
+    notes.note_pieces(err, &[b"cmph: ", path.as_bytes(), b": no keys\n"]);
+}
+
+/// The line is stated whole, and is one call.
+fn write_answer<O: Sink>(out: &mut O, key: &[u8], answer: &[u8]) -> Result<(), Failed>
+    ensures bytes { Writes (O.written out.old) (O.written out.new) (key.now ++ (codes " -> " ++ (answer.now ++ codes "\n"))) result }
+    ensures cause { HasCause (O.faults out.old) (O.faults out.new) result }
+{
+    write_pieces(out, &[key, b" -> ", answer, b"\n"])
 }
 
 fn holds(disk: &MemDisk, path: &str, bytes: &[u8]) -> bool {
@@ -85,15 +105,9 @@ fn a_room_ends_inside_a_piece(rt: HostRuntime) -> Result<(), Fail> {
 fn pieces_are_written_in_order(rt: HostRuntime) -> Result<(), Fail> {
     let alloc = rt.alloc();
     let mut sink = MemSink::new(alloc, 9, Vec::new(alloc))?;
-    assert_eq!(rt;
-        write_pieces(&mut sink, &[b"a", b" -> ", b"7", b"\n"]),
-        Ok(())
-    );
+    assert_eq!(rt; write_answer(&mut sink, b"a", b"7"), Ok(()));
     assert_eq!(rt; sink.bytes(), b"a -> 7\n".as_slice());
-    assert_eq!(rt;
-        write_pieces(&mut sink, &[b"b", b" -> ", b"8"]),
-        Err(Failed)
-    );
+    assert_eq!(rt; write_answer(&mut sink, b"b", b"8"), Err(Failed));
     assert_eq!(rt; sink.bytes(), b"a -> 7\nb ".as_slice());
     Ok(())
 }
@@ -103,14 +117,13 @@ fn notes_end_with_the_first_that_failed(rt: HostRuntime) -> Result<(), Fail> {
     let alloc = rt.alloc();
     let mut sink = MemSink::new(alloc, 100, [4].to_vec(alloc)?)?;
     let mut notes = Notes::new();
-    notes.note(&mut sink, b"cmph: ");
-    notes.note_pieces(&mut sink, &[b"no", b" keys"]);
+    complain(&mut notes, &mut sink, "keys");
     notes.note(&mut sink, b"\n");
-    assert_eq!(rt; sink.bytes(), b"cmph: no keys\n".as_slice());
+    assert_eq!(rt; sink.bytes(), b"cmph: keys: no keys\n\n".as_slice());
     notes.note_pieces(&mut sink, &[b"lost", b"lost"]);
     notes.note(&mut sink, b"silent");
     notes.note_pieces(&mut sink, &[b"silent"]);
-    assert_eq!(rt; sink.bytes(), b"cmph: no keys\n".as_slice());
+    assert_eq!(rt; sink.bytes(), b"cmph: keys: no keys\n\n".as_slice());
     Ok(())
 }
 
