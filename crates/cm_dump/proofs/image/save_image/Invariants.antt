@@ -1,4 +1,4 @@
-use Rattle.std.proofs.Common.{◌≡◌, ◌-◌, ◌≤◌, map, length}
+use Rattle.std.proofs.Common.{◌≡◌, ◌-◌, ◌≤◌, map}
 use Rattle.std.specs.List.{range_with_len}
 use Rattle.cm_outer.specs.Writing.{then_bytes}
 use Rattle.cm_dump.proofs.image.save_image.Given as goal
