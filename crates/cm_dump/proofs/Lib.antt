@@ -1,1 +1,4 @@
 mod Pieces
+pub mod ItemLemmas
+pub mod ChunkLemmas
+pub mod CellLemmas

@@ -1,1 +1,6 @@
 pub mod Dumps
+pub mod Functions
+pub mod Reading
+pub mod Headings
+pub mod Places
+pub mod Spelling

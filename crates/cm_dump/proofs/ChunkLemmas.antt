@@ -1,0 +1,57 @@
+-- An item that is read by chunks.
+use Rattle.std.proofs.Common.{◌≡◌, ◌∙◌, ℕ, ◌+◌, ◌<◌, ◌≤◌, List, ◌++◌, length, take, drop, ap, sym, arith, refl, Bool, true, false, nat_lt, Result, Ok, Err, if◌then◌else◌}
+use Rattle.std.proofs.lemmas.List.{drop-drop}
+use Rattle.std.proofs.Math.Seq.{take-add}
+use Rattle.cm_dump.specs.declared.fault.LoadFault.{LoadFault}
+use Rattle.cm_dump.specs.declared.fault.LoadFault.TheVariants as faults
+use Rattle.cm_dump.specs.Reading.{item_at, Fails}
+use Rattle.cm_dump.proofs.ItemLemmas.{ltb_no, ltb_yes}
+
+ok_err : {A B : Type 0} (x : A) (e : B) → (let r : Result A B = Ok x in r) ≡ Err e → ⊥
+ok_err x e is = grind (arith, is)
+
+ok_same : {A B : Type 0} {x y : A} → (let r : Result A B = Ok x in r) ≡ Ok y → x ≡ y
+ok_same is = grind (arith, is)
+
+lt_of : (m n : ℕ) → nat_lt m n ≡ true → m < n
+lt_of m n is = grind (arith, is)
+
+ge_of : (m n : ℕ) → nat_lt m n ≡ false → n ≤ m
+ge_of m n is = grind (arith, is)
+
+cut_or : (t : Bool) (f g : LoadFault) (l : List ℕ) → (if t then (let r : Result (List ℕ) LoadFault = Err f in r) else Ok l) ≡ Err g → (t ≡ true) × ((let r : Result (List ℕ) LoadFault = Err f in r) ≡ Err g)
+cut_or true f g l is = (refl, is)
+cut_or false f g l is = absurd (ok_err l g is)
+
+whole_or : (t : Bool) (f : LoadFault) (l m : List ℕ) → (if t then (let r : Result (List ℕ) LoadFault = Err f in r) else Ok l) ≡ Ok m → (t ≡ false) × (l ≡ m)
+whole_or true f l m is = absurd (ok_err m f (sym is))
+whole_or false f l m is = (refl, ok_same is)
+
+pub chunk_cut : (bytes : List ℕ) (at done k n : ℕ) (f : LoadFault) → item_at bytes (at + done) k ≡ Err f → done + k ≤ n → item_at bytes at n ≡ Err f
+unfolding item_at
+chunk_cut bytes at done k n f is inside =
+    let parts = cut_or (nat_lt (length bytes) ((at + done) + k)) (faults.Truncated (length bytes)) f (take k (drop (at + done) bytes)) is in
+    rw (ltb_yes (length bytes) (at + n) (omega (arith, lt_of (length bytes) ((at + done) + k) parts.0, inside))) parts.1
+
+pub chunk_fault : (bytes : List ℕ) (at done k n : ℕ) (f : LoadFault) → Fails f (item_at bytes (at + done) k) → done + k ≤ n → Fails f (item_at bytes at n)
+chunk_fault bytes at done k n faults.Memory is inside = tt
+chunk_fault bytes at done k n faults.Read is inside = tt
+chunk_fault bytes at done k n (faults.Truncated a) is inside = chunk_cut bytes at done k n _ is inside
+chunk_fault bytes at done k n faults.BadMagic is inside = chunk_cut bytes at done k n _ is inside
+chunk_fault bytes at done k n faults.BadAlgorithm is inside = chunk_cut bytes at done k n _ is inside
+chunk_fault bytes at done k n (faults.BadField a) is inside = chunk_cut bytes at done k n _ is inside
+chunk_fault bytes at done k n (faults.BadPadding a) is inside = chunk_cut bytes at done k n _ is inside
+chunk_fault bytes at done k n (faults.BadCell a) is inside = chunk_cut bytes at done k n _ is inside
+chunk_fault bytes at done k n (faults.BadCount a) is inside = chunk_cut bytes at done k n _ is inside
+chunk_fault bytes at done k n (faults.BadRank a) is inside = chunk_cut bytes at done k n _ is inside
+chunk_fault bytes at done k n faults.Trailing is inside = chunk_cut bytes at done k n _ is inside
+
+pub chunk_more : (bytes items piece : List ℕ) (at done k : ℕ) → items ≡ take done (drop at bytes) → item_at bytes (at + done) k ≡ Ok piece → items ++ piece ≡ take (done + k) (drop at bytes)
+unfolding item_at
+chunk_more bytes items piece at done k so_far is =
+    let parts = whole_or (nat_lt (length bytes) ((at + done) + k)) (faults.Truncated (length bytes)) (take k (drop (at + done) bytes)) piece is in
+    ap (λ (l : List ℕ). l ++ piece) so_far ∙ ap (λ (l : List ℕ). take done (drop at bytes) ++ l) (sym parts.1 ∙ ap (λ (l : List ℕ). take k l) (sym (drop-drop done at bytes))) ∙ sym (take-add done k (drop at bytes))
+
+pub chunk_all : (bytes items : List ℕ) (at n : ℕ) → items ≡ take n (drop at bytes) → at + n ≤ length bytes → item_at bytes at n ≡ Ok items
+unfolding item_at
+chunk_all bytes items at n all inside = rw (ltb_no (length bytes) (at + n) (omega (arith, inside))) (ap (λ (l : List ℕ). let r : Result (List ℕ) LoadFault = Ok l in r) (sym all))

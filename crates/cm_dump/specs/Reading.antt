@@ -1,0 +1,56 @@
+-- The items of a file, each at its offset, and the first fault.
+use Rattle.std.specs.Prelude.{◌≡◌, ◌+◌, ◌≤◌, ℕ, List, length, take, drop, Option, Result, Ok, Err, nat_lt, nat_le, slice_index, ◌&&◌, if◌then◌else◌}
+use Rattle.std.specs.Option.{ForSome}
+use Rattle.std.specs.Int.{w32, from_le_bytes}
+use Rattle.cm_outer.specs.Causes.{Rose}
+use Rattle.cm_dump.specs.declared.fault.LoadFault.{LoadFault}
+use Rattle.cm_dump.specs.declared.fault.LoadFault.TheVariants as faults
+
+-- one item, and then what is read with it; the first fault is the answer
+infixl 10 ◌>>=◌
+abbrev pub ◌>>=◌ : {A B : Type 0} → Result A LoadFault → (A → Result B LoadFault) → Result B LoadFault
+(Ok x) >>= f = f x
+(Err e) >>= f = Err e
+
+-- the item of n bytes at an offset: it is cut off where there are fewer bytes
+unfoldable pub item_at : List ℕ → ℕ → ℕ → Result (List ℕ) LoadFault
+item_at bytes at n = if nat_lt (length bytes) (at + n) then Err (faults.Truncated (length bytes)) else Ok (take n (drop at bytes))
+
+-- the byte at an offset, from low to high
+unfoldable pub byte_at : List ℕ → ℕ → ℕ → ℕ → Result ℕ LoadFault
+byte_at bytes at low high = do
+  item ← item_at bytes at 1
+  let b = slice_index item 0
+  if nat_le low b && nat_le b high then Ok b else Err (faults.BadField at)
+
+-- the number of four bytes at an offset, from low to high
+unfoldable pub number_at : List ℕ → ℕ → ℕ → ℕ → Result ℕ LoadFault
+number_at bytes at low high = do
+  item ← item_at bytes at 4
+  let x = from_le_bytes w32 item
+  if nat_le low x && nat_le x high then Ok x else Err (faults.BadField at)
+
+-- nothing follows an offset
+unfoldable pub end_at : List ℕ → ℕ → Result (Unit {0}) LoadFault
+end_at bytes at = if nat_lt at (length bytes) then Err faults.Trailing else Ok tt
+
+-- Want of memory, and a source that fails, may come at any time. Any other fault is the one that the bytes have.
+abbrev pub Fails : {Y : Type 0} → LoadFault → Result Y LoadFault → Type 0
+Fails faults.Memory read = Unit {0}
+Fails faults.Read read = Unit {0}
+Fails f read = read ≡ Err f
+
+-- What a call answered, seen by view, is what the bytes have.
+abbrev pub Answers : {X Y : Type 0} → (X → Y) → Result X LoadFault → Result Y LoadFault → Type 0
+Answers view (Ok x) read = read ≡ Ok (view x)
+Answers view (Err e) read = Fails e read
+
+-- The source stands at this offset, where it tells its bytes.
+abbrev pub IsAt : Option (List ℕ) → ℕ → ℕ → Type 0
+IsAt told place at = ForSome told (λ bytes. (place ≡ at) × (at ≤ length bytes))
+
+-- A call answers `Read` exactly where the count of faults rose.
+abbrev pub HasLoadCause : {T : Type 0} → ℕ → ℕ → Result T LoadFault → Type 0
+HasLoadCause before now (Ok x) = now ≡ before
+HasLoadCause before now (Err faults.Read) = (before ≤ now) × Rose before now
+HasLoadCause before now (Err f) = now ≡ before

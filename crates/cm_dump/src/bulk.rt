@@ -1,0 +1,46 @@
+//! An item of many bytes.
+ghost use Rattle.std.specs.Prelude.{◌≡◌, ◌+◌, ◌<◌, ◌≤◌, ◌^◌, ℕ, List, Option, OnOk, IfOk, length};
+ghost use Rattle.std.specs.Option.{ForSome};
+ghost use Rattle.cm_dump.specs.Reading.{Answers, IsAt, HasLoadCause, item_at};
+
+use crate::LoadFault;
+use crate::items::item;
+use cm_outer::Source;
+use std::alloc::Global;
+
+/// How many bytes are read at a time.
+const CHUNK: u64 = 4096;
+
+/// The item of `n` bytes at this offset. Memory is taken as the bytes come, whatever `n` is.
+pub(crate) fn long_item<S: Source>(
+    alloc: Global,
+    source: &mut S,
+    at: u64,
+    n: u64,
+) -> Result<Vec<u8>, LoadFault>
+    requires room { at + n < 2 ^ 62 }
+    requires at { IsAt (S.told source.old) (S.place source.old) at }
+    ensures told { S.told source.new ≡ S.told source.old }
+    ensures at { OnOk result (IsAt (S.told source.new) (S.place source.new) (at + n)) }
+    ensures size { IfOk result (λ v. length v.items ≡ n) }
+    ensures exact { ForSome (S.told source.old) (λ bytes. Answers (λ v. v.items) result (item_at bytes at n)) }
+    ensures cause { HasLoadCause (S.faults source.old) (S.faults source.new) result }
+{
+    let mut all = Vec::new(alloc);
+    let mut buf = [0u8; 4096];
+    let mut done = 0;
+    while done < n {
+        let want = (n - done).min(CHUNK);
+        let part = &mut buf[..want as usize];
+        match item(source, at + done, part) {
+            Err(fault) => return Err(fault),
+            Ok(()) => {}
+        }
+        match all.extend_from_slice(part) {
+            Err(_) => return Err(LoadFault::Memory),
+            Ok(()) => {}
+        }
+        done += want;
+    }
+    Ok(all)
+}

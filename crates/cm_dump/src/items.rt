@@ -1,0 +1,93 @@
+//! The items of a file, each read at its offset and checked. A source that stands there gives the item, or the first fault of
+//! what it tells.
+ghost use Rattle.std.specs.Prelude.{◌≡◌, ◌+◌, ◌<◌, ◌≤◌, ◌^◌, ℕ, List, Option, OnOk, IfOk, length};
+ghost use Rattle.std.specs.Option.{ForSome};
+ghost use Rattle.cm_dump.specs.Reading.{Answers, IsAt, HasLoadCause, item_at, byte_at, number_at, end_at};
+
+use crate::LoadFault;
+use cm_outer::{Failed, Source};
+
+/// Fills the buffer with the item at this offset, in bytes from 0, where the source stands.
+pub(crate) fn item<S: Source>(source: &mut S, at: u64, buf: &mut [u8]) -> Result<(), LoadFault>
+    requires room { at + length buf.old < 2 ^ 63 }
+    requires at { IsAt (S.told source.old) (S.place source.old) at }
+    ensures told { S.told source.new ≡ S.told source.old }
+    ensures at { OnOk result (IsAt (S.told source.new) (S.place source.new) (at + length buf.old)) }
+    ensures exact { ForSome (S.told source.old) (λ bytes. Answers (λ _. buf.new) result (item_at bytes at (length buf.old))) }
+    ensures cause { HasLoadCause (S.faults source.old) (S.faults source.new) result }
+{
+    let mut got = 0;
+    while got < buf.len() {
+        match source.read(&mut buf[got..]) {
+            Err(Failed) => return Err(LoadFault::Read),
+            Ok(0) => return Err(LoadFault::Truncated {
+                at: at + got as u64,
+            }),
+            Ok(n) => got += n,
+        }
+    }
+    Ok(())
+}
+
+/// The byte at this offset, which is to be from `low` to `high`.
+#[tactic(auto, unfolding(crate::specs::Reading::byte_at))]
+pub(crate) fn byte<S: Source>(source: &mut S, at: u64, low: u8, high: u8) -> Result<u8, LoadFault>
+    requires room { at + 1 < 2 ^ 63 }
+    requires at { IsAt (S.told source.old) (S.place source.old) at }
+    ensures told { S.told source.new ≡ S.told source.old }
+    ensures at { OnOk result (IsAt (S.told source.new) (S.place source.new) (at + 1)) }
+    ensures range { IfOk result (λ b. (low ≤ b) × (b ≤ high)) }
+    ensures exact { ForSome (S.told source.old) (λ bytes. Answers (λ b. b) result (byte_at bytes at low high)) }
+    ensures cause { HasLoadCause (S.faults source.old) (S.faults source.new) result }
+{
+    let mut buf = [0; 1];
+    item(source, at, &mut buf)?;
+    let b = buf[0];
+    if low <= b && b <= high {
+        Ok(b)
+    } else {
+        Err(LoadFault::BadField { at })
+    }
+}
+
+/// The number of four bytes at this offset, which is to be from `low` to `high`.
+#[tactic(auto, unfolding(crate::specs::Reading::number_at))]
+pub(crate) fn number<S: Source>(
+    source: &mut S,
+    at: u64,
+    low: u32,
+    high: u32,
+) -> Result<u32, LoadFault>
+    requires room { at + 4 < 2 ^ 63 }
+    requires at { IsAt (S.told source.old) (S.place source.old) at }
+    ensures told { S.told source.new ≡ S.told source.old }
+    ensures at { OnOk result (IsAt (S.told source.new) (S.place source.new) (at + 4)) }
+    ensures range { IfOk result (λ x. (low ≤ x) × (x ≤ high)) }
+    ensures exact { ForSome (S.told source.old) (λ bytes. Answers (λ x. x) result (number_at bytes at low high)) }
+    ensures cause { HasLoadCause (S.faults source.old) (S.faults source.new) result }
+{
+    let mut buf = [0; 4];
+    item(source, at, &mut buf)?;
+    let x = u32::from_le_bytes(buf);
+    if low <= x && x <= high {
+        Ok(x)
+    } else {
+        Err(LoadFault::BadField { at })
+    }
+}
+
+/// Nothing is to follow this offset.
+#[tactic(auto, unfolding(crate::specs::Reading::end_at))]
+pub(crate) fn end<S: Source>(source: &mut S, at: u64) -> Result<(), LoadFault>
+    requires at { IsAt (S.told source.old) (S.place source.old) at }
+    ensures told { S.told source.new ≡ S.told source.old }
+    ensures exact { ForSome (S.told source.old) (λ bytes. Answers (λ x. x) result (end_at bytes at)) }
+    ensures cause { HasLoadCause (S.faults source.old) (S.faults source.new) result }
+{
+    let mut buf = [0; 1];
+    match source.read(&mut buf) {
+        Err(Failed) => Err(LoadFault::Read),
+        Ok(0) => Ok(()),
+        Ok(_) => Err(LoadFault::Trailing),
+    }
+}
