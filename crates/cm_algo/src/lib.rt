@@ -1,12 +1,14 @@
 //! Builds: from a pass of keys to the cells of the first seed that works, for any scheme, any table and any incidence.
 #![tactic(auto)]
 
+mod answers;
 mod cells;
 mod fault;
 mod passes;
 mod scheme;
 mod seeds;
 
+pub use crate::answers::Answers;
 pub use crate::cells::assign;
 pub use crate::fault::BuildFault;
 pub use crate::scheme::Scheme;

@@ -1,13 +1,12 @@
 -- CHM's rule keeps the laws of a rule.
-use Rattle.std.specs.Prelude.{◌≡◌, ◌≢◌, ℕ, zero, suc, ◌+◌, ◌*◌, ◌/◌, ◌%◌, ◌<◌, ◌≤◌, ◌==◌, if◌then◌else◌, List, [], ◌∷◌, length, slice_index, max, refl, All, AllPairs}
-use Rattle.std.proofs.Common.{arith, ap, sym, ◌∙◌, ◌⊎◌, inl, inr, cond, eqb, true, false, Bool, get_or, rules}
+use Rattle.std.specs.Prelude.{◌≡◌, ◌≢◌, ℕ, zero, suc, ◌+◌, ◌*◌, ◌/◌, ◌%◌, ◌<◌, ◌≤◌, List, [], ◌∷◌, length, slice_index, refl, All, AllPairs}
+use Rattle.std.proofs.Common.{arith, ap, sym, ◌∙◌, ◌⊎◌, inl, inr, cond, eqb, true, false, Bool}
 use Rattle.std.proofs.lemmas.Nat.{mod_below, div_below}
 use Rattle.std.proofs.Math.Nat.{mod-eq_of_lt, zero-mod, mod_self, mul-le-mul_left, mul_comm}
 use Rattle.std.proofs.lemmas.Bool.{cases_eq, cases_lt, eq-eqb, ne_eqb}
-use Rattle.std.proofs.lemmas.Grind.{common_steps}
-use Rattle.cm_spec.specs.Chm.{chm_size, chm_second, chm_edge, chm_rule}
+use Rattle.cm_spec.specs.Chm.{chm_second, chm_edge, chm_rule}
 use Rattle.cm_spec.specs.Graph.{IsEdge}
-use Rattle.cm_spec.specs.Rule.{Rule, IsCount, IsRatio, IsSize, IsRule}
+use Rattle.cm_spec.specs.Rule.{IsSize, IsRule}
 
 size_least : (n : ℕ) → IsSize chm_rule n → 2 ≤ n
 size_least n s = omega (arith, s.is)

@@ -1,1 +1,2 @@
 pub mod ChmLaws
+pub mod Numbering

@@ -1,7 +1,7 @@
 //! A CHM function.
 ghost use Rattle.std.specs.Prelude.{◌≡◌, ℕ, ◌<◌, ◌≤◌, length};
-ghost use Rattle.cm_spec.specs.Chm.{chm_size};
-ghost use Rattle.cm_spec.specs.Rule.{IsRatio};
+ghost use Rattle.cm_spec.specs.Chm.{chm_size, chm_rule};
+ghost use Rattle.cm_spec.specs.Rule.{IsRatio, IsSize};
 
 use cm_algo::Built;
 use cm_bits::{Cells, Fields};
@@ -69,6 +69,7 @@ impl Chm {
         ensures cells { ⟦<Fields as Cells>⟧.cells result.now ≡ self.now.cells }
         ensures bound { ⟦<Fields as Cells>⟧.bound_of result.now ≡ self.now.keys }
         ensures size { length self.now.cells ≡ chm_size self.now.keys self.now.ratio }
+        ensures vertices { IsSize chm_rule (length self.now.cells) }
     {
         &self.built.cells
     }

@@ -1,0 +1,58 @@
+ghost use Rattle.std.specs.Prelude.{◌≡◌, ℕ, ◌<◌, ◌≤◌, IfOk};
+ghost use Rattle.std.specs.Option.{ForSome};
+ghost use Rattle.cm_spec.specs.Chm.{chm_size};
+ghost use Rattle.cm_spec.specs.Rule.{IsRatio};
+
+use crate::{Chm, answers_numbers};
+use cm_algo::{Answers, Built};
+use cm_bits::{Cells, Fields};
+use std::alloc::{AllocError, Global};
+use std::test::Fail;
+
+/// The function of these parts, with n cells that are all 0 but for one that is 1.
+fn function(
+    alloc: Global,
+    m: u32,
+    c: u32,
+    seed: u32,
+    n: u32,
+    one: Option<u32>,
+) -> Result<Chm, AllocError>
+    requires keys { (1 ≤ m) × (m ≤ 16777216) }
+    requires ratio { IsRatio c }
+    requires size { n ≡ chm_size m c }
+    requires room { n ≤ 671088645 }
+    requires one { ForSome one (λ v. (v < n) × (1 < m)) }
+{
+    let mut cells = Fields::zeroed(alloc, n, m)?;
+    if let Some(v) = one {
+        cells.set(v, 1);
+    }
+    Ok(Chm::from_built(Built { m, c, seed, cells }))
+}
+
+fn answer<A: Answers>(function: &A, key: &[u8]) -> Option<u32> {
+    function.answer(key)
+}
+
+fn span<A: Answers>(function: &A) -> u32 {
+    function.span()
+}
+
+#[test]
+fn worked_functions(rt: HostRuntime) -> Result<(), Fail> {
+    let alloc = rt.alloc();
+    answers_numbers();
+    let one_key = function(alloc, 1, 2_090_000, 0, 3, None)?;
+    assert_eq!(rt; span(&one_key), 1);
+    assert_eq!(rt; answer(&one_key, b""), Some(0));
+    assert_eq!(rt; answer(&one_key, b"no key"), Some(0));
+    let empty_and_a = function(alloc, 2, 2_090_000, 0, 5, Some(2))?;
+    assert_eq!(rt; span(&empty_and_a), 2);
+    assert_eq!(rt; answer(&empty_and_a, b""), Some(0));
+    assert_eq!(rt; answer(&empty_and_a, b"a"), Some(1));
+    let a_and_b = function(alloc, 2, 1_500_000, 1, 3, Some(0))?;
+    assert_eq!(rt; answer(&a_and_b, b"a"), Some(0));
+    assert_eq!(rt; answer(&a_and_b, b"b"), Some(1));
+    Ok(())
+}
