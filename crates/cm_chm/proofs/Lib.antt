@@ -1,1 +1,1 @@
-mod NumberingLemmas
+pub mod NumberingLemmas

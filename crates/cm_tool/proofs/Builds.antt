@@ -24,11 +24,11 @@ chm_by_parts f keys c m r cells =
     ∙ ap (λ (k : ℕ). let g : Chm = record { keys = length keys; ratio = k; seed = f.seed; cells = f.cells } in g) r
     ∙ ap (λ (xs : List ℕ). let g : Chm = record { keys = length keys; ratio = c; seed = f.seed; cells = xs } in g) cells
 
-pub chm_from : (told : Told) (c : ℕ) (seeds : List ℕ) (f : Chm) (m seed : ℕ) (cells : List ℕ) (k before after : ℕ) → told.fault ≡ None → 1 ≤ m → IsBuilt chm_rule told.keys c seeds m seed cells k before after
+pub chm_from : (told : Told) (c : ℕ) (seeds : List ℕ) (f : Chm) (m seed : ℕ) (cells : List ℕ) (k before after : ℕ) → told.fault ≡ None → 1 ≤ m → m ≤ 16777216 → IsBuilt chm_rule told.keys c seeds m seed cells k before after
     → f.keys ≡ m → f.ratio ≡ c → f.seed ≡ seed → f.cells ≡ cells → IsChmOf told c seeds f
-chm_from told c seeds f m seed cells k before after fine some built keys_are ratio_is seed_is cells_are = record {
+chm_from told c seeds f m seed cells k before after fine some few built keys_are ratio_is seed_is cells_are = record {
   no_fault = fine;
-  some = omega (arith, some, built.many);
+  many = (omega (arith, some, built.many), omega (arith, few, built.many));
   chosen = built.chosen ∙ ap Some (sym seed_is);
   first = (built.place, subst (λ (s : ℕ). IsFirst chm_rule told.keys c seeds built.place s) (sym seed_is) built.first);
   is = chm_by_parts f told.keys c (keys_are ∙ built.many) ratio_is (cells_are ∙ built.cells_are ∙ ap (λ (s : ℕ). cells_under chm_rule told.keys c s) (sym seed_is));

@@ -1,5 +1,8 @@
 -- From the end of a job to what the top call promises.
-use Rattle.std.proofs.Common.{◌≡◌, ◌≢◌, ◌∙◌, ◌⊎◌, ℕ, ◌<◌, ◌≤◌, ◌^◌, List, [], ◌∷◌, ◌++◌, length, take, Option, None, Some, Ok, Err, inl, inr, refl, ap, sym, subst, arith, append-nil}
+use Rattle.std.proofs.Common.{◌≡◌, ◌≢◌, ◌∙◌, ◌⊎◌, ℕ, ◌<◌, ◌≤◌, ◌^◌, List, [], ◌∷◌, ◌++◌, length, take, Option, None, Some, Ok, Err, inl, inr, refl, ap, sym, subst, arith, append-nil, Bool, cond}
+use Rattle.std.specs.Ordering.{nat_cmp}
+use Rattle.std.specs.Cmp.{eq_by_cmp_equiv}
+use Rattle.std.specs.Cmp.Lexicographic.{slice_cmp, nat_list_cmp_total}
 use Rattle.std.specs.Option.{ForSome, option_map}
 use Rattle.std.specs.FinMap as map
 use Rattle.cm_outer.specs.Files.{Files, file_at, with_file}
@@ -7,7 +10,11 @@ use Rattle.cm_outer.specs.Passes.{Told}
 use Rattle.cm_outer.specs.Writing.{then_bytes}
 use Rattle.cm_outer.specs.declared.key_pass.KeyFault.{KeyFault}
 use Rattle.cm_outer.specs.declared.key_pass.KeyFault.TheVariants as key_fault
-use Rattle.cm_spec.specs.Built.{chm_under, first_seed}
+use Rattle.cm_chm.proofs.NumberingLemmas.{answers_numbers}
+use Rattle.cm_chm.specs.Numbering.{AnswersNumbers}
+use Rattle.cm_peel.proofs.Core.{empty_rest}
+use Rattle.cm_spec.specs.Built.{chm_under, first_seed, graph_of}
+use Rattle.cm_spec.specs.Rounds.{rest_of}
 use Rattle.cm_spec.specs.Chm.{Chm, chm_rule}
 use Rattle.cm_spec.specs.Dump.{chm_dump}
 use Rattle.cm_tool.specs.Ends.{Says, message_of, status_of}
@@ -16,7 +23,7 @@ use Rattle.cm_tool.specs.Leaves.{Differs, IsFunctionOf, IsPart, IsRefused, Leave
 use Rattle.cm_tool.specs.Messages.{bad_arguments, no_keys, no_seed}
 use Rattle.cm_tool.specs.Outcome as outcomes
 use Rattle.cm_tool.specs.Outcome.{Outcome, build_over, fault_message, job_outcome, keys_in, outcome_of, ratio, refusal, saving, seeds_tried, with_seed}
-use Rattle.cm_tool.specs.Run.{IfJob, IsCored, IsMessage, Reaches, SavedPart, TookFirst}
+use Rattle.cm_tool.specs.Run.{IfJob, IsCored, IsMessage, Reaches, SavedNumbers, SavedPart, TookFirst}
 use Rattle.cm_tool.specs.declared.stop.Stop.{Stop}
 use Rattle.cm_tool.specs.declared.stop.Stop.TheVariants.{Memory, Read, Write, Cored, Changed, NoKeys, TooLong, TooMany}
 
@@ -47,7 +54,7 @@ there words job files bytes o asks file is = ap (job_outcome files) asks ∙ ap 
 pub outcome_saving : (words : List (List ℕ)) (job : Job) (files : Files) (bytes : List ℕ) (f : Chm) → job_of words ≡ Some job → file_at files job.keys ≡ Some bytes → IsFunctionOf job bytes f → outcome_of words files ≡ Some (saving job files (chm_dump f))
 outcome_saving words job files bytes f asks file made =
     let keys = (keys_in bytes).keys in
-    there words job files bytes _ asks file (over_some job files keys (keys_in bytes).fault made.no_fault made.some ∙ ap (with_seed job files keys) made.chosen ∙ ap (λ (g : Chm). saving job files (chm_dump g)) (sym made.is))
+    there words job files bytes _ asks file (over_some job files keys (keys_in bytes).fault made.no_fault (omega (arith, made.many.0)) ∙ ap (with_seed job files keys) made.chosen ∙ ap (λ (g : Chm). saving job files (chm_dump g)) (sym made.is))
 
 -- a refusal for the keys alone is the outcome
 pub outcome_refused : (words : List (List ℕ)) (job : Job) (files : Files) (stop : Stop) → job_of words ≡ Some job → IsRefused job files stop → status_of stop ≢ 4 → status_of stop ≢ 6 → outcome_of words files ≡ Some (refusal (status_of stop) (message_of job.keys stop) files)
@@ -137,6 +144,20 @@ saved_part words job old new (Changed first again) files asks leaves is five = a
 saved_part words job old new NoKeys files asks leaves is five = absurd (omega arith)
 saved_part words job old new (TooLong line) files asks leaves is five = absurd (omega arith)
 saved_part words job old new TooMany files asks leaves is five = absurd (omega arith)
+
+-- the file of a path that was written
+written_at : (files : Files) (path bytes : List ℕ) → file_at (map.insert files path bytes) path ≡ Some bytes
+written_at files path bytes =
+    map.get-insert nat_list_cmp_total files path bytes path ∙ ap (λ (b : Bool). cond b (Some bytes) (map.get files path)) ((eq_by_cmp_equiv nat_list_cmp_total).refl path)
+
+pub saved_numbers : (words : List (List ℕ)) (job : Job) (old new : Option Files) (files : Files) → job_of words ≡ Some job → Leaves job old new (Ok tt) → old ≡ Some files → IfJob words (SavedNumbers files new)
+saved_numbers words job old new files asks leaves is =
+    let saves = leaves.2 files is in
+    let keys = (keys_in saves.0).keys in
+    let f = saves.1 in
+    let none : rest_of (graph_of chm_rule keys ratio f.seed) ≡ [] = empty_rest _ saves.3.first.1.empty in
+    let numbers : AnswersNumbers keys f = subst (AnswersNumbers keys) (sym saves.3.is) (answers_numbers keys ratio f.seed saves.3.many (omega arith, omega arith) none) in
+    (job, asks, (saves.0, f, map.insert files (target_of job.keys) leaves.0, saves.2, leaves.1 ∙ ap (with_file (target_of job.keys) leaves.0) is, written_at files (target_of job.keys) leaves.0 ∙ ap Some saves.4, numbers))
 
 -- the message of a job that stopped goes with its status
 pub message_is : (words : List (List ℕ)) (job : Job) (stop : Stop) → job_of words ≡ Some job → Differs stop → IsMessage words (status_of stop) (message_of job.keys stop)

@@ -12,6 +12,7 @@ use Rattle.cm_outer.specs.declared.key_pass.KeyFault.TheVariants as key_fault
 use Rattle.cm_spec.specs.Built.{first_seed, chm_under, IsFirst, AllCored}
 use Rattle.cm_spec.specs.Chm.{Chm, chm_rule}
 use Rattle.cm_spec.specs.Dump.{chm_dump}
+use Rattle.cm_spec.specs.Rule.{IsCount}
 use Rattle.cm_dump.specs.declared.writer.Func.{Func}
 use Rattle.cm_dump.specs.declared.writer.Func.TheVariants as func
 use Rattle.cm_tool.specs.Job.{Job, target_of}
@@ -34,7 +35,7 @@ HasStopCause r r' w w' (Err TooMany) = (r' ≡ r) × (w' ≡ w)
 -- the function of told keys: that of the first seed whose graph has an empty 2-core
 pub record IsChmOf (told : Told) (c : ℕ) (seeds : List ℕ) (f : Chm) : Type 0 where
   pub no_fault : told.fault ≡ None
-  pub some : 0 < length told.keys
+  pub many : IsCount (length told.keys)
   pub chosen : first_seed chm_rule told.keys c seeds ≡ Some f.seed
   pub first : (place : ℕ) × IsFirst chm_rule told.keys c seeds place f.seed
   pub is : f ≡ chm_under told.keys c f.seed

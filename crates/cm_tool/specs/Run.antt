@@ -1,5 +1,6 @@
 -- What the top call promises, in words over the command line and the files.
 use Rattle.std.specs.Prelude.{◌≡◌, ◌≢◌, ◌⊎◌, ℕ, List, [], ◌∷◌, Option, Some, true}
+use Rattle.cm_chm.specs.Numbering.{AnswersNumbers}
 use Rattle.cm_outer.specs.Files.{Files, file_at}
 use Rattle.cm_outer.specs.Writing.{then_bytes}
 use Rattle.cm_spec.specs.Built.{IsFirst, AllCored}
@@ -7,7 +8,7 @@ use Rattle.cm_spec.specs.Chm.{Chm, chm_rule}
 use Rattle.cm_spec.specs.Dump.{chm_dump}
 use Rattle.cm_spec.specs.Lists.{has}
 use Rattle.cm_tool.specs.Ends.{Says}
-use Rattle.cm_tool.specs.Job.{Job, job_of}
+use Rattle.cm_tool.specs.Job.{Job, job_of, target_of}
 use Rattle.cm_tool.specs.Leaves.{IsPart}
 use Rattle.cm_tool.specs.Messages.{bad_arguments, no_seed, out_of_memory, cannot_read, cannot_write, keys_changed, no_keys, line_too_long, too_many_keys}
 use Rattle.cm_tool.specs.Outcome.{Outcome, keys_in, outcome_of, ratio, saving, seeds_tried}
@@ -32,6 +33,10 @@ pub record Reaches (words : List (List ℕ)) (files : Files) (status : ℕ) (out
 -- a build took the first seed whose graph of the keys has an empty 2-core
 abbrev pub TookFirst : Files → Job → Type 0
 TookFirst files job = (bytes : List ℕ) × (place : ℕ) × (seed : ℕ) × (file_at files job.keys ≡ Some bytes) × IsFirst chm_rule (keys_in bytes).keys ratio (seeds_tried job) place seed
+
+-- the function file holds the dump of a function that answers each key with its number
+abbrev pub SavedNumbers : Files → Option Files → Job → Type 0
+SavedNumbers files new job = (bytes : List ℕ) × (f : Chm) × (after : Files) × (file_at files job.keys ≡ Some bytes) × (new ≡ Some after) × (file_at after (target_of job.keys) ≡ Some (chm_dump f)) × AnswersNumbers (keys_in bytes).keys f
 
 -- under every seed the graph of the keys has a 2-core with an edge
 abbrev pub IsCored : Files → Job → Type 0

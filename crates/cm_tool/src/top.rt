@@ -5,7 +5,7 @@ ghost use Rattle.cm_outer.specs.Files.{with_file};
 ghost use Rattle.cm_tool.specs.Ends.{Says};
 ghost use Rattle.cm_tool.specs.Job.{target_of};
 ghost use Rattle.cm_tool.specs.Outcome.{outcome_of};
-ghost use Rattle.cm_tool.specs.Run.{IsStatus, IfJob, Reaches, TookFirst, IsCored, SavedPart, IsMessage};
+ghost use Rattle.cm_tool.specs.Run.{IsStatus, IfJob, Reaches, TookFirst, SavedNumbers, IsCored, SavedPart, IsMessage};
 
 use crate::building::build_file;
 use crate::job::read_words;
@@ -39,6 +39,9 @@ pub fn run<D: Disk, O: Sink, E: Sink>(
     // A build takes the first seed whose graph has an empty 2-core, and is refused where there is none.
     ensures first { result ≡ 0 → ForSome (D.files disk.old) (λ files. IfJob (map string_bytes words.now) (TookFirst files)) }
     ensures cored { result ≡ 1 → ForSome (D.files disk.old) (λ files. IfJob (map string_bytes words.now) (IsCored files)) }
+
+    // The function file then holds the dump of a function that answers each key with its number.
+    ensures numbers { result ≡ 0 → ForSome (D.files disk.old) (λ files. IfJob (map string_bytes words.now) (SavedNumbers files (D.files disk.new))) }
 
     // Told files never change between passes.
     ensures unchanged { ForSome (D.files disk.old) (λ _. result ≢ 7) }

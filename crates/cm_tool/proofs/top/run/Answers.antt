@@ -3,7 +3,7 @@ use Rattle.std.specs.Prelude.{string_bytes}
 use Rattle.cm_tool.specs.Job.{job_of}
 use Rattle.cm_tool.specs.Jobs.{job_seen}
 use Rattle.cm_tool.specs.Ends.{message_of, status_of}
-use Rattle.cm_tool.proofs.Outcomes.{stopped, finished, misused, took_first, is_cored, saved_part, message_is, silent, nothing_said}
+use Rattle.cm_tool.proofs.Outcomes.{stopped, finished, misused, took_first, saved_numbers, is_cored, saved_part, message_is, silent, nothing_said}
 use Rattle.cm_tool.proofs.top.run.Goals as goal
 
 pub returns-in_default-clause-outcome : goal.returns-in_default-clause-outcome
@@ -14,6 +14,9 @@ returns-in-Ok-clause-outcome g c = λ _ _ _ files is. finished (map string_bytes
 
 pub returns-in-Ok-clause-first : goal.returns-in-Ok-clause-first
 returns-in-Ok-clause-first g c = λ _ files is. took_first (map string_bytes c.args.words.now) (job_seen c.in-Some.job) _ _ files (sym c.in-Some.ensures) c.in-Ok.ensures.leaves is
+
+pub returns-in-Ok-clause-numbers : goal.returns-in-Ok-clause-numbers
+returns-in-Ok-clause-numbers g c = λ _ files is. saved_numbers (map string_bytes c.args.words.now) (job_seen c.in-Some.job) _ _ files (sym c.in-Some.ensures) c.in-Ok.ensures.leaves is
 
 pub returns-in-Ok-clause-err : goal.returns-in-Ok-clause-err
 returns-in-Ok-clause-err g c = ([], silent (map string_bytes c.args.words.now), nothing_said _ _)
