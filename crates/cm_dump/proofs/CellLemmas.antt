@@ -24,9 +24,9 @@ few_cells m c some few ratio =
     chm_is_rule.few (chm_size m c) size
 
 -- an image of cells is short enough to be counted
-pub cells_near : (m n : ℕ) → m ≤ MAX_KEYS → n ≤ 671088645 → fields_len (width_of m) n < 2 ^ 33
+pub cells_near : (m n : ℕ) → m ≤ 67108864 → n ≤ 671088645 → fields_len (width_of m) n < 2 ^ 33
 cells_near m n small few =
-    let w = width-fits m (omega (arith, small)) in
+    let w = width-fits m small in
     let le : n * width_of m ≤ n * 26 = mul-le-mul_left n w.1 in
     omega (arith, le, few)
 

@@ -2,3 +2,4 @@ mod Pieces
 pub mod ItemLemmas
 pub mod ChunkLemmas
 pub mod CellLemmas
+pub mod SpellingLemmas

@@ -6,9 +6,10 @@ mod fault;
 mod front;
 mod image;
 mod items;
+pub mod laws;
 mod reader;
 mod writer;
 
 pub use crate::fault::LoadFault;
 pub use crate::reader::load;
-pub use crate::writer::{Func, save};
+pub use crate::writer::{Func, save, saved_len};

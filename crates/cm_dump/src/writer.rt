@@ -6,7 +6,7 @@ ghost use Rattle.cm_spec.specs.Dump.{header, chm_dump};
 ghost use Rattle.cm_dump.specs.Dumps.{dump_of};
 
 use crate::image::save_image;
-use cm_bits::Cells;
+use cm_bits::{Cells, Fields};
 use cm_chm::Chm;
 use cm_outer::{Failed, Sink, write_pieces};
 
@@ -60,5 +60,23 @@ pub fn save<O: Sink>(function: &Func, out: &mut O) -> Result<(), Failed>
 {
     match function {
         Func::Chm(chm) => save_chm(chm, out),
+    }
+}
+
+/// How many bytes the dump of a CHM function has.
+#[tactic(auto, using(crate::proofs::SpellingLemmas::chm_dump_len))]
+fn chm_len(chm: &Chm) -> u64
+    ensures { result ≡ length (chm_dump chm.now) }
+{
+    let cells = chm.cells();
+    24 + Fields::image_len(cells.len(), cells.bound())
+}
+
+/// How many bytes the dump of a function has. It takes no memory.
+pub fn saved_len(function: &Func) -> u64
+    ensures { result ≡ length (dump_of function.now) }
+{
+    match function {
+        Func::Chm(chm) => chm_len(chm),
     }
 }

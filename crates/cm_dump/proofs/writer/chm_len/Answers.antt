@@ -1,0 +1,17 @@
+use Rattle.std.proofs.Common.{arith, ap, ◌≡◌, ◌∙◌, ◌≤◌, ◌<◌, ◌^◌, length}
+use Rattle.cm_bits.specs.Fault.{bytes_number}
+use Rattle.cm_bits.specs.FieldsLaws.{field_room_for}
+use Rattle.cm_dump.proofs.CellLemmas.{cells_near}
+use Rattle.cm_dump.proofs.writer.chm_len.Goals as goal
+
+pub image_len-requires-clause-room : goal.image_len-requires-clause-room
+image_len-requires-clause-room c =
+    let t = c.cells-cells.result.now in
+    omega (arith, c.len.ensures, field_room_for t.width t.n (bytes_number t.bytes.items) t.in_room)
+
+pub overflow_add-result : goal.overflow_add-result
+overflow_add-result c =
+    let t = c.cells-cells.result.now in
+    let room : c.len.result ≤ 671088645 = omega (arith, c.len.ensures, field_room_for t.width t.n (bytes_number t.bytes.items) t.in_room) in
+    let small : c.bound.result ≤ 67108864 = omega (arith, c.bound.ensures, t.small) in
+    omega (arith, c.image_len.ensures, cells_near c.bound.result c.len.result small room)
