@@ -1,13 +1,13 @@
 -- When bytes are an image of cells of w bits.
-use Rattle.std.specs.Prelude.{◌≡◌, ◌≢◌, ℕ, suc, ◌+◌, ◌-◌, ◌*◌, ◌/◌, ◌%◌, ◌^◌, ◌<◌, ◌≤◌, List, ◌++◌, length, slice_index, replicate, refl, nat_le, Some, None}
-use Rattle.std.specs.List.{position_or_len}
+use Rattle.std.specs.Prelude.{◌≡◌, ◌≢◌, ℕ, suc, ◌+◌, ◌-◌, ◌*◌, ◌/◌, ◌%◌, ◌^◌, ◌<◌, ◌≤◌, List, ◌++◌, length, slice_index, replicate, refl, nat_le, Option, Some, None}
+use Rattle.std.specs.List.{position, position_or_len}
 use Rattle.std.proofs.Common.{arith, ap, sym, ◌∙◌, inl, inr, lit<}
 use Rattle.std.proofs.Math.Nat.{pow-suc, zero-div, div-div-eq-div-mul, mod-eq_of_lt, div-eq_of_lt, one-le-pow, div-add-mod}
 use Rattle.std.proofs.lemmas.Nat.{mod_below, div_below, pow_pos}
 use Rattle.std.proofs.lemmas.Bool.{cases_lt, leb-false, lt-leb, le-leb}
 use Rattle.std.proofs.lemmas.List.{get_or_past, get_or_append_left, get_or-append_right, length-append}
 use Rattle.std.proofs.lemmas.List.FromFn.{fill_by_all}
-use Rattle.std.proofs.lemmas.List.Sums.{position_or_len_is, fails_before_first}
+use Rattle.std.proofs.lemmas.List.Sums.{fails_before_first}
 use Rattle.cm_spec.specs.Image.{digits_sum, fields_len, fields_byte}
 use Rattle.cm_spec.specs.Lists.{list_of}
 use Rattle.cm_bits.specs.Bound.{AllBelow}
@@ -15,8 +15,9 @@ use Rattle.cm_bits.specs.declared.fault.ImageFault.TheVariants.{BadCell, BadPadd
 use Rattle.cm_bits.specs.Fault.{bytes_number, field_cells, fields_fault}
 use Rattle.cm_bits.specs.Held.{IsFields}
 use Rattle.cm_bits.specs.DigitsLaws.{digits_sum-same, digits_sum-lt, digit-digits_sum, digits_sum-short, pow_add, pow_pow}
-use Rattle.cm_bits.specs.FieldsLaws.{length-field_cells, field_cells-at, all_fields}
-use Rattle.cm_bits.proofs.FaultLemmas.{cell_fault, padding_fault, sound_fault}
+use Rattle.cm_bits.specs.FieldsLaws.{length-field_cells, field_cells-at}
+use Rattle.cm_bits.specs.FaultLaws.{no_fault}
+use Rattle.cm_bits.proofs.FaultLemmas.{cell_fault, padding_fault, sound_fault, found, not_found, finds, finds_none}
 use Rattle.cm_bits.proofs.FieldsLemmas.{fields_number-field_cells}
 use Rattle.cm_bits.proofs.PackedLemmas.{cell_of_zeros}
 
@@ -41,19 +42,35 @@ padding_is w n bytes len h =
           div-eq_of_lt (let p : 256 ^ length bytes ≡ 256 ^ a = ap (λ k. 256 ^ k) same in omega arith) ∙ sym (get_or_past bytes a 0 l)
     ]))
 
-pub fields_fault-at : (w n bound i : ℕ) (bytes : List ℕ) → i < n → ((k : ℕ) → k < i → bytes_number bytes / (2 ^ w) ^ k % 2 ^ w < bound) → bound ≤ bytes_number bytes / (2 ^ w) ^ i % 2 ^ w → fields_fault w n bound bytes ≡ Some (BadCell i)
-unfolding fields_fault
-fields_fault-at w n bound i bytes l h b =
-    let len : length (field_cells w n (bytes_number bytes)) ≡ n = length-field_cells w n (bytes_number bytes) in
-    let e : position_or_len (λ c. nat_le bound c) (field_cells w n (bytes_number bytes)) ≡ i =
-    position_or_len_is _ (field_cells w n (bytes_number bytes)) i 0 (omega arith)
-    (λ k m. rw (field_cells-at w n (bytes_number bytes) k (omega arith)) (lt-leb bound _ (h k m)))
-    (λ m. rw (field_cells-at w n (bytes_number bytes) i l) (le-leb bound _ b)) in
-    rw e (cell_fault n i _ _ l)
+-- the lowest cell that is not below the bound
+pub bad_at : (w n bound i number : ℕ) → i < n → ((k : ℕ) → k < i → number / (2 ^ w) ^ k % 2 ^ w < bound) → bound ≤ number / (2 ^ w) ^ i % 2 ^ w → position (λ c. nat_le bound c) (field_cells w n number) ≡ Some i
+bad_at w n bound i number l h b =
+    let len : length (field_cells w n number) ≡ n = length-field_cells w n number in
+    finds (λ c. nat_le bound c) (field_cells w n number) i (omega arith)
+    (λ k m. rw (field_cells-at w n number k (omega arith)) (lt-leb bound _ (h k m)))
+    (rw (field_cells-at w n number i l) (le-leb bound _ b))
 
-pub fields_fault-padding : (w n bound : ℕ) (bytes : List ℕ) → ((k : ℕ) → k < n → bytes_number bytes / (2 ^ w) ^ k % 2 ^ w < bound) → 0 < bytes_number bytes / (2 ^ w) ^ n → fields_fault w n bound bytes ≡ Some (BadPadding (length bytes - 1))
+pub bad_none : (w n bound number : ℕ) → ((k : ℕ) → k < n → number / (2 ^ w) ^ k % 2 ^ w < bound) → position (λ c. nat_le bound c) (field_cells w n number) ≡ None
+bad_none w n bound number h =
+    let len : length (field_cells w n number) ≡ n = length-field_cells w n number in
+    finds_none (λ c. nat_le bound c) (field_cells w n number) (λ k m. rw (field_cells-at w n number k (omega arith)) (lt-leb bound _ (h k (omega arith))))
+
+pub fields_fault-at : (w n bound i : ℕ) (bytes : List ℕ) → position (λ c. nat_le bound c) (field_cells w n (bytes_number bytes)) ≡ Some i → fields_fault w n bound bytes ≡ Some (BadCell i)
 unfolding fields_fault
-fields_fault-padding w n bound bytes h l = padding_fault n _ _ _ (all_fields w n bound (bytes_number bytes) h) l
+fields_fault-at w n bound i bytes e =
+    let both = found (λ c. nat_le bound c) (field_cells w n (bytes_number bytes)) i e in
+    rw both.0 (cell_fault n i _ _ (omega (arith, both.1, length-field_cells w n (bytes_number bytes))))
+
+all_sound : (w n bound number : ℕ) → position (λ c. nat_le bound c) (field_cells w n number) ≡ None → n ≤ position_or_len (λ c. nat_le bound c) (field_cells w n number)
+all_sound w n bound number e = omega (arith, not_found (λ c. nat_le bound c) (field_cells w n number) e, length-field_cells w n number)
+
+pub fields_fault-padding : (w n bound : ℕ) (bytes : List ℕ) → position (λ c. nat_le bound c) (field_cells w n (bytes_number bytes)) ≡ None → 0 < bytes_number bytes / (2 ^ w) ^ n → fields_fault w n bound bytes ≡ Some (BadPadding (length bytes - 1))
+unfolding fields_fault
+fields_fault-padding w n bound bytes e l = padding_fault n _ _ _ (all_sound w n bound (bytes_number bytes) e) l
+
+pub fields_fault-clear : (w n bound : ℕ) (bytes : List ℕ) → position (λ c. nat_le bound c) (field_cells w n (bytes_number bytes)) ≡ None → bytes_number bytes / (2 ^ w) ^ n ≡ 0 → fields_fault w n bound bytes ≡ None
+unfolding fields_fault
+fields_fault-clear w n bound bytes e l = no_fault n _ _ _ (all_sound w n bound (bytes_number bytes) e) l
 
 -- bytes are the image of the cells of their number
 pub image-fields : (w n : ℕ) (bytes : List ℕ) → length bytes ≡ fields_len w n → ((k : ℕ) → slice_index bytes k < 256) → bytes_number bytes < (2 ^ w) ^ n → bytes ≡ list_of (fields_byte w (field_cells w n (bytes_number bytes))) (fields_len w n)
@@ -127,6 +144,6 @@ fields_read w n bound bytes held len h is e =
       image = rw number (image-fields w n bytes len h clear);
     }
 
--- a cell read from bytes with zeros after them
-pub spare_cell : (w i cell : ℕ) (bytes held : List ℕ) → held ≡ bytes ++ replicate 8 0 → cell ≡ bytes_number held / (2 ^ w) ^ i % 2 ^ w → bytes_number bytes / (2 ^ w) ^ i % 2 ^ w ≡ cell
-spare_cell w i cell bytes held is e = sym (e ∙ ap (λ x. x / (2 ^ w) ^ i % 2 ^ w) (ap bytes_number is ∙ spare_number bytes))
+-- bytes with zeros after them have the same cells
+pub spare_search : (w n bound : ℕ) (r : Option ℕ) (bytes held : List ℕ) → held ≡ bytes ++ replicate 8 0 → r ≡ position (λ c. nat_le bound c) (field_cells w n (bytes_number held)) → position (λ c. nat_le bound c) (field_cells w n (bytes_number bytes)) ≡ r
+spare_search w n bound r bytes held is e = sym (e ∙ ap (λ x. position (λ c. nat_le bound c) (field_cells w n x)) (ap bytes_number is ∙ spare_number bytes))

@@ -80,8 +80,8 @@ width-is b w low high before at =
     omega arith
 
 -- the width of a table that serves its bound
-pub width-at : (b w : ℕ) → b ≤ 67108864 → w ≡ width_of b → (w ≤ 26) × (b ≤ 2 ^ w)
-width-at b w h e = let f = width-fits b h in (omega (arith, f.1), rw e f.2)
+pub width-at : (b w : ℕ) → b ≤ 67108864 → w ≡ width_of b → (w ≤ 26) × (b ≤ 2 ^ w) × (0 < w)
+width-at b w h e = let f = width-fits b h in (omega (arith, f.1), rw e f.2, omega (arith, f.0))
 
 pub field_inside : (w n number i : ℕ) → i < length (field_cells w n number) → i < n
 field_inside w n number i l = omega (arith, length-field_cells w n number)
@@ -162,7 +162,7 @@ IsFields-zero w n len bytes e z = rw z record {
 
 pub field_cells-zero : (w n len : ℕ) (bytes : List ℕ) → bytes ≡ replicate len 0 → field_cells w n (bytes_number bytes) ≡ replicate n 0
 field_cells-zero w n len bytes z =
-    let long : length (replicate n 0) ≡ n = length-replicate {A = ℕ} n 0 in
+    let long : length (replicate {A = ℕ} n 0) ≡ n = length-replicate {A = ℕ} n 0 in
     let count : length (field_cells w n (bytes_number bytes)) ≡ n = length-field_cells w n (bytes_number bytes) in
     ext_get_or 0 _ (replicate n 0) (count ∙ sym long) (λ i l.
     field_cells-at w n _ i (omega arith)

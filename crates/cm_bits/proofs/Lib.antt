@@ -1,4 +1,5 @@
 pub mod ByteLemmas
+pub mod ClearLemmas
 pub mod DigitsLemmas
 pub mod FaultLemmas
 pub mod FieldsFaultLemmas

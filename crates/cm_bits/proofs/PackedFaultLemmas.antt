@@ -1,10 +1,10 @@
 -- When packed bytes are an image.
-use Rattle.std.specs.Prelude.{◌≡◌, ◌≢◌, ℕ, suc, ◌+◌, ◌-◌, ◌*◌, ◌/◌, ◌%◌, ◌^◌, ◌<◌, ◌≤◌, Bool, List, length, slice_index, refl, nat_le, Some, None}
+use Rattle.std.specs.Prelude.{◌≡◌, ◌≢◌, ℕ, suc, ◌+◌, ◌-◌, ◌*◌, ◌/◌, ◌%◌, ◌^◌, ◌<◌, ◌≤◌, List, length, slice_index, refl, nat_le, Some, None}
 use Rattle.std.specs.List.{position_or_len, position}
 use Rattle.std.proofs.Common.{arith, ap, sym, ◌∙◌, inl, inr}
 use Rattle.std.proofs.Math.Nat.{zero-div, div-div-eq-div-mul, div-eq_of_lt-le, div-add-mod, mul-le-mul_left, zero-mod}
 use Rattle.std.proofs.lemmas.Nat.{div-mul-add, mod-mul-add}
-use Rattle.std.proofs.lemmas.Bool.{cases_lt, leb-false, lt-ltb, le-ltb, cond-true, cond-false}
+use Rattle.std.proofs.lemmas.Bool.{cases_lt, leb-false}
 use Rattle.std.proofs.lemmas.List.{get_or_past}
 use Rattle.std.proofs.lemmas.List.FromFn.{fill_by_all}
 use Rattle.std.proofs.lemmas.List.Sums.{fails_before_first}
@@ -17,7 +17,7 @@ use Rattle.cm_bits.specs.Held.{packed_cells, IsPacked}
 use Rattle.cm_bits.specs.DigitsLaws.{digits_sum-same, digits_sum-digits, pow_add}
 use Rattle.cm_bits.specs.FaultLaws.{no_fault}
 use Rattle.cm_bits.specs.PackedLaws.{length-packed_cells, packed_cells-at, le-packed_len}
-use Rattle.cm_bits.proofs.FaultLemmas.{cell_fault, padding_fault, sound_fault}
+use Rattle.cm_bits.proofs.FaultLemmas.{cell_fault, padding_fault, sound_fault, found, not_found}
 
 -- the first cell of a byte that is there is one of the cells
 first_lt : (p n k : ℕ) → 0 < p → k < packed_len p n → p * k < n
@@ -72,21 +72,6 @@ IsPacked-sound d p n bs h q len e =
 
 pub image-list : (d p n : ℕ) (bs : List ℕ) → IsPacked d p n bs → bs ≡ list_of (packed_byte d p (packed_cells d p n bs)) (packed_len p n)
 image-list d p n bs w = fill_by_all _ bs (packed_len p n) 0 w.len (λ k l. w.image k (omega (arith, w.len)))
-
-found : (f : ℕ → Bool) (bs : List ℕ) (k : ℕ) → position f bs ≡ Some k → (position_or_len f bs ≡ k) × (k < length bs)
-found f bs k e = elim (cases_lt (position_or_len f bs) (length bs)) [
-  | inl a ↦
-      let h : Some (position_or_len f bs) ≡ Some k = sym (cond-true _ _ _ (lt-ltb _ _ a)) ∙ e in
-      let same : position_or_len f bs ≡ k = cc in
-      (same, omega arith)
-  | inr a ↦ let h : None ≡ Some k = sym (cond-false _ _ _ (le-ltb _ _ a)) ∙ e in cc
-]
-
-not_found : (f : ℕ → Bool) (bs : List ℕ) → position f bs ≡ None → length bs ≤ position_or_len f bs
-not_found f bs e = elim (cases_lt (position_or_len f bs) (length bs)) [
-  | inl a ↦ let h : Some (position_or_len f bs) ≡ None = sym (cond-true _ _ _ (lt-ltb _ _ a)) ∙ e in cc
-  | inr a ↦ a
-]
 
 pub fault-large : (d p n k : ℕ) (bs : List ℕ) → 0 < p → length bs ≡ packed_len p n → position (λ b. nat_le (d ^ p) b) bs ≡ Some k → packed_fault d p n bs ≡ Some (BadCell (p * k))
 unfolding packed_fault

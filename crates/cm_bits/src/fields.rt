@@ -1,5 +1,5 @@
 // Cells of as many bits as the bound needs, one after another.
-ghost use Rattle.std.specs.Prelude.{◌≡◌, ◌+◌, ◌*◌, ◌/◌, ◌%◌, ◌^◌, ◌<◌, ◌≤◌, ◌++◌, length, slice_index, replicate, IfOk, ℕ};
+ghost use Rattle.std.specs.Prelude.{◌≡◌, ◌+◌, ◌*◌, ◌/◌, ◌%◌, ◌^◌, ◌<◌, ◌≤◌, ◌++◌, length, slice_index, replicate, position, nat_le, IfOk, ℕ};
 ghost use Rattle.cm_bits.specs.Bound.{AllBelow};
 ghost use Rattle.cm_bits.specs.Fault.{bytes_number, field_cells, fields_fault};
 ghost use Rattle.cm_bits.specs.FieldsLaws.{same_fields_bound, field_room_for, field_byte_lt, fields_fault-image};
@@ -7,6 +7,7 @@ ghost use Rattle.cm_bits.specs.Held.{IsFields};
 ghost use Rattle.cm_spec.specs.Image.{width_of, fields_byte, fields_len};
 ghost use Rattle.cm_bits.specs.declared.TheConstants.{MAX_CELLS, MAX_FIELD_BOUND};
 
+use crate::packed::first_byte_from;
 use crate::window::{part, put_window, window, with_part};
 use crate::{Cells, ImageFault};
 use std::alloc::{AllocError, Global};
@@ -148,18 +149,55 @@ fn cell(bytes: &[u8], i: u32, width: u32) -> u32
     part(window(bytes, (bit / 8) as usize), bit % 8, width)
 }
 
+// How many cells of `width` bits lie whole in the zero bytes that bytes begin with.
+fn clear_cells(bytes: &[u8], width: u32) -> u64
+    requires some { 0 < width }
+    requires room { length bytes.now < 2 ^ 60 }
+    ensures { (k : ℕ) → k < result → bytes_number bytes.now / (2 ^ width) ^ k % 2 ^ width ≡ 0 }
+{
+    let zeros = match first_byte_from(bytes, 1) {
+        Some(place) => place,
+        None => bytes.len(),
+    };
+    8 * zeros as u64 / width as u64
+}
+
+// The lowest of n cells that is not below the bound.
+fn bad_cell(held: &[u8], n: u32, width: u32, bound: u32) -> Option<u32>
+    requires some { 0 < width }
+    requires width { width ≤ 26 }
+    requires positive { 0 < bound }
+    requires bound { bound ≤ 2 ^ width }
+    requires whole { length held.now ≡ fields_len width n + 8 }
+    requires room { length held.now < 2 ^ 60 }
+    requires fit { (k : ℕ) → slice_index held.now k < 256 }
+    ensures { result ≡ position (λ c. nat_le bound c) (field_cells width n (bytes_number held.now)) }
+{
+    if bound == 1 << width {
+        return None;
+    }
+    let clear = clear_cells(held, width).min(n as u64) as u32;
+    for i in clear..n {
+        if cell(held, i, width) >= bound {
+            return Some(i);
+        }
+    }
+    None
+}
+
 // Why bytes, which `held` has with zeros after them, are no image of n cells.
 fn fault_in(held: &[u8], bytes: &[u8], n: u32, width: u32, bound: u32) -> Option<ImageFault>
     requires room { n ≤ MAX_CELLS }
+    requires some { 0 < width }
     requires width { width ≤ 26 }
+    requires positive { 0 < bound }
+    requires bound { bound ≤ 2 ^ width }
     requires whole { length bytes.now ≡ fields_len width n }
     requires held { held.now ≡ bytes.now ++ replicate 8 0 }
     ensures { result ≡ fields_fault width n bound bytes.now }
 {
-    for i in 0..n {
-        if cell(held, i, width) >= bound {
-            return Some(ImageFault::BadCell { cell: i });
-        }
+    if let Some(i) = bad_cell(held, n, width, bound) {
+        return Some(ImageFault::BadCell { cell: i });
     }
     let bit = n as u64 * width as u64;
     if bit % 8 != 0 {

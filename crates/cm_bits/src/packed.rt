@@ -152,11 +152,11 @@ impl<B: Packing> Cells for Packed<B> {
     }
 }
 
-// The place of the first byte that is at least `full`.
-fn first_large(bytes: &[u8], full: u32) -> Option<usize>
-    ensures { result ≡ position (λ b. nat_le full b) bytes.now }
+// The place of the first byte that is at least `low`.
+pub fn first_byte_from(bytes: &[u8], low: u32) -> Option<usize>
+    ensures { result ≡ position (λ b. nat_le low b) bytes.now }
 {
-    bytes.iter().position(|b| *b as u32 >= full)
+    bytes.iter().position(|b| *b as u32 >= low)
 }
 
 // Why bytes are no image of n cells.
@@ -166,7 +166,7 @@ fn fault_in<B: Packing>(n: u32, bytes: &[u8]) -> Option<ImageFault>
     ensures { result ≡ packed_fault B.BASE B.PER_BYTE n bytes.now }
 {
     let per_byte = B::PER_BYTE;
-    if let Some(place) = first_large(bytes, B::FULL) {
+    if let Some(place) = first_byte_from(bytes, B::FULL) {
         return Some(ImageFault::BadCell {
             cell: per_byte * place as u32,
         });
