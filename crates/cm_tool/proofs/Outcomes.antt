@@ -12,6 +12,9 @@ use Rattle.cm_outer.specs.declared.key_pass.KeyFault.{KeyFault}
 use Rattle.cm_outer.specs.declared.key_pass.KeyFault.TheVariants as key_fault
 use Rattle.cm_chm.proofs.NumberingLemmas.{answers_numbers}
 use Rattle.cm_chm.specs.Numbering.{AnswersNumbers}
+use Rattle.cm_dump.proofs.SpellingLemmas.{spelling_of-dump_of}
+use Rattle.cm_dump.specs.Spelling.{spelling_of}
+use Rattle.cm_dump.specs.declared.writer.Func.TheVariants as func
 use Rattle.cm_peel.proofs.Core.{empty_rest}
 use Rattle.cm_spec.specs.Built.{chm_under, first_seed, graph_of}
 use Rattle.cm_spec.specs.Rounds.{rest_of}
@@ -157,7 +160,8 @@ saved_numbers words job old new files asks leaves is =
     let f = saves.1 in
     let none : rest_of (graph_of chm_rule keys ratio f.seed) ≡ [] = empty_rest _ saves.3.first.1.empty in
     let numbers : AnswersNumbers keys f = subst (AnswersNumbers keys) (sym saves.3.is) (answers_numbers keys ratio f.seed saves.3.many (omega arith, omega arith) none) in
-    (job, asks, (saves.0, f, map.insert files (target_of job.keys) leaves.0, saves.2, leaves.1 ∙ ap (with_file (target_of job.keys) leaves.0) is, written_at files (target_of job.keys) leaves.0 ∙ ap Some saves.4, numbers))
+    let spells = ap spelling_of saves.4 ∙ spelling_of-dump_of (func.Chm f) saves.5 in
+    (job, asks, (saves.0, leaves.0, f, map.insert files (target_of job.keys) leaves.0, saves.2, leaves.1 ∙ ap (with_file (target_of job.keys) leaves.0) is, written_at files (target_of job.keys) leaves.0, spells, numbers))
 
 -- the message of a job that stopped goes with its status
 pub message_is : (words : List (List ℕ)) (job : Job) (stop : Stop) → job_of words ≡ Some job → Differs stop → IsMessage words (status_of stop) (message_of job.keys stop)

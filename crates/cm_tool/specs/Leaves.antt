@@ -13,8 +13,7 @@ use Rattle.cm_spec.specs.Built.{first_seed, chm_under, IsFirst, AllCored}
 use Rattle.cm_spec.specs.Chm.{Chm, chm_rule}
 use Rattle.cm_spec.specs.Dump.{chm_dump}
 use Rattle.cm_spec.specs.Rule.{IsCount}
-use Rattle.cm_dump.specs.declared.writer.Func.{Func}
-use Rattle.cm_dump.specs.declared.writer.Func.TheVariants as func
+use Rattle.cm_dump.specs.Functions.{IsChm}
 use Rattle.cm_tool.specs.Job.{Job, target_of}
 use Rattle.cm_tool.specs.Outcome.{keys_in, ratio, seeds_tried}
 use Rattle.cm_tool.specs.declared.stop.Stop.{Stop}
@@ -93,7 +92,7 @@ IsRefused job files TooMany = (bytes : List ℕ) × (file_at files job.keys ≡ 
 
 -- the bytes are the dump of the function of the keys file
 abbrev pub Saves : Job → Files → List ℕ → Type 0
-Saves job files dump = (bytes : List ℕ) × (f : Chm) × (file_at files job.keys ≡ Some bytes) × IsFunctionOf job bytes f × (dump ≡ chm_dump f)
+Saves job files dump = (bytes : List ℕ) × (f : Chm) × (file_at files job.keys ≡ Some bytes) × IsFunctionOf job bytes f × (dump ≡ chm_dump f) × IsChm f
 
 -- the files are as before, or the function file holds a front of the dump
 abbrev pub IsPart : Job → List ℕ → Option Files → Option Files → Type 0

@@ -1,11 +1,12 @@
 -- What the top call promises, in words over the command line and the files.
-use Rattle.std.specs.Prelude.{◌≡◌, ◌≢◌, ◌⊎◌, ℕ, List, [], ◌∷◌, Option, Some, true}
+use Rattle.std.specs.Prelude.{◌≡◌, ◌≢◌, ◌⊎◌, ℕ, List, [], ◌∷◌, Option, Some, Ok, true}
 use Rattle.cm_chm.specs.Numbering.{AnswersNumbers}
+use Rattle.cm_dump.specs.Spelling.{spelling_of}
+use Rattle.cm_dump.specs.declared.writer.Func.TheVariants as func
 use Rattle.cm_outer.specs.Files.{Files, file_at}
 use Rattle.cm_outer.specs.Writing.{then_bytes}
 use Rattle.cm_spec.specs.Built.{IsFirst, AllCored}
 use Rattle.cm_spec.specs.Chm.{Chm, chm_rule}
-use Rattle.cm_spec.specs.Dump.{chm_dump}
 use Rattle.cm_spec.specs.Lists.{has}
 use Rattle.cm_tool.specs.Ends.{Says}
 use Rattle.cm_tool.specs.Job.{Job, job_of, target_of}
@@ -34,9 +35,9 @@ pub record Reaches (words : List (List ℕ)) (files : Files) (status : ℕ) (out
 abbrev pub TookFirst : Files → Job → Type 0
 TookFirst files job = (bytes : List ℕ) × (place : ℕ) × (seed : ℕ) × (file_at files job.keys ≡ Some bytes) × IsFirst chm_rule (keys_in bytes).keys ratio (seeds_tried job) place seed
 
--- the function file holds the dump of a function that answers each key with its number
+-- the function file holds bytes that spell a function, which answers each key with its number
 abbrev pub SavedNumbers : Files → Option Files → Job → Type 0
-SavedNumbers files new job = (bytes : List ℕ) × (f : Chm) × (after : Files) × (file_at files job.keys ≡ Some bytes) × (new ≡ Some after) × (file_at after (target_of job.keys) ≡ Some (chm_dump f)) × AnswersNumbers (keys_in bytes).keys f
+SavedNumbers files new job = (bytes dump : List ℕ) × (f : Chm) × (after : Files) × (file_at files job.keys ≡ Some bytes) × (new ≡ Some after) × (file_at after (target_of job.keys) ≡ Some dump) × (spelling_of dump ≡ Ok (func.Chm f)) × AnswersNumbers (keys_in bytes).keys f
 
 -- under every seed the graph of the keys has a 2-core with an edge
 abbrev pub IsCored : Files → Job → Type 0

@@ -1,6 +1,7 @@
 //! A function, built from a keys file.
 ghost use Rattle.std.specs.Prelude.{◌≡◌, ◌<◌, ◌≤◌, ℕ, List, length, Some, None, IfOk, IfErr};
 ghost use Rattle.std.specs.Option.{ForSome};
+ghost use Rattle.cm_dump.specs.Functions.{IsChm};
 ghost use Rattle.cm_algo.specs.Fails.{HasBuildCause, FailsBuild, Differ};
 ghost use Rattle.cm_outer.specs.Files.{file_at};
 ghost use Rattle.cm_outer.specs.Passes.{Told};
@@ -38,6 +39,7 @@ fn chm_of<P: KeyPass, L: Ledger>(
     ensures told { P.told keys.new ≡ P.told keys.old }
     ensures cause { HasBuildCause (P.faults keys.old) (P.faults keys.new) result }
     ensures made { IfOk result (λ f. ForSome (P.told keys.old) (λ told. IsChmOf told 2090000 seeds.now f)) }
+    ensures valid { IfOk result IsChm }
     ensures fault { IfErr result (λ e. ForSome (P.told keys.old) (λ told. FailsBuild chm_rule told 2090000 seeds.now e)) }
     ensures differ { IfErr result Differ }
 {
@@ -82,6 +84,7 @@ fn function_of<D: Disk>(alloc: Global, job: &Job, disk: &mut D) -> Result<Chm, S
     ensures files { D.files disk.new ≡ D.files disk.old }
     ensures cause { HasStopCause (D.read_faults disk.old) (D.read_faults disk.new) (D.write_faults disk.old) (D.write_faults disk.new) result }
     ensures made { IfOk result (λ f. ForSome (D.files disk.old) (λ files. (bytes : List ℕ) × (file_at files job.now.keys.now ≡ Some bytes) × IsFunctionOf (job_seen job.now) bytes f)) }
+    ensures valid { IfOk result IsChm }
     ensures refused { IfErr result (λ stop. ForSome (D.files disk.old) (λ files. IsRefused (job_seen job.now) files stop)) }
     ensures differ { IfErr result Differs }
 {

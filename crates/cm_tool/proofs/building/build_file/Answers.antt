@@ -13,11 +13,11 @@ returns-in-Ok-store-clause-leaves g c =
     let f = c.in-Ok-function_of.function in
     let path : c.as_str.result.now ≡ target_of c.args.job.now.keys.now = c.as_str.ensures.value ∙ c.in-Ok.ensures in
     let stored = rw (path, c.function_of.ensures.files) at c.in-Ok-store.ensures.files in
-    (chm_dump f, stored, λ files is. let made = c.in-Ok-function_of.ensures.made files is in (made.0, f, made.1, made.2, refl))
+    (chm_dump f, stored, λ files is. let made = c.in-Ok-function_of.ensures.made files is in (made.0, f, made.1, made.2, refl, c.in-Ok-function_of.ensures.valid))
 
 pub returns-clause-leaves : goal.returns-clause-leaves
 returns-clause-leaves g c =
     let f = c.in-Ok-function_of.function in
     let path : c.as_str.result.now ≡ target_of c.args.job.now.keys.now = c.as_str.ensures.value ∙ c.in-Ok.ensures in
     let stored = rw c.in-Err-Failed.field-0-is at c.in-Err-Failed.ensures.files in
-    (chm_dump f, rw (path, c.function_of.ensures.files) at stored, λ files is. let made = c.in-Ok-function_of.ensures.made files is in (made.0, f, made.1, made.2, refl))
+    (chm_dump f, rw (path, c.function_of.ensures.files) at stored, λ files is. let made = c.in-Ok-function_of.ensures.made files is in (made.0, f, made.1, made.2, refl, c.in-Ok-function_of.ensures.valid))
