@@ -7,8 +7,7 @@ ghost use Rattle.cm_bits.specs.Held.{IsFields};
 ghost use Rattle.cm_spec.specs.Image.{width_of, fields_byte, fields_len};
 ghost use Rattle.cm_bits.specs.declared.TheConstants.{MAX_CELLS, MAX_FIELD_BOUND};
 
-use crate::packed::first_byte_from;
-use crate::window::{part, put_window, window, with_part};
+use crate::bytes::{first_byte_from, part, put_window, window, with_part};
 use crate::{Cells, ImageFault};
 use std::alloc::{AllocError, Global};
 

@@ -18,6 +18,9 @@ pub fn filled<C: Cells + Drop>(
     ensures cells { IfOk result (λ t. C.cells t ≡ replicate n value) }
 {
     let mut table = C::zeroed(alloc, n, bound)?;
+    if value == 0 {
+        return Ok(table);
+    }
     for i in 0..n {
         table.set(i, value);
     }

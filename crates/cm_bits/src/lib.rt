@@ -10,13 +10,13 @@ ghost use Rattle.cm_bits.specs.declared.TheConstants.{MAX_CELLS};
 
 use std::alloc::{AllocError, Global};
 
+mod bytes;
 pub mod fault;
 pub mod fields;
 pub mod fill;
 pub mod packed;
 pub mod packings;
 pub mod plain;
-mod window;
 
 pub use fault::ImageFault;
 pub use fields::Fields;

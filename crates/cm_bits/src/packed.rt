@@ -1,13 +1,13 @@
 // Cells as digits in a small base, several of them in a byte.
-ghost use Rattle.std.specs.Prelude.{◌≡◌, ℕ, ◌+◌, ◌-◌, ◌*◌, ◌/◌, ◌%◌, ◌^◌, ◌<◌, ◌≤◌, length, slice_index, slice_set, replicate, vec_len, position, nat_le, IsTrue, ◌↔◌};
-ghost use Rattle.std.specs.Prelude.{refl};
+ghost use Rattle.std.specs.Prelude.{◌≡◌, ℕ, ◌+◌, ◌*◌, ◌/◌, ◌%◌, ◌^◌, ◌<◌, ◌≤◌, ◌↔◌, IsTrue, length, refl};
 ghost use Rattle.cm_bits.specs.Bound.{AllBelow};
 ghost use Rattle.cm_bits.specs.Fault.{packed_fault};
 ghost use Rattle.cm_bits.specs.Held.{IsPacked, packed_cells};
-ghost use Rattle.cm_bits.specs.PackedLaws.{AllBelow-packed_cells, same_packed, zero_lt, at_base, packed_room, place_lt, place_lt, packed_fault-image};
+ghost use Rattle.cm_bits.specs.PackedLaws.{AllBelow-packed_cells, same_packed, zero_lt, at_base, packed_room, place_lt, packed_fault-image};
 ghost use Rattle.cm_spec.specs.Image.{packed_byte, packed_len};
 ghost use Rattle.cm_bits.specs.declared.TheConstants.{MAX_CELLS};
 
+use crate::bytes::first_byte_from;
 use crate::{Cells, ImageFault};
 use std::alloc::{AllocError, Global};
 use std::marker::PhantomData;
@@ -150,13 +150,6 @@ impl<B: Packing> Cells for Packed<B> {
             packing: PhantomData,
         })
     }
-}
-
-// The place of the first byte that is at least `low`.
-pub fn first_byte_from(bytes: &[u8], low: u32) -> Option<usize>
-    ensures { result ≡ position (λ b. nat_le low b) bytes.now }
-{
-    bytes.iter().position(|b| *b as u32 >= low)
 }
 
 // Why bytes are no image of n cells.

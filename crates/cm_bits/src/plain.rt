@@ -1,5 +1,5 @@
 // Cells as they are, four bytes each.
-ghost use Rattle.std.specs.Prelude.{◌≡◌, ℕ, ◌+◌, ◌-◌, ◌*◌, ◌/◌, ◌%◌, ◌^◌, ◌<◌, ◌≤◌, length, slice_index, slice_set, replicate, vec_len};
+ghost use Rattle.std.specs.Prelude.{◌≡◌, ◌+◌, ◌*◌, ◌^◌, ◌<◌, ◌≤◌, length};
 ghost use Rattle.cm_bits.specs.Bound.{AllBelow};
 ghost use Rattle.cm_bits.specs.Fault.{plain_fault, plain_cell};
 ghost use Rattle.cm_bits.specs.PlainLaws.{same_plain, plain_byte_lt, plain_fault-image};

@@ -1,6 +1,6 @@
 use Rattle.std.proofs.Common.{arith, ◌∙◌, ◌≡◌, length}
 use Rattle.cm_bits.proofs.WindowLemmas.{puts_back}
-use Rattle.cm_bits.proofs.window.put_window.Goals as goal
+use Rattle.cm_bits.proofs.bytes.put_window.Goals as goal
 
 pub returns : goal.returns
 returns c =

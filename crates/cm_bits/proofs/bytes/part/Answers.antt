@@ -1,6 +1,6 @@
 use Rattle.std.proofs.Common.{arith, refl, ◌/◌, ◌^◌, ◌<◌}
 use Rattle.std.proofs.lemmas.Nat.{one_shl, and_mask}
-use Rattle.cm_bits.proofs.window.part.Goals as goal
+use Rattle.cm_bits.proofs.bytes.part.Goals as goal
 
 pub returns : goal.returns
 returns c =

@@ -1,7 +1,7 @@
 use Rattle.std.proofs.Common.{arith, ◌+◌, ◌-◌, ◌*◌, ◌/◌, ◌%◌, ◌^◌, ◌<◌}
 use Rattle.cm_bits.proofs.FieldsLemmas.{replace_lt, mask_is, shifted_is}
 use Rattle.cm_bits.proofs.PackedLemmas.{digit_le}
-use Rattle.cm_bits.proofs.window.with_part.Goals as goal
+use Rattle.cm_bits.proofs.bytes.with_part.Goals as goal
 
 pub overflow_sub-result : goal.overflow_sub-result
 overflow_sub-result c =

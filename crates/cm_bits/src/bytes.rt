@@ -1,6 +1,13 @@
-// Eight bytes of a list as one number, and parts of it.
-ghost use Rattle.std.specs.Prelude.{◌≡◌, ◌+◌, ◌*◌, ◌/◌, ◌%◌, ◌^◌, ◌<◌, ◌≤◌, length};
+// Searches in bytes, eight bytes as one number, and parts of such a number.
+ghost use Rattle.std.specs.Prelude.{◌≡◌, ◌+◌, ◌*◌, ◌/◌, ◌%◌, ◌^◌, ◌<◌, ◌≤◌, length, position, nat_le};
 ghost use Rattle.cm_bits.specs.Held.{PutsWindow, window_at};
+
+// The place of the first byte that is at least `low`.
+pub fn first_byte_from(bytes: &[u8], low: u32) -> Option<usize>
+    ensures { result ≡ position (λ b. nat_le low b) bytes.now }
+{
+    bytes.iter().position(|b| *b as u32 >= low)
+}
 
 // The number that eight bytes from a place on make.
 #[inline]
