@@ -40,10 +40,14 @@ fn real_files(rt: HostRuntime) -> Result<(), Fail> {
     fs::remove_file(&rt, keys.as_str())?;
     fs::remove_file(&rt, function.as_str())?;
     assert_eq!(rt; status, 0);
-    assert_eq!(rt; dump.as_slice(), [
-        0x43, 0x4d, 0x50, 0x48, 0x44, 0x4d, 0x50, 0x31, 1, 0, 0, 0, 2, 0, 0, 0, 0x10, 0xe4, 0x1f,
-        0, 1, 0, 0, 0, 2,
-    ].as_slice());
+    assert_eq!(rt;
+        dump.as_slice(),
+        [
+            0x43, 0x4d, 0x50, 0x48, 0x44, 0x4d, 0x50, 0x31, 1, 0, 0, 0, 2, 0, 0, 0, 0x10, 0xe4,
+            0x1f, 0, 1, 0, 0, 0, 2,
+        ]
+        .as_slice()
+    );
     // The file is gone now, and a folder can't be read.
     assert_eq!(rt; build_over(&rt, keys.as_str())?, 4);
     assert_eq!(rt; build_over(&rt, "/tmp")?, 4);
