@@ -91,8 +91,10 @@ impl<S: Source> Buffered<S> {
     /// Whether a byte is left. One that is waits then.
     pub fn has_more(&mut self) -> Result<bool, Failed>
         ensures told { S.told self.new.source ≡ S.told self.old.source }
-        ensures left { OnOk result (left_bytes (S.told self.new.source) (S.place self.new.source) (ready_in self.new.buf self.new.start self.new.until)
-            ≡ left_bytes (S.told self.old.source) (S.place self.old.source) (ready_in self.old.buf self.old.start self.old.until)) }
+        ensures left { OnOk result (left_bytes (S.told self.new.source) (S.place self.new.source)
+            (ready_in self.new.buf self.new.start self.new.until)
+            ≡ left_bytes (S.told self.old.source) (S.place self.old.source)
+            (ready_in self.old.buf self.old.start self.old.until)) }
         ensures more { IfOk result (λ more. more ≡ true → self.new.start < self.new.until) }
         ensures none { IfOk result (λ more. more ≡ false → (ready_in self.new.buf self.new.start self.new.until ≡ [])
             × ForSome (S.told self.new.source) (λ bytes. drop (S.place self.new.source) bytes ≡ [])) }
@@ -143,8 +145,12 @@ impl<S: Source> Buffered<S> {
     /// Reads a line into the key, without its end.
     pub fn read_line(&mut self, end: u8, key: &mut KeyBuf) -> Result<Line, Failed>
         ensures told { S.told self.new.source ≡ S.told self.old.source }
-        ensures line { ReadsLine MAX_KEY_LEN end (left_bytes (S.told self.old.source) (S.place self.old.source) (ready_in self.old.buf self.old.start self.old.until))
-            (left_bytes (S.told self.new.source) (S.place self.new.source) (ready_in self.new.buf self.new.start self.new.until)) key.new.items result }
+        ensures line { ReadsLine MAX_KEY_LEN end
+            (left_bytes (S.told self.old.source) (S.place self.old.source)
+            (ready_in self.old.buf self.old.start self.old.until))
+            (left_bytes (S.told self.new.source) (S.place self.new.source)
+            (ready_in self.new.buf self.new.start self.new.until))
+            key.new.items result }
         ensures ended { IfOk result (λ line. line ≡ Line.End → self.new.ended ≡ true) }
         ensures stays { self.old.ended ≡ true → result ≡ Ok Line.End }
         ensures cause { HasCause (S.faults self.old.source) (S.faults self.new.source) result }

@@ -11,8 +11,8 @@ use std::marker::Model;
 /// The byte that ends a line.
 pub const LINE_END: u8 = 10;
 
-/// The lines of a source as keys. A line goes without the byte that ends it, and a last one that has no end counts where
-/// it has a byte. Lines are numbered from 1.
+/// The lines of a source as keys. A line goes without the byte that ends it, and a last line without its end counts
+/// where it has a byte. Lines are numbered from 1.
 pub struct Keys<S: Source> {
     bytes: Buffered<S>,
     first: Option<u32>,
@@ -38,8 +38,8 @@ impl<S: Source> Model for Keys<S> {
       faults = S.faults k.bytes.source;
     } };
 
-    ghost invariant = { λ k. IsPassing MAX_KEYS MAX_KEY_LEN LINE_END k.first k.given k.usable (S.told k.bytes.source) (S.place k.bytes.source)
-        (ready_in k.bytes.buf k.bytes.start k.bytes.until) };
+    ghost invariant = { λ k. IsPassing MAX_KEYS MAX_KEY_LEN LINE_END k.first k.given k.usable (S.told k.bytes.source)
+        (S.place k.bytes.source) (ready_in k.bytes.buf k.bytes.start k.bytes.until) };
 }
 
 impl<S: Source> Keys<S> {
@@ -47,7 +47,8 @@ impl<S: Source> Keys<S> {
     pub fn new(source: S, first: Option<u32>) -> Keys<S>
         requires start { ForSome (S.told source) (λ _. S.place source ≡ 0) }
         ensures state { result ≡ new_pass (S.told source) first (S.faults source) }
-        ensures told { ⟦<Keys<S> as KeyPass>⟧.told result ≡ option_map (lines_of MAX_KEYS MAX_KEY_LEN LINE_END first) (S.told source) }
+        ensures told { ⟦<Keys<S> as KeyPass>⟧.told result
+            ≡ option_map (lines_of MAX_KEYS MAX_KEY_LEN LINE_END first) (S.told source) }
         ensures place { ⟦<Keys<S> as KeyPass>⟧.place result ≡ 0 }
         ensures last { ⟦<Keys<S> as KeyPass>⟧.last result ≡ 0 }
         ensures usable { ⟦<Keys<S> as KeyPass>⟧.usable result ≡ true }

@@ -31,8 +31,9 @@ pub fn splitting()
     ensures lines { (end : ℕ) (bytes : List ℕ) → AreLines end bytes (pieces end bytes) }
 {}
 
-/// The keys of every text are numbered from line 1 without a gap and keep within their limits, and a fault is of the line
-/// after them.
+/// The keys of every text are numbered from line 1 without a gap and keep within their limits, and a fault is of the
+/// line after them.
 pub fn numbering()
-    ensures numbered { (max longest end : ℕ) (first : Option ℕ) (bytes : List ℕ) → AreNumbered max longest first (lines_of max longest end first bytes) }
+    ensures numbered { (max longest end : ℕ) (first : Option ℕ) (bytes : List ℕ) →
+        AreNumbered max longest first (lines_of max longest end first bytes) }
 {}

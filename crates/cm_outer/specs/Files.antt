@@ -33,8 +33,12 @@ pub record Opens (files : Files) (path : List ℕ) (told : Option (List ℕ)) (p
 
 -- `Ok` made the path hold no bytes. An error left the files as they were, or it did the same.
 abbrev pub Creates : {W : Type 0} → List ℕ → Option Files → Option Files → Result W DiskFault → Type 0
-Creates path old new result = MatchResult result (λ _. new ≡ with_file path [] old) (λ _. (new ≡ old) ⊎ (new ≡ with_file path [] old))
+Creates path old new result = MatchResult result
+    (λ _. new ≡ with_file path [] old)
+    (λ _. (new ≡ old) ⊎ (new ≡ with_file path [] old))
 
 -- `Ok` made the path hold what was written, and `Failed` a prefix of it.
 abbrev pub Closes : List ℕ → Option (List ℕ) → Option Files → Option Files → Result (Unit {0}) Failed → Type 0
-Closes path known old new result = MatchResult result (λ _. new ≡ with_file path (unwrap_or known []) old) (λ _. (n : ℕ) × (new ≡ with_file path (take n (unwrap_or known [])) old))
+Closes path known old new result = MatchResult result
+    (λ _. new ≡ with_file path (unwrap_or known []) old)
+    (λ _. (n : ℕ) × (new ≡ with_file path (take n (unwrap_or known [])) old))

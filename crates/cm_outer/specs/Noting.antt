@@ -3,7 +3,7 @@ use Rattle.std.specs.Prelude.{◌≡◌, ◌≤◌, ℕ, List, Bool, true, false
 use Rattle.cm_outer.specs.Writing.{then_bytes}
 use Rattle.cm_outer.specs.Causes.{Rose}
 
--- What all notes to a sink made of it: it was given the text, or a prefix of it where a note has failed, and then its count rose.
+-- What all notes to a sink made of it: it was given the text; or, where a note has failed, a prefix of the text, and its count rose.
 pub record HasNoted (failed : Bool) (old new : Option (List ℕ)) (before now : ℕ) (text : List ℕ) : Type 0 where
   pub all : failed ≡ false → (new ≡ then_bytes old text) × (now ≡ before)
   pub part : failed ≡ true → ((n : ℕ) × (new ≡ then_bytes old (take n text))) × (before ≤ now) × Rose before now

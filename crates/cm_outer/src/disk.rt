@@ -54,5 +54,6 @@ pub trait Disk {
         requires there { IsThere path.now (files self.old) }
         ensures files { Closes path.now (Self.Writer.written writer) (files self.old) (files self.new) result }
         ensures read_faults { read_faults self.new ≡ read_faults self.old }
-        ensures cause { HasCloseCause (Self.Writer.faults writer) (write_faults self.old) (write_faults self.new) result };
+        ensures cause { HasCloseCause (Self.Writer.faults writer) (write_faults self.old) (write_faults self.new)
+            result };
 }

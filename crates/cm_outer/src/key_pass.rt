@@ -54,7 +54,8 @@ pub trait KeyPass {
     fn next(&mut self, key: &mut KeyBuf) -> Result<bool, KeyFault>
         requires usable { IsTrue (usable self.old) }
         ensures told { told self.new ≡ told self.old }
-        ensures gives { ForSome (told self.old) (λ told. GivesKey told (place self.old) (place self.new) (last self.new) key.new.items result) }
+        ensures gives { ForSome (told self.old) (λ told.
+            GivesKey told (place self.old) (place self.new) (last self.new) key.new.items result) }
         ensures cause { HasKeyCause (faults self.old) (faults self.new) result }
 
         // A key is one more, of a later line.

@@ -1,10 +1,10 @@
 // A disk in memory.
-ghost use Rattle.std.specs.Prelude.{◌≡◌, ◌≢◌, ◌<◌, ◌↔◌, [], None, Some, Ok, IfOk, OnOk, OnErr, IsTrue, IsOkUnless, if◌then◌else◌, nat_lt, is_none, option_copied};
+ghost use Rattle.std.specs.Prelude.{◌≡◌, ◌≢◌, ◌<◌, ◌↔◌, [], None, Some, Ok, IfOk, OnOk, OnErr, IsTrue, IsOkUnless, nat_lt, is_none, option_copied};
 ghost use Rattle.std.specs.FinMap as maps;
 ghost use Rattle.std.specs.Option.{ForSome};
 ghost use Rattle.cm_outer.specs.Causes.{HasDiskCause, Collects, HasCloseCause};
 ghost use Rattle.cm_outer.specs.Files.{IsThere, Opens, Creates, Closes, file_at};
-ghost use Rattle.cm_outer.specs.Counts.{counted};
+ghost use Rattle.cm_outer.specs.Counts.{counted_if};
 ghost use Rattle.cm_outer.specs.MemSources.{new_source};
 ghost use Rattle.cm_outer.specs.MemSinks.{new_sink};
 
@@ -55,7 +55,9 @@ impl MemDisk {
 
     /// Makes the path hold these bytes, whatever the room. Too little memory leaves the files as before.
     pub fn put(&mut self, path: &str, bytes: &[u8]) -> Result<(), AllocError>
-        ensures ok { OnOk result (self.new ≡ record self.old { files = maps.insert self.old.files path.now bytes.now }) }
+        ensures ok { OnOk result (self.new ≡ record self.old {
+          files = maps.insert self.old.files path.now bytes.now;
+        }) }
         ensures err { OnErr result (self.new ≡ self.old) }
     {
         let bytes = bytes.to_vec(self.alloc)?;
@@ -87,13 +89,14 @@ impl Disk for MemDisk {
         ensures cause { HasDiskCause self.old.read_faults self.new.read_faults result }
         ensures fresh { IfOk result (λ reader. reader.faults ≡ 0) }
         ensures start { IfOk result (λ reader. ForSome (Some reader.bytes) (λ _. reader.place ≡ 0)) }
-        ensures reader { IfOk result (λ reader. ForSome (Some self.old.files) (λ files. Opens files path.now (Some reader.bytes) reader.place)) }
+        ensures reader { IfOk result (λ reader. ForSome (Some self.old.files) (λ files.
+            Opens files path.now (Some reader.bytes) reader.place)) }
 
         // It fails exactly where the path isn't there. No read or rewind of the reader fails.
         ensures missing { (result ≡ Err DiskFault.Failed) ↔ (file_at self.old.files path.now ≡ None) }
         ensures faultless { IfOk result (λ reader. reader ≡ new_source reader.bytes [] []) }
         ensures state { self.new ≡ record self.old {
-          read_faults = (if is_none (file_at self.old.files path.now) then counted self.old.read_faults else self.old.read_faults);
+          read_faults = counted_if (is_none (file_at self.old.files path.now)) self.old.read_faults;
         } }
     {
         let Some(bytes) = bytes_at(&self.files, path) else {
@@ -111,7 +114,7 @@ impl Disk for MemDisk {
 
         // Nothing else changes.
         ensures state { self.new ≡ record self.old {
-          read_faults = (if nat_lt 0 reader.faults then counted self.old.read_faults else self.old.read_faults);
+          read_faults = counted_if (nat_lt 0 reader.faults) self.old.read_faults;
         } }
     {
         if reader.has_failed() {
@@ -148,7 +151,7 @@ impl Disk for MemDisk {
         ensures ok { result ≡ Ok tt }
         ensures state { self.new ≡ record self.old {
           files = maps.insert self.old.files path.now writer.bytes;
-          write_faults = (if nat_lt 0 writer.faults then counted self.old.write_faults else self.old.write_faults);
+          write_faults = counted_if (nat_lt 0 writer.faults) self.old.write_faults;
         } }
     {
         if writer.has_failed() {

@@ -9,7 +9,7 @@ use crate::{Failed, Sink};
 use std::alloc::{AllocError, Global};
 use std::marker::Model;
 
-/// Memory with room for so many bytes, whose writes fail where a piece doesn't fit and in the listed calls, counted from 0.
+/// Memory with room for so many bytes. A write fails where its piece doesn't fit, and in the listed calls, counted from 0.
 #[derive(Drop)]
 pub struct MemSink {
     bytes: Vec<u8>,
@@ -81,10 +81,17 @@ impl Sink for MemSink {
         ensures bytes { Writes (Some self.old.bytes) (Some self.new.bytes) piece.now result }
         ensures cause { HasCause self.old.faults self.new.faults result }
 
-        // It fails in the listed calls, of which it takes nothing, and where a piece doesn't fit, of which it takes what does.
-        ensures fails { IsErr result ↔ (Contains self.old.fails self.old.writes ⊎ (self.old.room < length self.old.bytes + length piece.now)) }
-        ensures ok { OnOk result (self.new ≡ record self.old { bytes = self.old.bytes ++ piece.now; writes = counted self.old.writes }) }
-        ensures listed { Contains self.old.fails self.old.writes → self.new ≡ record self.old { writes = counted self.old.writes; faults = counted self.old.faults } }
+        // It fails in the listed calls, and then takes nothing, and where the piece doesn't fit, and then takes what does.
+        ensures fails { IsErr result ↔ (Contains self.old.fails self.old.writes
+            ⊎ (self.old.room < length self.old.bytes + length piece.now)) }
+        ensures ok { OnOk result (self.new ≡ record self.old {
+          bytes = self.old.bytes ++ piece.now;
+          writes = counted self.old.writes;
+        }) }
+        ensures listed { Contains self.old.fails self.old.writes → self.new ≡ record self.old {
+          writes = counted self.old.writes;
+          faults = counted self.old.faults;
+        } }
         ensures full { OnErr result ((Contains self.old.fails self.old.writes) ⊎ (self.new ≡ record self.old {
           bytes = self.old.bytes ++ take (self.old.room - length self.old.bytes) piece.now;
           writes = counted self.old.writes;

@@ -82,8 +82,14 @@ impl Source for MemSource {
         ensures fails { IsErr result ↔ Contains self.old.read_fails self.old.reads }
         ensures count { IfOk result (λ n. n ≡ min (length self.old.bytes - self.old.place) (length buf.old)) }
         ensures bytes { IfOk result (λ n. buf.new ≡ take n (drop self.old.place self.old.bytes) ++ drop n buf.old) }
-        ensures ok { IfOk result (λ n. self.new ≡ record self.old { place = self.old.place + n; reads = counted self.old.reads }) }
-        ensures err { OnErr result (self.new ≡ record self.old { reads = counted self.old.reads; faults = counted self.old.faults }) }
+        ensures ok { IfOk result (λ n. self.new ≡ record self.old {
+          place = self.old.place + n;
+          reads = counted self.old.reads;
+        }) }
+        ensures err { OnErr result (self.new ≡ record self.old {
+          reads = counted self.old.reads;
+          faults = counted self.old.faults;
+        }) }
         ensures untouched { OnErr result (buf.new ≡ buf.old) }
     {
         let call = self.reads;
@@ -107,7 +113,10 @@ impl Source for MemSource {
         // It fails in the listed calls alone, and then stays where it is.
         ensures fails { IsErr result ↔ Contains self.old.rewind_fails self.old.rewinds }
         ensures ok { OnOk result (self.new ≡ record self.old { place = 0; rewinds = counted self.old.rewinds }) }
-        ensures err { OnErr result (self.new ≡ record self.old { rewinds = counted self.old.rewinds; faults = counted self.old.faults }) }
+        ensures err { OnErr result (self.new ≡ record self.old {
+          rewinds = counted self.old.rewinds;
+          faults = counted self.old.faults;
+        }) }
     {
         let call = self.rewinds;
         self.rewinds = self.rewinds.saturating_add(1);

@@ -29,7 +29,8 @@ impl Notes {
 
     /// Writes a piece, unless a note has failed before. Where the sink fails, this one has.
     pub fn note<E: Sink>(&mut self, sink: &mut E, piece: &[u8])
-        ensures noted { Noted self.old self.new (E.written sink.old) (E.written sink.new) (E.faults sink.old) (E.faults sink.new) piece.now }
+        ensures noted { Noted self.old self.new (E.written sink.old) (E.written sink.new) (E.faults sink.old) (E.faults sink.new)
+            piece.now }
     {
         if !self.failed && sink.write(piece).is_err() {
             self.failed = true;
@@ -38,7 +39,8 @@ impl Notes {
 
     /// Writes the pieces of one message, unless a note has failed before. Where the sink fails, this one has.
     pub fn note_pieces<E: Sink>(&mut self, sink: &mut E, pieces: &[&[u8]])
-        ensures noted { Noted self.old self.new (E.written sink.old) (E.written sink.new) (E.faults sink.old) (E.faults sink.new) (joined (map (λ piece. piece.now) pieces.now)) }
+        ensures noted { Noted self.old self.new (E.written sink.old) (E.written sink.new) (E.faults sink.old) (E.faults sink.new)
+            (joined (map (λ piece. piece.now) pieces.now)) }
     {
         if !self.failed && write_pieces(sink, pieces).is_err() {
             self.failed = true;

@@ -20,7 +20,8 @@ pub trait Sink {
 
 /// Writes the pieces, one after another. Fails exactly where the sink does, which has then taken a prefix of them all.
 pub fn write_pieces<O: Sink>(out: &mut O, pieces: &[&[u8]]) -> Result<(), Failed>
-    ensures bytes { Writes (O.written out.old) (O.written out.new) (joined (map (λ piece. piece.now) pieces.now)) result }
+    ensures bytes { Writes (O.written out.old) (O.written out.new)
+        (joined (map (λ piece. piece.now) pieces.now)) result }
     ensures cause { HasCause (O.faults out.old) (O.faults out.new) result }
 {
     for piece in pieces {
