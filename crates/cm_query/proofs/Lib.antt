@@ -1,0 +1,5 @@
+mod EarlierLemmas
+mod MarkLemmas
+pub mod NotedLemmas
+mod ProgressLemmas
+pub mod TextLemmas

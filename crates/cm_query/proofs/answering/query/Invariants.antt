@@ -1,0 +1,31 @@
+use Rattle.std.proofs.Common.{◌≡◌, ◌+◌, ◌-◌, ◌≤◌, ◌<◌, ℕ, List, length, take, true}
+use Rattle.std.specs.Option.{ForSome}
+use Rattle.cm_bits.specs.Held.{packed_cells}
+use Rattle.cm_outer.specs.Noting.{Noted}
+use Rattle.cm_outer.specs.Writing.{then_bytes}
+use Rattle.cm_query.proofs.ProgressLemmas.{SoFar}
+use Rattle.cm_query.proofs.answering.query.Given as goal
+
+abbrev pub invariant-keys : goal.invariant-keys
+invariant-keys g l =
+    let P = g.P.KeyPass in
+    let O = g.O.Sink in
+    let E = g.E.Sink in
+    let A = g.A.Answers in
+    record {
+      ready : P.usable l.keys ≡ true;
+      same : P.told l.keys ≡ P.told l.fn.keys;
+      quiet : P.faults l.keys ≡ P.faults l.fn.keys;
+      quiet_out : O.faults l.out ≡ O.faults l.fn.out;
+      at : P.place l.keys ≡ l.tally.lines;
+      few : l.tally.lines ≤ 16777216;
+      counts : l.tally.repeated + l.tally.unknown ≤ l.tally.lines;
+      size : length (packed_cells 2 8 l.marks.n l.marks.bytes.items) ≡ A.span_of l.function;
+      text : (text : List ℕ) × (O.written l.out ≡ then_bytes (O.written l.fn.out) text);
+      says : (text : List ℕ) × Noted l.fn.notes l.notes (E.written l.fn.err) (E.written l.err) (E.faults l.fn.err) (E.faults l.err) text;
+      so_far : ForSome (P.told l.fn.keys) (λ told. (l.tally.lines ≤ length told.keys)
+          × SoFar (A.answer_of l.function) (take l.tally.lines told.keys) (packed_cells 2 8 l.marks.n l.marks.bytes.items) l.tally (O.written l.fn.out) (O.written l.out) l.fn.notes l.notes (E.written l.fn.err) (E.written l.err) (E.faults l.fn.err) (E.faults l.err));
+    }
+
+abbrev pub decreases-keys : goal.decreases-keys
+decreases-keys g l = 16777216 - l.tally.lines

@@ -1,0 +1,6 @@
+pub mod Examples
+pub mod Marks
+pub mod Repeats
+pub mod Stops
+pub mod Tallies
+pub mod Texts

@@ -1,0 +1,44 @@
+-- How a query ends.
+use Rattle.std.specs.Prelude.{◌≡◌, ◌<◌, ◌≤◌, ◌-◌, ◌++◌, [], ℕ, List, length, take, drop, Option, Some, Bool, true, false, Result, Ok, Err}
+use Rattle.cm_outer.specs.Causes.{Rose}
+use Rattle.cm_outer.specs.Passes.{Told, Ends, HasKeyCause}
+use Rattle.cm_outer.specs.Writing.{then_bytes}
+use Rattle.cm_outer.specs.declared.key_pass.KeyFault.TheVariants.{Read, TooLong, TooMany}
+use Rattle.cm_query.specs.Texts.{text_of}
+use Rattle.cm_query.specs.declared.fault.QueryFault.{QueryFault}
+use Rattle.cm_query.specs.declared.fault.QueryFault.TheVariants.{Memory, Key, Write}
+
+-- `Key Read` exactly where the count of the pass rose, and `Write` exactly where that of out did
+abbrev pub HasQueryCause : {T : Type 0} → ℕ → ℕ → ℕ → ℕ → Result T QueryFault → Type 0
+HasQueryCause keys keys' out out' (Ok x) = (keys' ≡ keys) × (out' ≡ out)
+HasQueryCause keys keys' out out' (Err Memory) = (keys' ≡ keys) × (out' ≡ out)
+HasQueryCause keys keys' out out' (Err (Key fault)) = HasKeyCause {T = Unit {0}} keys keys' (Err fault) × (out' ≡ out)
+HasQueryCause keys keys' out out' (Err Write) = (keys' ≡ keys) × (out ≤ out') × Rose out out'
+
+-- whether the pass is usable after a query: unless it was the pass that refused
+abbrev pub is_usable_after : {T : Type 0} → Result T QueryFault → Bool
+is_usable_after (Ok x) = true
+is_usable_after (Err Memory) = true
+is_usable_after (Err (Key fault)) = false
+is_usable_after (Err Write) = true
+
+-- where a refusal comes, by how many of the told keys were given: those of the keys' end after all of them
+abbrev pub StopsAt : Told → ℕ → QueryFault → Type 0
+StopsAt told given Memory = given ≡ 0
+StopsAt told given (Key Read) = given ≤ length told.keys
+StopsAt told given (Key (TooLong line)) = Ends told given (Some (TooLong line))
+StopsAt told given (Key TooMany) = Ends told given (Some TooMany)
+StopsAt told given Write = (0 < given) × (given ≤ length told.keys)
+
+-- what out has after a refusal: the text of the keys given; after `Write` that of all but the last, and a prefix of the last one's
+abbrev pub TextAfter : ℕ → (List ℕ → Option ℕ) → List (ℕ × List ℕ) → ℕ → Option (List ℕ) → Option (List ℕ) → QueryFault → Type 0
+TextAfter end f keys given old new Memory = new ≡ old
+TextAfter end f keys given old new (Key fault) = new ≡ then_bytes old (text_of end f (take given keys))
+TextAfter end f keys given old new Write =
+    (n : ℕ) × (new ≡ then_bytes old (text_of end f (take (given - 1) keys) ++ take n (text_of end f (take 1 (drop (given - 1) keys)))))
+
+-- the keys whose notes err has after a refusal: those given; after `Write` all but the last
+abbrev pub noted_keys : List (ℕ × List ℕ) → ℕ → QueryFault → List (ℕ × List ℕ)
+noted_keys keys given Memory = []
+noted_keys keys given (Key fault) = take given keys
+noted_keys keys given Write = take (given - 1) keys

@@ -1,0 +1,82 @@
+//! The answers of a function to the keys of a pass.
+ghost use Rattle.std.specs.Prelude.{◌≡◌, ◌≤◌, ◌+◌, ℕ, List, Err, IsTrue, IfOk, IfErr, OnOk, None};
+ghost use Rattle.std.specs.Option.{ForSome};
+ghost use Rattle.cm_outer.specs.Noting.{Noted};
+ghost use Rattle.cm_outer.specs.Writing.{then_bytes};
+ghost use Rattle.cm_query.specs.Stops.{HasQueryCause, is_usable_after, StopsAt, TextAfter, noted_keys};
+ghost use Rattle.cm_query.specs.Tallies.{tally_of};
+ghost use Rattle.cm_query.specs.Texts.{text_of, notes_of};
+
+use crate::fault::QueryFault;
+use crate::marks::mark;
+use crate::tally::Tally;
+use crate::writing::{LINE_END, note_key, write_line};
+use cm_algo::Answers;
+use cm_bits::{Bits, Cells};
+use cm_outer::{Failed, KeyBuf, KeyPass, Notes, Sink};
+use std::alloc::Global;
+
+/// Answers each key of a pass that stands at its start: its line goes to out and then, where it has no answer or one that an
+/// earlier key has, a note to err. One bit for each number of the span is taken first, and no other memory.
+pub fn query<A: Answers, P: KeyPass, O: Sink, E: Sink>(
+    alloc: Global,
+    function: &A,
+    keys: &mut P,
+    out: &mut O,
+    err: &mut E,
+    notes: &mut Notes,
+) -> Result<Tally, QueryFault>
+    requires usable { IsTrue (P.usable keys.old) }
+    requires start { P.place keys.old ≡ 0 }
+
+    // Whatever the pass tells.
+    ensures told { P.told keys.new ≡ P.told keys.old }
+    ensures usable { P.usable keys.new ≡ is_usable_after result }
+    ensures cause { HasQueryCause (P.faults keys.old) (P.faults keys.new) (O.faults out.old) (O.faults out.new) result }
+    ensures lines { IfOk result (λ tally. tally.lines ≡ P.place keys.new) }
+    ensures within { IfOk result (λ tally. tally.repeated + tally.unknown ≤ tally.lines) }
+    ensures appends { (text : List ℕ) × (O.written out.new ≡ then_bytes (O.written out.old) text) }
+    ensures says { (text : List ℕ) × Noted notes.old notes.new (E.written err.old) (E.written err.new) (E.faults err.old) (E.faults err.new) text }
+
+    // Want of memory comes before all else.
+    ensures memory { result ≡ Err QueryFault.Memory → (keys.new ≡ keys.old) × (out.new ≡ out.old) × (err.new ≡ err.old) × (notes.new ≡ notes.old) }
+
+    // The end of told keys.
+    ensures end { OnOk result (ForSome (P.told keys.old) (λ told. told.fault ≡ None)) }
+    ensures tally { IfOk result (λ tally. ForSome (P.told keys.old) (λ told. tally ≡ tally_of (A.answer_of function.now) told.keys)) }
+    ensures text { OnOk result (ForSome (P.told keys.old) (λ told. O.written out.new ≡ then_bytes (O.written out.old) (text_of LINE_END (A.answer_of function.now) told.keys))) }
+    ensures notes { OnOk result (ForSome (P.told keys.old) (λ told.
+        Noted notes.old notes.new (E.written err.old) (E.written err.new) (E.faults err.old) (E.faults err.new) (notes_of (A.answer_of function.now) told.keys))) }
+
+    // A refusal over told keys.
+    ensures stops { IfErr result (λ fault. ForSome (P.told keys.old) (λ told. StopsAt told (P.place keys.new) fault)) }
+    ensures text_after { IfErr result (λ fault. ForSome (P.told keys.old) (λ told.
+        TextAfter LINE_END (A.answer_of function.now) told.keys (P.place keys.new) (O.written out.old) (O.written out.new) fault)) }
+    ensures notes_after { IfErr result (λ fault. ForSome (P.told keys.old) (λ told.
+        Noted notes.old notes.new (E.written err.old) (E.written err.new) (E.faults err.old) (E.faults err.new) (notes_of (A.answer_of function.now) (noted_keys told.keys (P.place keys.new) fault)))) }
+{
+    let Ok(mut marks) = Bits::zeroed(alloc, function.span(), 2) else {
+        return Err(QueryFault::Memory);
+    };
+    let mut tally = Tally {
+        lines: 0,
+        repeated: 0,
+        unknown: 0,
+    };
+    let mut key = KeyBuf::new();
+    'keys: loop {
+        match keys.next(&mut key) {
+            Ok(true) => {}
+            Ok(false) => return Ok(tally),
+            Err(fault) => return Err(QueryFault::Key(fault)),
+        }
+        let answer = function.answer(&key);
+        match write_line(out, &key, answer) {
+            Ok(()) => {}
+            Err(Failed) => return Err(QueryFault::Write),
+        }
+        let repeated = mark(&mut marks, answer);
+        note_key(err, notes, keys.line(), answer, repeated);
+        tally.count(answer, repeated);
+    }
+}

@@ -1,0 +1,18 @@
+//! Queries: the keys of a pass with the answers of a function, as text, with notes of keys that it doesn't know and of answers
+//! that come again.
+#![tactic(auto)]
+
+mod answering;
+mod fault;
+mod laws;
+mod marks;
+mod tally;
+#[cfg(test)]
+mod tests;
+mod writing;
+
+pub use crate::answering::query;
+pub use crate::fault::QueryFault;
+pub use crate::laws::{front_of_text, noted_exactly, worked_rows};
+pub use crate::tally::Tally;
+pub use crate::writing::LINE_END;
