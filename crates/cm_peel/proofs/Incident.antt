@@ -1,20 +1,15 @@
 -- The linked edges as a test over the places.
-use Rattle.std.proofs.Common.{◌≡◌, ◌≢◌, ◌⊎◌, ℕ, zero, suc, ◌+◌, ◌<◌, ◌≤◌, Bool, true, false, cond, not, eqb, ltb, ◌&&◌, ◌||◌, List, [], ◌∷◌, ◌++◌, length, get_or, set, take, replicate, Option, Some, None, sym, refl, ap, ◌∙◌, inl, inr, arith, append-nil, append_assoc, get_or-set_other}
-use Rattle.std.specs.List.{All, count_by, filter, list_any, slice_get, position, position_or_len}
+use Rattle.std.proofs.Common.{◌≡◌, ◌≢◌, ◌⊎◌, ℕ, zero, suc, ◌+◌, ◌<◌, ◌≤◌, Bool, true, false, cond, not, eqb, ltb, ◌&&◌, ◌||◌, List, [], ◌∷◌, ◌++◌, length, get_or, set, take, replicate, Option, Some, None, sym, refl, ap, ◌∙◌, inl, inr, arith, append-nil, append_assoc}
+use Rattle.std.specs.List.{All, count_by, filter, list_any, slice_get, position_or_len}
 use Rattle.std.specs.List.Sorted.{IsStrictlyIncreasing}
-use Rattle.std.proofs.lemmas.Bool.{cases_Bool, cases_eq, cases_lt, eq-eqb, ne_eqb, and_from, lt-ltb, le-ltb, cond-true, cond-false, or_parts, eqb-false, false≢true, false_from_ne_true, or_right, and_right}
-use Rattle.std.proofs.lemmas.Option.{get_or_from_slice_get, same_Some, none-some, cond_some}
-use Rattle.std.proofs.lemmas.List.Quantifiers.{position-Some}
-use Rattle.std.proofs.lemmas.List.Folds.{list_any_at, list_any-append}
-use Rattle.std.proofs.lemmas.List.Elements.{filter_more}
-use Rattle.std.proofs.lemmas.Grind.{get_or-set_at}
-use Rattle.std.proofs.lemmas.List.Sums.{position_or_len_is}
+use Rattle.std.proofs.lemmas.Bool.{cases_eq, cases_lt, eq-eqb, ne_eqb, lt-ltb, le-ltb, cond-true, or_parts, eqb-false, false≢true}
+use Rattle.std.proofs.lemmas.Option.{get_or_from_slice_get, same_Some}
 use Rattle.std.proofs.Math.ListN.{length-set}
 use Rattle.std.proofs.lemmas.List.{length-replicate, take_more}
 use Rattle.cm_spec.specs.Lists.{numbers_from, has}
 use Rattle.cm_spec.specs.Graph.{touches, places, ends_at, degree_in}
-use Rattle.cm_graph.specs.Graph.{Graph, Links, IsLinked, IsFree, linked, unlinked, slot_touches, degree_of}
-use Rattle.cm_peel.specs.Incident.{AreLinked, PivotsSet, unlinked_all, is_free, is_picked, picked_of, free_position, soles_of, soles_at, soles_of_all}
+use Rattle.cm_graph.specs.Graph.{Graph, Links, IsFree, linked, unlinked, slot_touches, degree_of}
+use Rattle.cm_peel.specs.Incident.{AreLinked, unlinked_all, soles_of, soles_of_all}
 use Rattle.cm_peel.proofs.Sets.{count_by-cons, count_by-filter, not_before}
 
 pub slice_get-set_same : {X : Type 0} (xs : List X) (i : ℕ) (y : X) → i < length xs → slice_get (set xs i y) i ≡ Some y
@@ -142,17 +137,6 @@ degree_linked graph p l v a =
     count_slots graph p v 0 (length graph.edges) l.slots a.many (λ k h. a.each k h ∙ ap (λ m. Some (slot_by graph p m)) (omega arith))
     ∙ sym (count_by-filter p (λ e. touches v (ends_at graph.edges e)) (places graph.edges))
 
--- the first place that passes
-pub position_found : (p : ℕ → Bool) (xs : List ℕ) (i : ℕ) → i < length xs → ((k : ℕ) → k < i → p (get_or xs k 0) ≡ false) → p (get_or xs i 0) ≡ true → position p xs ≡ Some i
-position_found p xs i h before here =
-    let at : position_or_len p xs ≡ i = position_or_len_is p xs i 0 (omega arith) before (λ _. here) in
-    rw at (cond-true _ _ _ (lt-ltb i (length xs) h))
-
-pub position_missed : (p : ℕ → Bool) (xs : List ℕ) (n : ℕ) → n ≡ length xs → ((k : ℕ) → k < n → p (get_or xs k 0) ≡ false) → position p xs ≡ None
-position_missed p xs n is before =
-    let at : position_or_len p xs ≡ length xs = position_or_len_is p xs (length xs) 0 (omega arith) (λ k h. before k (omega arith)) (λ h. absurd (omega arith)) in
-    rw at (cond-false _ _ _ (le-ltb (length xs) (length xs) (omega arith)))
-
 -- what a link and an unlink leave, where the ends were read
 pub linked_step : (graph : Graph) (l m : Links) (e : ℕ) (ends : List ℕ) → AreLinked graph (λ k. ltb k e) l → slice_get graph.edges e ≡ Some ends → m ≡ linked l e ends → AreLinked graph (λ k. ltb k (e + 1)) m
 linked_step graph l m e ends a read is =
@@ -170,13 +154,6 @@ vertices_below l n ends is h k d m = omega (arith, h k d m)
 pub still_linked : (es : List ℕ) (l : Links) (i e : ℕ) (ends : List ℕ) → IsStrictlyIncreasing es → i < length es → e ≡ get_or es i 0 → slice_get l.slots e ≡ Some (Some ends) → slice_get (unlinked_all l (take i es)).slots e ≡ Some (Some ends)
 still_linked es l i e ends up h is there = unlinked_all_other (take i es) l e (rw is (not_before es i up h)) ∙ there
 
-pub linked_there : (graph : Graph) (es : List ℕ) (l m : Links) (i : ℕ) (ends : List ℕ) → IsStrictlyIncreasing es → i < length es → All (λ e. IsLinked l e (ends_at graph.edges e)) es → slice_get graph.edges (get_or es i 0) ≡ Some ends → m ≡ unlinked_all l (take i es) → IsLinked m (get_or es i 0) ends
-linked_there graph es l m i ends up h all read is =
-    let e : ℕ = get_or es i 0 in
-    let same : ends_at graph.edges e ≡ ends = get_or_from_slice_get graph.edges e ends [] read in
-    let there : slice_get l.slots e ≡ Some (Some ends) = all i 0 h ∙ ap (λ (x : List ℕ). Some (Some x)) same in
-    rw is (still_linked es l i e ends up h refl there)
-
 pub vertices_left : (es : List ℕ) (l m : Links) (n : ℕ) (ends : List ℕ) → l.vertices ≡ n → m ≡ unlinked_all l es → All (λ v. v < n) ends → All (λ v. v < m.vertices) ends
 vertices_left es l m n ends many is h = vertices_below m n ends (ap (λ (x : Links). x.vertices) is ∙ (unlinked_all-vertices es l ∙ many)) h
 
@@ -192,76 +169,11 @@ any_before p (x ∷ xs) h = go (p x) refl (any_before p xs) where
       let h' : list_any p xs ≡ true = sym (ap (λ b. b || list_any p xs) is) ∙ h in
       rw is (omega (arith, ih h'))
 
-pub found_any : (p : ℕ → Bool) (xs : List ℕ) (i : ℕ) → Some i ≡ position p xs → (list_any p xs ≡ true) × (position_or_len p xs ≡ i)
-found_any p xs i e =
-    let at = position-Some p xs i 0 (sym e) in
-    (list_any_at p xs i 0 at.0 at.1, (cond_some _ _ _ (sym e)).1)
+-- one more edge whose soles are listed
+soles-append : (l : Links) (xs : List (List ℕ)) (ends : List ℕ) → soles_of_all l (xs ++ ends ∷ []) ≡ soles_of_all l xs ++ soles_of l ends
+soles-append l [] ends = append-nil _
+soles-append l (x ∷ xs) ends = ap (λ (ys : List ℕ). soles_of l x ++ ys) (soles-append l xs ends) ∙ sym (append_assoc (soles_of l x) (soles_of_all l xs) (soles_of l ends))
 
-pub missed_any : (p : ℕ → Bool) (xs : List ℕ) → None ≡ position p xs → list_any p xs ≡ false
-missed_any p xs e = false_from_ne_true _ (λ h.
-    none-some (position_or_len p xs) (e ∙ cond-true _ _ _ (lt-ltb _ _ (any_before p xs h))))
-
--- what one candidate adds
-pub picked_yes : (l : Links) (edges : List (List ℕ)) (e i : ℕ) (ends : List ℕ) → slice_get edges e ≡ Some ends → Some i ≡ position (is_free l) ends → (is_picked l edges e ≡ true) × (free_position l edges e ≡ i)
-picked_yes l edges e i ends read is =
-    let same : ends_at edges e ≡ ends = get_or_from_slice_get edges e ends [] read in
-    rw same (found_any (is_free l) ends i is)
-
-pub picked_no : (l : Links) (edges : List (List ℕ)) (e : ℕ) (ends : List ℕ) → slice_get edges e ≡ Some ends → None ≡ position (is_free l) ends → is_picked l edges e ≡ false
-picked_no l edges e ends read is =
-    let same : ends_at edges e ≡ ends = get_or_from_slice_get edges e ends [] read in
-    rw same (missed_any (is_free l) ends is)
-
--- one more candidate
-pub picked_more : (l : Links) (edges : List (List ℕ)) (es now new : List ℕ) (i : ℕ) → i < length es → now ≡ picked_of l edges (take i es) → new ≡ now ++ cond (is_picked l edges (get_or es i 0)) (get_or es i 0 ∷ []) [] → new ≡ picked_of l edges (take (i + 1) es)
-picked_more l edges es now new i h was is = is ∙ (ap (λ (xs : List ℕ). xs ++ cond (is_picked l edges (get_or es i 0)) (get_or es i 0 ∷ []) []) was ∙ sym (filter_more (is_picked l edges) es i 0 h))
-
-pub has-push : (es : List ℕ) (e d : ℕ) → has (es ++ e ∷ []) d ≡ (has es d || eqb e d)
-has-push es e d = list_any-append (λ x. eqb x d) es (e ∷ []) ∙ ap (λ b. has es d || b) (or_none (eqb e d)) where
-  or_none : (b : Bool) → (b || false) ≡ b
-  or_none true = refl
-  or_none false = refl
-
-pub or_false : (a b : Bool) → b ≡ false → (a || b) ≡ a
-or_false a b h = ap (λ c. a || c) h ∙ go a where
-  go : (a : Bool) → (a || false) ≡ a
-  go true = refl
-  go false = refl
-
-pub pivots_push : (l : Links) (edges : List (List ℕ)) (es : List ℕ) (e : ℕ) (old now new : List ℕ) → length now ≡ length edges → e < length edges → PivotsSet l edges es old now → new ≡ cond (is_picked l edges e) (set now e (free_position l edges e)) now → PivotsSet l edges (es ++ e ∷ []) old new
-pivots_push l edges es e old now new long place was is = record { each = λ d h. go d h (cases_eq d e) (cases_Bool (is_picked l edges e)) } where
-  go : (d : ℕ) → d < length edges → (d ≡ e) ⊎ (d ≡ e → ⊥) → (is_picked l edges e ≡ true) ⊎ (is_picked l edges e ≡ false) → get_or new d 0 ≡ cond (has (es ++ e ∷ []) d && is_picked l edges d) (free_position l edges d) (get_or old d 0)
-  go d h (inl same) (inl pass) =
-      let short : e < length now = omega arith in
-      let new_is : new ≡ set now e (free_position l edges e) = is ∙ cond-true _ _ _ pass in
-      let found : has (es ++ e ∷ []) d ≡ true = has-push es e d ∙ or_right (has es d) (eqb e d) (eq-eqb e d (sym same)) in
-      let pass' : is_picked l edges d ≡ true = ap (is_picked l edges) same ∙ pass in
-      ap (λ (xs : List ℕ). get_or xs d 0) new_is ∙ (get_or-set_at now e d (free_position l edges e) 0 same short ∙ (ap (free_position l edges) (sym same) ∙ sym (cond-true _ _ (get_or old d 0) (and_from _ _ found pass'))))
-  go d h (inl same) (inr fail) =
-      let new_is : new ≡ now = is ∙ cond-false _ _ _ fail in
-      let fail' : is_picked l edges d ≡ false = ap (is_picked l edges) same ∙ fail in
-      ap (λ (xs : List ℕ). get_or xs d 0) new_is ∙ (was.each d h ∙ (cond-false _ _ _ (and_right (has es d) (is_picked l edges d) fail') ∙ sym (cond-false _ (free_position l edges d) _ (and_right (has (es ++ e ∷ []) d) (is_picked l edges d) fail'))))
-  go d h (inr other) (inl pass) =
-      let new_is : new ≡ set now e (free_position l edges e) = is ∙ cond-true _ _ _ pass in
-      let same : has (es ++ e ∷ []) d ≡ has es d = has-push es e d ∙ or_false (has es d) (eqb e d) (ne_eqb e d (λ s. other (sym s))) in
-      ap (λ (xs : List ℕ). get_or xs d 0) new_is ∙ (get_or-set_other now e d (free_position l edges e) 0 other ∙ (was.each d h ∙ ap (λ b. cond (b && is_picked l edges d) (free_position l edges d) (get_or old d 0)) (sym same)))
-  go d h (inr other) (inr fail) =
-      let new_is : new ≡ now = is ∙ cond-false _ _ _ fail in
-      let same : has (es ++ e ∷ []) d ≡ has es d = has-push es e d ∙ or_false (has es d) (eqb e d) (ne_eqb e d (λ s. other (sym s))) in
-      ap (λ (xs : List ℕ). get_or xs d 0) new_is ∙ (was.each d h ∙ ap (λ b. cond (b && is_picked l edges d) (free_position l edges d) (get_or old d 0)) (sym same))
-
-pub pivots_more : (l : Links) (edges : List (List ℕ)) (es : List ℕ) (i : ℕ) (old now new : List ℕ) → i < length es → length now ≡ length edges → get_or es i 0 < length edges → PivotsSet l edges (take i es) old now → new ≡ cond (is_picked l edges (get_or es i 0)) (set now (get_or es i 0) (free_position l edges (get_or es i 0))) now → PivotsSet l edges (take (i + 1) es) old new
-pivots_more l edges es i old now new h long place was is =
-    let t : take (i + 1) es ≡ take i es ++ get_or es i 0 ∷ [] = take_more es i 0 h in
-    let p = pivots_push l edges (take i es) (get_or es i 0) old now new long place was is in
-    rw t p
-
-pub soles-append : (l : Links) (edges : List (List ℕ)) (es : List ℕ) (e : ℕ) → soles_of_all l edges (es ++ e ∷ []) ≡ soles_of_all l edges es ++ soles_at l edges e
-soles-append l edges [] e = append-nil _
-soles-append l edges (d ∷ es) e = ap (λ (xs : List ℕ). soles_at l edges d ++ xs) (soles-append l edges es e) ∙ sym (append_assoc (soles_at l edges d) (soles_of_all l edges es) (soles_at l edges e))
-
-pub soles_more : (l : Links) (edges : List (List ℕ)) (es now new ends : List ℕ) (i : ℕ) → i < length es → slice_get edges (get_or es i 0) ≡ Some ends → now ≡ soles_of_all l edges (take i es) → new ≡ now ++ soles_of l ends → new ≡ soles_of_all l edges (take (i + 1) es)
-soles_more l edges es now new ends i h read was is =
-    let same : ends_at edges (get_or es i 0) ≡ ends = get_or_from_slice_get edges (get_or es i 0) ends [] read in
-    is ∙ (ap (λ (xs : List ℕ). xs ++ soles_of l ends) was ∙ (ap (λ (xs : List ℕ). soles_of_all l edges (take i es) ++ soles_of l xs) (sym same)
-    ∙ (sym (soles-append l edges (take i es) (get_or es i 0)) ∙ ap (soles_of_all l edges) (sym (take_more es i 0 h)))))
+pub soles_more : (l : Links) (xs : List (List ℕ)) (now new : List ℕ) (i : ℕ) (d : List ℕ) → i < length xs → now ≡ soles_of_all l (take i xs) → new ≡ now ++ soles_of l (get_or xs i d) → new ≡ soles_of_all l (take (i + 1) xs)
+soles_more l xs now new i d h was is =
+    is ∙ (ap (λ (ys : List ℕ). ys ++ soles_of l (get_or xs i d)) was ∙ (sym (soles-append l (take i xs) (get_or xs i d)) ∙ ap (soles_of_all l) (sym (take_more xs i d h))))

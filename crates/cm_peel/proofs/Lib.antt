@@ -1,6 +1,13 @@
 pub mod Advance
+pub mod Chunks
 pub mod Core
 pub mod Ending
+pub mod First
+pub mod InRound
+pub mod NextRound
 pub mod Incident
+pub mod Pieces
+pub mod Pivots
 pub mod RoundFacts
 pub mod Sets
+pub mod Taking

@@ -1,18 +1,17 @@
 -- What a round does, by the definitions.
-use Rattle.std.proofs.Common.{◌≡◌, ◌≢◌, ◌⊎◌, ℕ, suc, ◌+◌, ◌<◌, ◌≤◌, Bool, true, false, cond, not, eqb, leb, ◌&&◌, ◌||◌, List, [], ◌∷◌, ◌++◌, length, get_or, map, Some, None, sym, refl, ap, ◌∙◌, subst, inl, inr, arith}
-use Rattle.std.specs.List.{Contains, count_by, filter, list_any, list_all, position_or_len}
-use Rattle.std.specs.List.Sorted.{IsStrictlyIncreasing}
+use Rattle.std.proofs.Common.{◌≡◌, ◌≢◌, ◌⊎◌, ℕ, suc, ◌+◌, ◌<◌, ◌≤◌, Bool, true, false, cond, not, eqb, leb, ◌&&◌, ◌||◌, List, [], ◌∷◌, length, get_or, map, Some, None, sym, refl, ap, ◌∙◌, subst, inl, inr, arith}
+use Rattle.std.specs.List.{count_by, filter, list_any, list_all, position_or_len}
 use Rattle.std.proofs.lemmas.Bool.{cases_Bool, cases_lt, cases_eq, eqb-true, eq-eqb, ne_eqb, and_parts, and_from, and_left, or_cases, or_left, or_right, leb-true, le-leb, lt-leb, false≢true, not_from_false}
 use Rattle.std.proofs.lemmas.Option.{get_or_from_slice_get}
 use Rattle.std.proofs.lemmas.List.Sums.{passes_at_first}
-use Rattle.std.proofs.lemmas.List.Folds.{list_any-append}
 use Rattle.cm_spec.specs.Lists.{has}
 use Rattle.cm_spec.specs.Graph.{touches, places, ends_at, degree_in}
 use Rattle.cm_spec.specs.Rounds.{is_left, is_held, left_after, removed_after}
 use Rattle.cm_graph.specs.Graph.{Graph, Links, slot_touches, degree_of, sole_of}
-use Rattle.cm_peel.specs.Incident.{AreLinked, is_free, is_picked, picked_of, soles_at, soles_of_all}
-use Rattle.cm_peel.proofs.Sets.{count_by-cons, filter-filter, has-filter, filter_agree_on, Rises, Rises-filter, has-numbers, has-numbers_high, rising_is_filter, Rises-from_increasing, has-from_Contains, Contains-from_has}
-use Rattle.cm_peel.proofs.Core.{left_after-zero, left_after-suc, left_after_is, left_after_rises}
+use Rattle.cm_peel.specs.Incident.{AreLinked, is_free, is_picked, soles_of, soles_of_all}
+use Rattle.cm_peel.proofs.Sets.{count_by-cons, has-filter, filter_agree_on, Rises, Rises-filter, has-numbers, has-numbers_high, rising_is_filter}
+use Rattle.cm_peel.proofs.Core.{left_after-zero, left_after_is, left_after_rises}
+use Rattle.cm_peel.proofs.Taking.{has-append}
 use Rattle.cm_peel.proofs.Incident.{slot_by, degree_linked}
 
 -- counts and members
@@ -104,25 +103,15 @@ picked_is graph t l e a m =
     any_not_all (degree_of l) (degree_in graph.edges (left_after graph.edges t)) (ends_at graph.edges e) (λ v. degree_left graph t l v a)
     (λ v h. let some : 1 ≤ degree_in graph.edges (left_after graph.edges t) v = degree_some graph.edges t e v m h in omega (arith, degree_left graph t l v a))
 
-pub picked_within : (graph : Graph) (t : ℕ) (l : Links) (xs : List ℕ) → AreLinked graph (is_left graph.edges t) l → ((e : ℕ) → has xs e ≡ true → has (left_after graph.edges t) e ≡ true) → picked_of l graph.edges xs ≡ filter (λ e. not (is_held graph.edges (left_after graph.edges t) e)) xs
+pub picked_within : (graph : Graph) (t : ℕ) (l : Links) (xs : List ℕ) → AreLinked graph (is_left graph.edges t) l → ((e : ℕ) → has xs e ≡ true → has (left_after graph.edges t) e ≡ true) → filter (is_picked l graph.edges) xs ≡ filter (λ e. not (is_held graph.edges (left_after graph.edges t) e)) xs
 picked_within graph t l xs a inside = filter_agree_on (is_picked l graph.edges) (λ e. not (is_held graph.edges (left_after graph.edges t) e)) xs (λ e m. picked_is graph t l e a (inside e m))
 
-pub picked_first : (graph : Graph) (l : Links) → AreLinked graph (is_left graph.edges 0) l → picked_of l graph.edges (places graph.edges) ≡ removed_after graph.edges 0
+pub picked_first : (graph : Graph) (l : Links) → AreLinked graph (is_left graph.edges 0) l → filter (is_picked l graph.edges) (places graph.edges) ≡ removed_after graph.edges 0
 picked_first graph l a =
-    ap (picked_of l graph.edges) (sym (left_after-zero graph.edges)) ∙ picked_within graph 0 l (left_after graph.edges 0) a (λ e m. m)
-
-pub same_twice : (b : Bool) → (b && b) ≡ b
-same_twice true = refl
-same_twice false = refl
+    ap (filter (is_picked l graph.edges)) (sym (left_after-zero graph.edges)) ∙ picked_within graph 0 l (left_after graph.edges 0) a (λ e m. m)
 
 pub has_removed : (edges : List (List ℕ)) (t e : ℕ) → has (removed_after edges t) e ≡ (has (left_after edges t) e && not (is_held edges (left_after edges t) e))
 has_removed edges t e = has-filter (λ e. not (is_held edges (left_after edges t) e)) (left_after edges t) e
-
-pub picked_again : (graph : Graph) (t : ℕ) (l : Links) → AreLinked graph (is_left graph.edges t) l → picked_of l graph.edges (removed_after graph.edges t) ≡ removed_after graph.edges t
-picked_again graph t l a =
-    let q : ℕ → Bool = λ e. not (is_held graph.edges (left_after graph.edges t) e) in
-    picked_within graph t l (removed_after graph.edges t) a (λ e m. (and_parts _ _ (sym (has_removed graph.edges t e) ∙ m)).0)
-    ∙ (filter-filter q q (left_after graph.edges t) ∙ filter_agree_on (λ e. q e && q e) q (left_after graph.edges t) (λ e m. same_twice (q e)))
 
 -- the one edge of a vertex
 pub seen : (v : ℕ) (ends : List ℕ) (c : Bool) → slot_touches v (cond c (Some ends) None) ≡ (c && touches v ends)
@@ -166,9 +155,6 @@ has_map_from f (y ∷ ys) x h = go (or_cases (eqb y x) (has ys x) h) (has_map_fr
   go (inl same) ih = or_left _ _ (eq-eqb (f y) (f x) (ap f (eqb-true y x same)))
   go (inr more) ih = or_right _ _ (ih more)
 
-pub has-append : (xs ys : List ℕ) (e : ℕ) → has (xs ++ ys) e ≡ (has xs e || has ys e)
-has-append xs ys e = list_any-append (λ x. eqb x e) xs ys
-
 -- a sole is that of a free end of one of the edges
 pub record IsSoleOf (l : Links) (edges : List (List ℕ)) (es : List ℕ) (f : ℕ) : Type 0 where
   pub edge : ℕ
@@ -178,31 +164,38 @@ pub record IsSoleOf (l : Links) (edges : List (List ℕ)) (es : List ℕ) (f : �
   pub free : degree_of l vertex ≡ 1
   pub is : sole_of l vertex ≡ f
 
-pub sole_at : (l : Links) (edges : List (List ℕ)) (e f : ℕ) → has (soles_at l edges e) f ≡ true → IsSoleOf l edges (e ∷ []) f
+pub sole_at : (l : Links) (edges : List (List ℕ)) (e f : ℕ) → has (soles_of l (ends_at edges e)) f ≡ true → IsSoleOf l edges (e ∷ []) f
 sole_at l edges e f h =
     let r = has_map (sole_of l) (filter (is_free l) (ends_at edges e)) f h in
     let both = and_parts (has (ends_at edges e) r.0) (is_free l r.0) (sym (has-filter (is_free l) (ends_at edges e) r.0) ∙ r.1) in
     record { edge = e; vertex = r.0; among = or_left _ _ (eq-eqb e e refl); touching = both.0; free = eqb-true _ _ both.1; is = r.2 }
 
-pub sole_among : (l : Links) (edges : List (List ℕ)) (es : List ℕ) (f : ℕ) → has (soles_of_all l edges es) f ≡ true → IsSoleOf l edges es f
+pub sole_among : (l : Links) (edges : List (List ℕ)) (es : List ℕ) (f : ℕ) → has (soles_of_all l (map (ends_at edges) es)) f ≡ true → IsSoleOf l edges es f
 sole_among l edges [] f h = absurd (false≢true h)
-sole_among l edges (e ∷ es) f h = go (or_cases (has (soles_at l edges e) f) (has (soles_of_all l edges es) f) (sym (has-append (soles_at l edges e) (soles_of_all l edges es) f) ∙ h)) (sole_among l edges es f) where
-  go : (has (soles_at l edges e) f ≡ true) ⊎ (has (soles_of_all l edges es) f ≡ true) → (has (soles_of_all l edges es) f ≡ true → IsSoleOf l edges es f) → IsSoleOf l edges (e ∷ es) f
+sole_among l edges (e ∷ es) f h = go (or_cases (has first f) (has rest f) (sym (has-append first rest f) ∙ h)) (sole_among l edges es f) where
+  first : List ℕ
+  first = soles_of l (ends_at edges e)
+
+  rest : List ℕ
+  rest = soles_of_all l (map (ends_at edges) es)
+
+  same_edge : {a b : ℕ} → (eqb a b ≡ true) ⊎ (false ≡ true) → a ≡ b
+  same_edge (inl s) = eqb-true _ _ s
+  same_edge (inr s) = absurd (false≢true s)
+
+  go : (has (soles_of l (ends_at edges e)) f ≡ true) ⊎ (has (soles_of_all l (map (ends_at edges) es)) f ≡ true) → (has (soles_of_all l (map (ends_at edges) es)) f ≡ true → IsSoleOf l edges es f) → IsSoleOf l edges (e ∷ es) f
   go (inl first) ih =
       let r = sole_at l edges e f first in
-      let same : e ≡ r.edge = go₂ (or_cases (eqb e r.edge) false r.among) in
-      record { edge = r.edge; vertex = r.vertex; among = or_left _ _ (eq-eqb e r.edge same); touching = r.touching; free = r.free; is = r.is } where
-        go₂ : {a b : ℕ} → (eqb a b ≡ true) ⊎ (false ≡ true) → a ≡ b
-        go₂ (inl s) = eqb-true _ _ s
-        go₂ (inr s) = absurd (false≢true s)
+      let same : e ≡ r.edge = same_edge (or_cases (eqb e r.edge) false r.among) in
+      record { edge = r.edge; vertex = r.vertex; among = or_left _ _ (eq-eqb e r.edge same); touching = r.touching; free = r.free; is = r.is }
   go (inr more) ih =
       let r = ih more in
       record { edge = r.edge; vertex = r.vertex; among = or_right (eqb e r.edge) (has es r.edge) r.among; touching = r.touching; free = r.free; is = r.is }
 
-pub sole_from : (l : Links) (edges : List (List ℕ)) (es : List ℕ) (e v : ℕ) → has es e ≡ true → touches v (ends_at edges e) ≡ true → degree_of l v ≡ 1 → has (soles_of_all l edges es) (sole_of l v) ≡ true
+pub sole_from : (l : Links) (edges : List (List ℕ)) (es : List ℕ) (e v : ℕ) → has es e ≡ true → touches v (ends_at edges e) ≡ true → degree_of l v ≡ 1 → has (soles_of_all l (map (ends_at edges) es)) (sole_of l v) ≡ true
 sole_from l edges [] e v m h one = absurd (false≢true m)
-sole_from l edges (d ∷ ds) e v m h one = has-append (soles_at l edges d) (soles_of_all l edges ds) (sole_of l v) ∙ go (or_cases (eqb d e) (has ds e) m) (λ n. sole_from l edges ds e v n h one) where
-  go : (eqb d e ≡ true) ⊎ (has ds e ≡ true) → (has ds e ≡ true → has (soles_of_all l edges ds) (sole_of l v) ≡ true) → (has (soles_at l edges d) (sole_of l v) || has (soles_of_all l edges ds) (sole_of l v)) ≡ true
+sole_from l edges (d ∷ ds) e v m h one = has-append (soles_of l (ends_at edges d)) (soles_of_all l (map (ends_at edges) ds)) (sole_of l v) ∙ go (or_cases (eqb d e) (has ds e) m) (λ n. sole_from l edges ds e v n h one) where
+  go : (eqb d e ≡ true) ⊎ (has ds e ≡ true) → (has ds e ≡ true → has (soles_of_all l (map (ends_at edges) ds)) (sole_of l v) ≡ true) → (has (soles_of l (ends_at edges d)) (sole_of l v) || has (soles_of_all l (map (ends_at edges) ds)) (sole_of l v)) ≡ true
   go (inl same) ih =
       let at : touches v (ends_at edges d) ≡ true = ap (λ x. touches v (ends_at edges x)) (eqb-true d e same) ∙ h in
       let kept : has (filter (is_free l) (ends_at edges d)) v ≡ true = has-filter (is_free l) (ends_at edges d) v ∙ and_from _ _ at (eq-eqb _ 1 one) in
@@ -236,44 +229,6 @@ count_by-both p q (x ∷ xs) = go (p x) (count_by-both p q xs) where
   go true ih = omega (arith, count_by-cons q x (filter p xs), count_by-cons q x xs)
   go false ih = omega (arith, count_by-cons q x (filter (λ e. not (p e)) xs), count_by-cons q x xs)
 
-pub degree_parts : (edges : List (List ℕ)) (t v : ℕ) → degree_in edges (left_after edges (suc t)) v + degree_in edges (removed_after edges t) v ≡ degree_in edges (left_after edges t) v
-degree_parts edges t v =
-    ap (λ s. degree_in edges s v + degree_in edges (removed_after edges t) v) (left_after-suc edges t)
-    ∙ count_by-both (is_held edges (left_after edges t)) (λ e. touches v (ends_at edges e)) (left_after edges t)
-
--- the soles of a removed round are the next round
-pub soles_are_next : (graph : Graph) (t : ℕ) (l : Links) → AreLinked graph (is_left graph.edges (suc t)) l → (f : ℕ) → has (soles_of_all l graph.edges (removed_after graph.edges t)) f ≡ true → has (removed_after graph.edges (suc t)) f ≡ true
-soles_are_next graph t l a f h =
-    let edges : List (List ℕ) = graph.edges in
-    let r : IsSoleOf l edges (removed_after edges t) f = sole_among l edges (removed_after edges t) f h in
-    let s = sole_found graph (is_left edges (suc t)) l r.vertex a r.free in
-    let in' : has (left_after edges (suc t)) (sole_of l r.vertex) ≡ true = has_left_from edges (suc t) (sole_of l r.vertex) s.0 s.1 in
-    let one : degree_in edges (left_after edges (suc t)) r.vertex ≡ 1 = sym (degree_left graph (suc t) l r.vertex a) ∙ r.free in
-    let fails : not (is_held edges (left_after edges (suc t)) (sole_of l r.vertex)) ≡ true = go (cases_Bool (is_held edges (left_after edges (suc t)) (sole_of l r.vertex))) (λ held.
-    let two : 2 ≤ degree_in edges (left_after edges (suc t)) r.vertex = held_end (degree_in edges (left_after edges (suc t))) (ends_at edges (sole_of l r.vertex)) r.vertex held s.2 in
-    absurd (omega arith)) in
-    subst (λ x. has (removed_after edges (suc t)) x ≡ true) r.is (has_removed edges (suc t) (sole_of l r.vertex) ∙ and_from _ _ in' fails) where
-      go : {b : Bool} → (b ≡ true) ⊎ (b ≡ false) → (b ≡ true → ⊥) → not b ≡ true
-      go (inl yes') no' = absurd (no' yes')
-      go (inr no') f = not_from_false _ no'
-
-pub next_are_soles : (graph : Graph) (t : ℕ) (l : Links) → AreLinked graph (is_left graph.edges (suc t)) l → (f : ℕ) → has (removed_after graph.edges (suc t)) f ≡ true → has (soles_of_all l graph.edges (removed_after graph.edges t)) f ≡ true
-next_are_soles graph t l a f h =
-    let edges : List (List ℕ) = graph.edges in
-    let both = and_parts (has (left_after edges (suc t)) f) (not (is_held edges (left_after edges (suc t)) f)) (sym (has_removed edges (suc t) f) ∙ h) in
-    let r = not_held_end (degree_in edges (left_after edges (suc t))) (ends_at edges f) both.1 in
-    let v : ℕ = r.0 in
-    let place = is_left_from edges (suc t) f both.0 in
-    let some : 1 ≤ degree_in edges (left_after edges (suc t)) v = degree_some edges (suc t) f v both.0 r.1 in
-    let few : degree_in edges (left_after edges (suc t)) v < 2 = r.2 in
-    let one : degree_of l v ≡ 1 = degree_left graph (suc t) l v a ∙ omega arith in
-    let parts = and_parts (is_left edges t f) (is_held edges (left_after edges t) f) place.1 in
-    let two : 2 ≤ degree_in edges (left_after edges t) v = held_end (degree_in edges (left_after edges t)) (ends_at edges f) v parts.1 r.1 in
-    let gone : degree_in edges (left_after edges (suc t)) v + degree_in edges (removed_after edges t) v ≡ degree_in edges (left_after edges t) v = degree_parts edges t v in
-    let e = count_by_found (λ e. touches v (ends_at edges e)) (removed_after edges t) (omega arith) in
-    let is : sole_of l v ≡ f = sole_is graph (is_left edges (suc t)) l v f a one place.0 place.1 r.1 in
-    subst (λ x. has (soles_of_all l edges (removed_after edges t)) x ≡ true) is (sole_from l edges (removed_after edges t) e.0 v e.1 e.2 one)
-
 -- two rising lists of places that have the same
 pub rising_same : (edges : List (List ℕ)) (xs ys : List ℕ) → Rises 0 xs → Rises 0 ys → ((e : ℕ) → has ys e ≡ true → e < length edges) → ((e : ℕ) → has xs e ≡ true → has ys e ≡ true) → ((e : ℕ) → has ys e ≡ true → has xs e ≡ true) → xs ≡ ys
 rising_same edges xs ys r s inside to from =
@@ -292,10 +247,3 @@ removed_rises edges t = Rises-filter (λ e. not (is_held edges (left_after edges
 
 pub removed_is_left : (edges : List (List ℕ)) (t e : ℕ) → has (removed_after edges t) e ≡ true → has (left_after edges t) e ≡ true
 removed_is_left edges t e m = (and_parts _ _ (sym (has_removed edges t e) ∙ m)).0
-
-pub next_is : (graph : Graph) (t : ℕ) (l : Links) (next : List ℕ) → AreLinked graph (is_left graph.edges (suc t)) l → IsStrictlyIncreasing next
-    → ((e : ℕ) → (Contains next e → Contains (soles_of_all l graph.edges (removed_after graph.edges t)) e) × (Contains (soles_of_all l graph.edges (removed_after graph.edges t)) e → Contains next e)) → next ≡ removed_after graph.edges (suc t)
-next_is graph t l next a up same = rising_same graph.edges next (removed_after graph.edges (suc t)) (Rises-from_increasing 0 next up (λ _. omega arith)) (removed_rises graph.edges (suc t))
-    (λ e m. (is_left_from graph.edges (suc t) e (removed_is_left graph.edges (suc t) e m)).0)
-    (λ e m. soles_are_next graph t l a e (has-from_Contains _ e ((same e).0 (Contains-from_has next e m))))
-    (λ e m. has-from_Contains next e ((same e).1 (Contains-from_has _ e (next_are_soles graph t l a e m))))

@@ -1,18 +1,45 @@
--- The state of peeling after t rounds.
-use Rattle.std.specs.Prelude.{◌≡◌, ℕ, suc, ◌<◌, ◌≤◌, false, if◌then◌else◌, List, length, slice_index}
+-- The states of peeling. Only the contracts of its steps cite this.
+use Rattle.std.specs.Prelude.{◌≡◌, ℕ, suc, ◌<◌, ◌≤◌, false, true, not, ◌&&◌, ◌==◌, if◌then◌else◌, List, [], ◌∷◌, ◌++◌, length, slice_index, take}
+use Rattle.cm_spec.specs.Lists.{has}
 use Rattle.cm_spec.specs.Rounds.{is_left, removed_after, order_upto, level_of, pivot_of}
 use Rattle.cm_graph.specs.Graph.{Graph, Links}
-use Rattle.cm_peel.specs.Incident.{AreLinked}
+use Rattle.cm_peel.specs.Incident.{AreLinked, is_picked}
 
-pub record AtRound (graph : Graph) (t : ℕ) (l : Links) (picked order levels pivots : List ℕ) : Type 0 where
+-- no number stands twice in a list
+abbrev pub AreApart : List ℕ → Type 0
+AreApart [] = Unit {0}
+AreApart (x ∷ xs) = (has xs x ≡ false) × AreApart xs
+
+-- t rounds went before, and the edges of the next one stand in the order from `start` on
+pub record AtRound (graph : Graph) (t : ℕ) (l : Links) (start : ℕ) (order levels pivots : List ℕ) : Type 0 where
   -- the linked edges are those that are left
   pub linked : AreLinked graph (is_left graph.edges t) l
-  -- picked are those that the next round removes
-  pub picked_is : picked ≡ removed_after graph.edges t
-  pub order_is : order ≡ order_upto graph.edges t
+  pub start_is : start ≡ length (order_upto graph.edges t)
+  pub order_is : order ≡ order_upto graph.edges (suc t)
   -- each round removed an edge
-  pub few : t ≤ length order
+  pub few : t ≤ start
   pub levels_long : length levels ≡ length graph.edges
   pub pivots_long : length pivots ≡ length graph.edges
-  pub level : (e : ℕ) → e < length graph.edges → slice_index levels e ≡ (if is_left graph.edges t e then 0 else level_of graph.edges e)
+  -- the edges of the next round have their level and pivot already
+  pub level : (e : ℕ) → e < length graph.edges → slice_index levels e ≡ (if is_left graph.edges (suc t) e then 0 else level_of graph.edges e)
   pub pivot : (e : ℕ) → e < length graph.edges → is_left graph.edges (suc t) e ≡ false → slice_index pivots e ≡ pivot_of graph.edges e
+
+-- the first d edges of that round are unlinked, and the edges that this has freed stand at the end of the order
+pub record InRound (graph : Graph) (t d : ℕ) (l : Links) (order levels : List ℕ) : Type 0 where
+  pub linked : AreLinked graph (λ e. is_left graph.edges t e && not (has (take d (removed_after graph.edges t)) e)) l
+  pub next : List ℕ
+  pub order_is : order ≡ order_upto graph.edges (suc t) ++ next
+  pub apart : AreApart next
+  pub inside : (e : ℕ) → has next e ≡ true → e < length graph.edges
+  pub members : (e : ℕ) → e < length graph.edges → has next e ≡ (is_left graph.edges (suc t) e && is_picked l graph.edges e)
+  pub levels_long : length levels ≡ length graph.edges
+  pub level : (e : ℕ) → e < length graph.edges → slice_index levels e ≡ (if has next e then suc (suc t) else if is_left graph.edges (suc t) e then 0 else level_of graph.edges e)
+
+-- those of some edges that had no level got this one, and stand at the end of the order
+pub record AreTaken (edges : List ℕ) (given : ℕ) (levels levels' order order' : List ℕ) : Type 0 where
+  pub fresh : List ℕ
+  pub order_is : order' ≡ order ++ fresh
+  pub apart : AreApart fresh
+  pub members : (e : ℕ) → has fresh e ≡ (has edges e && (slice_index levels e == 0))
+  pub levels_long : length levels' ≡ length levels
+  pub level : (e : ℕ) → e < length levels → slice_index levels' e ≡ (if has fresh e then given else slice_index levels e)

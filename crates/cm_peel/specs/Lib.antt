@@ -1,4 +1,3 @@
-pub mod Incident
-pub mod AtRound
 pub mod Peeling
-pub mod Examples
+pub mod AtRound
+pub mod Incident

@@ -1,11 +1,12 @@
 //! Peeling of edges by rounds, and what it leaves: the 2-core.
 #![tactic(auto)]
 
+mod chunk;
 pub mod laws;
 pub mod peeled;
 mod round;
 
-pub use crate::laws::{empty_rest, examples, rest_is_core};
+pub use crate::laws::{empty_rest, rest_is_core};
 pub use crate::peeled::{Peeled, peel};
 
 #[cfg(test)]

@@ -1,22 +1,20 @@
 //! Peeling, and what it gives.
-ghost use Rattle.std.specs.Prelude.{◌≡◌, ℕ, ◌+◌, ◌*◌, ◌<◌, ◌≤◌, ◌^◌, length, OnOk, IfOk, slice_index};
-ghost use Rattle.cm_spec.specs.Lists.{numbers_from};
-ghost use Rattle.cm_spec.specs.Rounds.{level_of};
+ghost use Rattle.std.specs.Prelude.{◌≡◌, ℕ, ◌+◌, ◌*◌, ◌<◌, ◌≤◌, ◌^◌, length, IfOk, slice_index};
 ghost use Rattle.cm_spec.specs.Core.{IsCore};
 ghost use Rattle.cm_peel.specs.Peeling.{IsPeelingOf, zeros_of};
 
-use crate::round::{advance, link_all, pick};
+use crate::round::{advance, begin, link_all};
 use cm_graph::{Edges, Incidence, Steps};
 use std::alloc::{AllocError, Global};
 use std::marker::Model;
 use std::sync::ledger::Ledger;
 
-/// The removed edges in order, their levels and pivots, and the edges that are left.
+/// The removed edges in order, the level and the pivot of each edge, and the edges that are left.
 #[derive(Drop)]
 pub struct Peeled<const K: usize> {
     order: Vec<u32>,
     levels: Vec<u32>,
-    pivots: Vec<u32>,
+    pivots: Vec<u8>,
     rest: Vec<u32>,
 }
 
@@ -29,18 +27,21 @@ impl<const K: usize> Model for Peeled<K> {
 }
 
 impl<const K: usize> Peeled<K> {
+    /// The removed edges, by their rounds, and inside a round by rising number.
     pub fn order(&self) -> &[u32]
         ensures { result.now ≡ self.now.order }
     {
         &self.order
     }
 
+    /// The edges that are left, by rising number.
     pub fn rest(&self) -> &[u32]
         ensures { result.now ≡ self.now.rest }
     {
         &self.rest
     }
 
+    /// The round that removed the edge, from 1, or 0 where it is left.
     pub fn level(&self, e: u32) -> u32
         requires { e < length self.now.levels }
         ensures { result ≡ slice_index self.now.levels e }
@@ -48,24 +49,16 @@ impl<const K: usize> Peeled<K> {
         self.levels[e as usize]
     }
 
+    /// The position, from 0, of a removed edge's pivot among its ends.
     pub fn pivot(&self, e: u32) -> u32
         requires { e < length self.now.pivots }
         ensures { result ≡ slice_index self.now.pivots e }
     {
-        self.pivots[e as usize]
+        self.pivots[e as usize] as u32
     }
 }
 
-fn numbers(alloc: Global, n: u32) -> Result<Vec<u32>, AllocError>
-    ensures { IfOk result (λ v. v.items ≡ numbers_from 0 n) }
-{
-    let mut v = Vec::new(alloc);
-    for e in 0..n {
-        v.push(e)?;
-    }
-    Ok(v)
-}
-
+/// The places at which a list has 0.
 fn zeros(alloc: Global, levels: &Vec<u32>) -> Result<Vec<u32>, AllocError>
     requires { length levels.now.items ≤ 67108864 }
     ensures { IfOk result (λ v. v.items ≡ zeros_of levels.now.items) }
@@ -79,7 +72,8 @@ fn zeros(alloc: Global, levels: &Vec<u32>) -> Result<Vec<u32>, AllocError>
     Ok(v)
 }
 
-/// Peels the edges by rounds.
+/// Peels the edges by rounds. A round removes all edges that have an end of degree one where it begins. It looks at
+/// vertices at most `8 * K` times for each edge.
 pub fn peel<const K: usize, I: Incidence<K> + Drop, L: Ledger>(
     alloc: Global,
     edges: &Edges<K>,
@@ -94,23 +88,31 @@ pub fn peel<const K: usize, I: Incidence<K> + Drop, L: Ledger>(
     link_all(edges, &mut incidence, steps);
     let mut levels = vec![in alloc; 0; m as usize]?;
     let mut pivots = vec![in alloc; 0; m as usize]?;
-    let mut order = Vec::new(alloc);
-    let all = numbers(alloc, m)?;
-    let mut picked = pick(alloc, edges, &incidence, &all, &mut pivots, steps)?;
-    let mut level = 0;
-    'rounds: while !picked.is_empty() {
-        picked = advance(
-            alloc,
+    let mut order = Vec::with_capacity(alloc, m as usize)?;
+    begin(
+        edges,
+        &incidence,
+        &mut levels,
+        &mut pivots,
+        &mut order,
+        steps,
+    )?;
+    let mut start = 0;
+    let mut rounds = 0;
+    'rounds: while start < order.len() {
+        let end = order.len();
+        advance(
             edges,
             &mut incidence,
-            level,
-            &picked,
-            &mut order,
+            start,
+            rounds,
             &mut levels,
             &mut pivots,
+            &mut order,
             steps,
         )?;
-        level += 1;
+        start = end;
+        rounds += 1;
     }
     let rest = zeros(alloc, &levels)?;
     Ok(Peeled {

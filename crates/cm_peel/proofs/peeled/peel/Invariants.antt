@@ -4,10 +4,11 @@ use Rattle.cm_peel.proofs.peeled.peel.Given as goal
 
 abbrev pub invariant-rounds : goal.invariant-rounds
 invariant-rounds g l = record {
-  state : AtRound l.edges l.level (g.I.Incidence.links l.incidence) l.picked.items l.order.items l.levels.items l.pivots.items;
+  state : AtRound l.edges l.rounds (g.I.Incidence.links l.incidence) l.start l.order.items l.levels.items l.pivots.items;
   fits : length l.edges.edges ≤ 67108864;
-  steps : l.steps ≤ l.fn.steps + 2 * (g.row.K * length l.edges.edges) + 4 * (g.row.K * vec_len l.order) + g.row.K * vec_len l.picked;
+  within : l.start ≤ vec_len l.order;
+  steps : l.steps ≤ l.fn.steps + 2 * (g.row.K * length l.edges.edges) + 4 * (g.row.K * l.start) + g.row.K * (vec_len l.order - l.start);
 }
 
 abbrev pub decreases-rounds : goal.decreases-rounds
-decreases-rounds g l = length l.edges.edges - vec_len l.order
+decreases-rounds g l = length l.edges.edges - l.start

@@ -1,0 +1,34 @@
+-- Lists that are filled by a loop, and pieces of lists.
+use Rattle.std.proofs.Common.{◌≡◌, ◌≢◌, ℕ, suc, ◌+◌, ◌<◌, ◌≤◌, false, eqb, List, [], ◌∷◌, ◌++◌, length, get_or, set, take, map, sym, ap, ◌∙◌, arith, refl, below_more, get_or-set_other}
+use Rattle.std.specs.List.Sorted.{IsStrictlyIncreasing}
+use Rattle.std.proofs.Math.Seq.{take-suc-set}
+use Rattle.std.proofs.lemmas.Bool.{or_parts, eqb-false}
+use Rattle.std.proofs.lemmas.Grind.{get_or-set_at}
+use Rattle.std.proofs.lemmas.List.{take_more, take_all, map-append}
+use Rattle.std.proofs.lemmas.List.Kept.{AllPairs-from_increasing}
+use Rattle.cm_spec.specs.Lists.{has}
+use Rattle.cm_peel.proofs.Taking.{has-push}
+
+-- one more element of a list that is filled with the values of a function
+pub filled_more : {X Y : Type 0} (f : X → Y) (xs : List X) (now : List Y) (i : ℕ) (d : X) (y : Y) → i < length xs → length now ≡ length xs → y ≡ f (get_or xs i d) → take i now ≡ map f (take i xs) → take (i + 1) (set now i y) ≡ map f (take (i + 1) xs)
+filled_more f xs now i d y h long is was =
+    let s : i + 1 ≡ suc i = omega arith in
+    ap (λ k. take k (set now i y)) s ∙ (take-suc-set now i y (omega arith) ∙ (ap (λ ys. ys ++ y ∷ []) was ∙ (ap (λ z. map f (take i xs) ++ z ∷ []) is ∙ (sym (map-append f (take i xs) (get_or xs i d ∷ [])) ∙ ap (map f) (sym (take_more xs i d h))))))
+
+pub filled_all : {X Y : Type 0} (f : X → Y) (xs : List X) (now : List Y) (i : ℕ) → length xs ≤ i → length now ≡ length xs → take i now ≡ map f (take i xs) → now ≡ map f xs
+filled_all f xs now i end long was = sym (take_all i now (omega arith)) ∙ (was ∙ ap (map f) (take_all i xs end))
+
+-- one more value that is stored where a rising list says
+pub set_next : (pivots chunk : List ℕ) (value : ℕ → ℕ) (i y : ℕ) → IsStrictlyIncreasing chunk → i < length chunk → get_or chunk i 0 < length pivots → y ≡ value i → ((k : ℕ) → k < i → get_or pivots (get_or chunk k 0) 0 ≡ value k)
+    → (k : ℕ) → k < i + 1 → get_or (set pivots (get_or chunk i 0) y) (get_or chunk k 0) 0 ≡ value k
+set_next pivots chunk value i y up h place is was = below_more _ i (λ k low.
+    let less : get_or chunk k 0 < get_or chunk i 0 = AllPairs-from_increasing chunk up k i 0 low h in
+    let ne : get_or chunk k 0 ≢ get_or chunk i 0 = omega arith in
+    get_or-set_other pivots (get_or chunk i 0) (get_or chunk k 0) y 0 ne ∙ was k low) (get_or-set_at pivots (get_or chunk i 0) (get_or chunk i 0) y 0 refl place ∙ is)
+
+pub unset_next : (pivots old chunk : List ℕ) (i y : ℕ) → i < length chunk → ((e : ℕ) → has (take i chunk) e ≡ false → get_or pivots e 0 ≡ get_or old e 0) → (e : ℕ) → has (take (i + 1) chunk) e ≡ false → get_or (set pivots (get_or chunk i 0) y) e 0 ≡ get_or old e 0
+unset_next pivots old chunk i y h was e none =
+    let t : has (take i chunk ++ get_or chunk i 0 ∷ []) e ≡ false = ap (λ (xs : List ℕ). has xs e) (sym (take_more chunk i 0 h)) ∙ none in
+    let parts = or_parts (has (take i chunk) e) (eqb (get_or chunk i 0) e) (sym (has-push (take i chunk) (get_or chunk i 0) e) ∙ t) in
+    let ne : e ≢ get_or chunk i 0 = (λ s. eqb-false _ _ parts.1 (sym s)) in
+    get_or-set_other pivots (get_or chunk i 0) e y 0 ne ∙ was e parts.0

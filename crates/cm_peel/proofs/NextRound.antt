@@ -1,0 +1,189 @@
+-- From one round to the next.
+use Rattle.std.proofs.Common.{◌≡◌, ◌⊎◌, ℕ, suc, ◌+◌, ◌-◌, ◌<◌, ◌≤◌, Bool, true, false, cond, not, eqb, ◌&&◌, List, ◌++◌, length, get_or, take, drop, Some, None, sym, refl, ap, ◌∙◌, subst, inl, inr, arith, append_assoc, length-append, length-drop, nat_cmp}
+use Rattle.std.specs.List.{All, IsDistinct}
+use Rattle.std.specs.List.Sorted.{IsStrictlyIncreasing, IsSorted, IsPermutation}
+use Rattle.std.proofs.Math.Seq.{take-add, drop-append-add, drop-append_seam, take-append_seam, take-length}
+use Rattle.std.proofs.lemmas.Bool.{both_ways, cases_Bool, and_parts, and_from, or_parts, cond-true, cond-false, not_from_false, cases_eq, eq-eqb, ne_eqb}
+use Rattle.std.proofs.lemmas.List.{get_or-take, get_or-drop, take-append-le, drop-append-le, take-append-drop, length-take-le, take_all}
+use Rattle.std.proofs.lemmas.List.Elements.{All-from_get_or, Contains-get_or}
+use Rattle.std.proofs.lemmas.List.Sorted.{list_any-IsPermutation}
+use Rattle.std.proofs.lemmas.Map.Keys.{IsDistinct-IsPermutation}
+use Rattle.cm_spec.specs.Lists.{has}
+use Rattle.cm_spec.specs.Graph.{ends_at}
+use Rattle.cm_spec.specs.Rounds.{is_left, is_held, left_after, removed_after, level_of, pivot_of, order_upto}
+use Rattle.cm_graph.specs.Graph.{Graph, Links, IsLinked}
+use Rattle.cm_peel.specs.Incident.{AreLinked, PivotsSet, is_picked, free_position}
+use Rattle.cm_peel.specs.AtRound.{AtRound, InRound}
+use Rattle.cm_peel.proofs.Sets.{increasing_from_Rises, Rises-from_increasing, has-from_Contains, not_before}
+use Rattle.cm_peel.proofs.Incident.{AreLinked-agree}
+use Rattle.cm_peel.proofs.Pieces.{rises_sorted}
+use Rattle.cm_peel.proofs.Taking.{has-append, are_distinct}
+use Rattle.cm_peel.proofs.RoundFacts.{has_left, has_place, has_left_from, is_left_from, picked_is, has_removed, removed_rises, removed_is_left, rising_same}
+use Rattle.cm_peel.proofs.Advance.{level_is, pivot_is, levels_next, still_early, length-order}
+
+-- the edges of a round
+pub round_rises : (edges : List (List ℕ)) (t : ℕ) → IsStrictlyIncreasing (removed_after edges t)
+round_rises edges t = increasing_from_Rises 0 (removed_after edges t) (removed_rises edges t)
+
+pub round_inside : (edges : List (List ℕ)) (t e : ℕ) → has (removed_after edges t) e ≡ true → (e < length edges) × (is_left edges t e ≡ true)
+round_inside edges t e m = is_left_from edges t e (removed_is_left edges t e m)
+
+pub round_places : (edges : List (List ℕ)) (t : ℕ) → All (λ e. e < length edges) (removed_after edges t)
+round_places edges t = All-from_get_or (λ e. e < length edges) (removed_after edges t) 0 (λ k h. (round_inside edges t _ (has-from_Contains (removed_after edges t) _ (Contains-get_or (removed_after edges t) k 0 h))).0)
+
+-- the round stands in the order
+pub piece_is : (upto round next order : List ℕ) (start at d n : ℕ) → order ≡ (upto ++ round) ++ next → start ≡ length upto → at ≡ start + d → d + n ≤ length round → take n (drop at order) ≡ take n (drop d round)
+piece_is upto round next order start at d n is from place few =
+    let z : at ≡ length upto + d = omega arith in
+    ap (λ k. take n (drop k order)) z ∙ (ap (λ (xs : List ℕ). take n (drop (length upto + d) xs)) (is ∙ append_assoc upto round next) ∙ (ap (take n) (drop-append-add upto (round ++ next) d)
+    ∙ (ap (take n) (drop-append-le d round next (omega arith)) ∙ take-append-le n (drop d round) next (omega (arith, length-drop d round)))))
+
+-- a piece of the round
+pub piece_at : (round : List ℕ) (d n k : ℕ) → k < n → get_or (take n (drop d round)) k 0 ≡ get_or round (d + k) 0
+piece_at round d n k h = get_or-take n (drop d round) k 0 h ∙ get_or-drop d round k 0
+
+pub piece_rises : (round : List ℕ) (d n : ℕ) → IsStrictlyIncreasing round → d + n ≤ length round → IsStrictlyIncreasing (take n (drop d round))
+piece_rises round d n up few k h =
+    let long : length (take n (drop d round)) ≡ n = length-take-le n (drop d round) (omega (arith, length-drop d round)) in
+    let s : d + (k + 1) ≡ (d + k) + 1 = omega arith in
+    let next : get_or (take n (drop d round)) (k + 1) 0 ≡ get_or round ((d + k) + 1) 0 = piece_at round d n (k + 1) (omega arith) ∙ ap (λ i. get_or round i 0) s in
+    let here : get_or (take n (drop d round)) k 0 ≡ get_or round (d + k) 0 = piece_at round d n k (omega arith) in
+    let less : get_or round (d + k) 0 < get_or round ((d + k) + 1) 0 = up (d + k) (omega arith) in
+    omega arith
+
+pub piece_linked : (graph : Graph) (t d n : ℕ) (l : Links) → AreLinked graph (λ e. is_left graph.edges t e && not (has (take d (removed_after graph.edges t)) e)) l → d + n ≤ length (removed_after graph.edges t)
+    → All (λ e. IsLinked l e (ends_at graph.edges e)) (take n (drop d (removed_after graph.edges t)))
+piece_linked graph t d n l a few = All-from_get_or (λ e. IsLinked l e (ends_at graph.edges e)) (take n (drop d round)) 0 (λ k h.
+    let long : length (take n (drop d round)) ≡ n = length-take-le n (drop d round) (omega (arith, length-drop d round)) in
+    let at : get_or (take n (drop d round)) k 0 ≡ get_or round (d + k) 0 = piece_at round d n k (omega arith) in
+    let short : d + k < length round = omega arith in
+    rw at (linked k short)) where
+      round : List ℕ
+      round = removed_after graph.edges t
+
+      linked : (k : ℕ) → d + k < length (removed_after graph.edges t) → IsLinked l (get_or (removed_after graph.edges t) (d + k) 0) (ends_at graph.edges (get_or (removed_after graph.edges t) (d + k) 0))
+      linked k h =
+          let e : ℕ = get_or round (d + k) 0 in
+          let here = round_inside graph.edges t e (has-from_Contains round e (Contains-get_or round (d + k) 0 h)) in
+          let before : has (take d round ++ take k (drop d round)) e ≡ false = ap (λ (xs : List ℕ). has xs e) (sym (take-add d k round)) ∙ not_before round (d + k) (round_rises graph.edges t) h in
+          let out = or_parts (has (take d round) e) (has (take k (drop d round)) e) (sym (has-append (take d round) (take k (drop d round)) e) ∙ before) in
+          a.each e here.0 ∙ ap (λ b. Some (cond b (Some (ends_at graph.edges e)) None)) (and_from _ _ here.1 (not_from_false _ out.0))
+
+-- after the last chunk
+pub all_unlinked : (graph : Graph) (t : ℕ) (l : Links) → AreLinked graph (λ e. is_left graph.edges t e && not (has (take (length (removed_after graph.edges t)) (removed_after graph.edges t)) e)) l → AreLinked graph (is_left graph.edges (suc t)) l
+all_unlinked graph t l a =
+    let edges : List (List ℕ) = graph.edges in
+    AreLinked-agree graph (λ e. is_left edges t e && not (has (take (length (removed_after edges t)) (removed_after edges t)) e)) (is_left edges (suc t)) l a (λ k h.
+    let left : has (left_after edges t) k ≡ is_left edges t k = has_left edges t k ∙ ap (λ b. b && is_left edges t k) (has_place edges k h) in
+    let gone : has (removed_after edges t) k ≡ (is_left edges t k && not (is_held edges (left_after edges t) k)) = has_removed edges t k ∙ ap (λ b. b && not (is_held edges (left_after edges t) k)) left in
+    sym (ap (λ (xs : List ℕ). is_left edges t k && not (has xs k)) (take-length (removed_after edges t)) ∙ (ap (λ b. is_left edges t k && not b) gone ∙ keeps (is_left edges t k) (is_held edges (left_after edges t) k)))) where
+      keeps : (a b : Bool) → (a && not (a && not b)) ≡ (a && b)
+      keeps true true = refl
+      keeps true false = refl
+      keeps false b = refl
+
+-- what was added is the next round
+pub next_members : (graph : Graph) (t : ℕ) (l : Links) (next : List ℕ) → AreLinked graph (is_left graph.edges (suc t)) l → ((e : ℕ) → has next e ≡ true → e < length graph.edges) → ((e : ℕ) → e < length graph.edges → has next e ≡ (is_left graph.edges (suc t) e && is_picked l graph.edges e))
+    → (e : ℕ) → (has next e ≡ true → has (removed_after graph.edges (suc t)) e ≡ true) × (has (removed_after graph.edges (suc t)) e ≡ true → has next e ≡ true)
+next_members graph t l next a inside members e = (to, from) where
+  to : has next e ≡ true → has (removed_after graph.edges (suc t)) e ≡ true
+  to m =
+      let h : e < length graph.edges = inside e m in
+      let both = and_parts (is_left graph.edges (suc t) e) (is_picked l graph.edges e) (sym (members e h) ∙ m) in
+      let here : has (left_after graph.edges (suc t)) e ≡ true = has_left_from graph.edges (suc t) e h both.0 in
+      has_removed graph.edges (suc t) e ∙ and_from _ _ here (sym (picked_is graph (suc t) l e a here) ∙ both.1)
+
+  from : has (removed_after graph.edges (suc t)) e ≡ true → has next e ≡ true
+  from m =
+      let both = and_parts (has (left_after graph.edges (suc t)) e) (not (is_held graph.edges (left_after graph.edges (suc t)) e)) (sym (has_removed graph.edges (suc t) e) ∙ m) in
+      let here = is_left_from graph.edges (suc t) e both.0 in
+      members e here.0 ∙ and_from _ _ here.1 (picked_is graph (suc t) l e a both.0 ∙ both.1)
+
+eqb-flip : (x y : ℕ) → eqb x y ≡ eqb y x
+eqb-flip x y = elim (cases_eq x y) [
+  | inl same ↦ eq-eqb x y same ∙ sym (eq-eqb y x (sym same))
+  | inr other ↦ ne_eqb x y other ∙ sym (ne_eqb y x (λ s. other (sym s)))
+]
+
+pub next_sorted : (graph : Graph) (t : ℕ) (l : Links) (order levels xs : List ℕ) (r : InRound graph t (length (removed_after graph.edges t)) l order levels) → IsPermutation r.next xs → IsSorted nat_cmp xs → xs ≡ removed_after graph.edges (suc t)
+next_sorted graph t l order levels xs r moved up =
+    let a : AreLinked graph (is_left graph.edges (suc t)) l = all_unlinked graph t l r.linked in
+    let apart : IsDistinct eqb xs = IsDistinct-IsPermutation eqb eqb-flip r.next xs moved (are_distinct r.next r.apart) in
+    let same : (e : ℕ) → has r.next e ≡ has xs e = (λ e. list_any-IsPermutation (λ x. eqb x e) r.next xs moved) in
+    rising_same graph.edges xs (removed_after graph.edges (suc t)) (Rises-from_increasing 0 xs (rises_sorted xs up apart) (λ _. omega arith)) (removed_rises graph.edges (suc t))
+    (λ e m. (round_inside graph.edges (suc t) e m).0)
+    (λ e m. (next_members graph t l r.next a r.inside r.members e).0 (same e ∙ m))
+    (λ e m. sym (same e) ∙ (next_members graph t l r.next a r.inside r.members e).1 m)
+
+-- the pivots of a round
+pub pivots_next : (graph : Graph) (t : ℕ) (l : Links) (es old new : List ℕ) → AreLinked graph (is_left graph.edges t) l → ((e : ℕ) → e < length graph.edges → is_left graph.edges t e ≡ true → t < length graph.edges) → ((e : ℕ) → e < length graph.edges → is_left graph.edges t e ≡ true → is_left graph.edges (suc t) e ≡ false → has es e ≡ true)
+    → ((e : ℕ) → has es e ≡ true → is_left graph.edges t e ≡ true) → PivotsSet l graph.edges es old new → ((e : ℕ) → e < length graph.edges → is_left graph.edges t e ≡ false → get_or old e 0 ≡ pivot_of graph.edges e)
+    → (e : ℕ) → e < length graph.edges → is_left graph.edges (suc t) e ≡ false → get_or new e 0 ≡ pivot_of graph.edges e
+pivots_next graph t l es old new a few all inside set was e h after = go (cases_Bool (is_left graph.edges t e)) where
+  go : (is_left graph.edges t e ≡ true) ⊎ (is_left graph.edges t e ≡ false) → get_or new e 0 ≡ pivot_of graph.edges e
+  go (inl here) = set.each e h ∙ (cond-true _ _ (get_or old e 0) (all e h here after) ∙ pivot_is graph t l e a (level_is graph.edges t e h (few e h here) here after))
+  go (inr before) = set.each e h ∙ (cond-false _ (free_position l graph.edges e) _ (go₂ (cases_Bool (has es e))) ∙ was e h before) where
+    go₂ : (has es e ≡ true) ⊎ (has es e ≡ false) → has es e ≡ false
+    go₂ (inl m) = absurd (both_ways _ before (inside e m))
+    go₂ (inr m) = m
+
+pub falls_removed : (edges : List (List ℕ)) (t e : ℕ) → e < length edges → is_left edges t e ≡ true → is_left edges (suc t) e ≡ false → has (removed_after edges t) e ≡ true
+falls_removed edges t e h here gone =
+    let falls : is_held edges (left_after edges t) e ≡ false = sym (ap (λ b. b && is_held edges (left_after edges t) e) here) ∙ gone in
+    has_removed edges t e ∙ and_from _ _ (has_left_from edges t e h here) (not_from_false _ falls)
+
+-- the state after one more round
+pub next_round : (graph : Graph) (t : ℕ) (l m : Links) (start : ℕ) (order levels pivots order₁ order₂ levels₂ pivots₂ : List ℕ) → AtRound graph t l start order levels pivots → start < length order
+    → (r : InRound graph t (length (removed_after graph.edges t)) m order₁ levels₂) → (xs : List ℕ) → xs ≡ removed_after graph.edges (suc t) → order₂ ≡ order_upto graph.edges (suc t) ++ xs
+    → length pivots₂ ≡ length pivots → PivotsSet m graph.edges xs pivots pivots₂ → AtRound graph (suc t) m (length order) order₂ levels₂ pivots₂
+next_round graph t l m start order levels pivots order₁ order₂ levels₂ pivots₂ a some r xs is order_is long set =
+    let edges : List (List ℕ) = graph.edges in
+    let linked : AreLinked graph (is_left edges (suc t)) m = all_unlinked graph t m r.linked in
+    let same : length order ≡ length (order_upto edges (suc t)) = ap length a.order_is in
+    record {
+      linked = linked;
+      start_is = same;
+      order_is = order_is ∙ ap (λ (ys : List ℕ). order_upto edges (suc t) ++ ys) is;
+      few = omega (arith, a.few);
+      levels_long = r.levels_long;
+      pivots_long = long ∙ a.pivots_long;
+      level = λ e h. r.level e h ∙ (ap (λ b. cond b (suc (suc t)) (cond (is_left edges (suc t) e) 0 (level_of edges e))) (members e) ∙ levels_next edges (suc t) e h (early e h));
+      pivot = pivots_next graph (suc t) m xs pivots pivots₂ linked early (λ e h here gone. ap (λ (ys : List ℕ). has ys e) is ∙ falls_removed edges (suc t) e h here gone)
+          (λ e k. (round_inside edges (suc t) e (sym (ap (λ (ys : List ℕ). has ys e) is) ∙ k)).1) set a.pivot;
+    } where
+      early : (e : ℕ) → e < length graph.edges → is_left graph.edges (suc t) e ≡ true → suc t < length graph.edges
+      early = still_early graph.edges (suc t) (omega (arith, a.few, ap length a.order_is, length-order graph.edges (suc t)))
+
+      members : (e : ℕ) → has r.next e ≡ has (removed_after graph.edges (suc t)) e
+      members e =
+          let both = next_members graph t m r.next (all_unlinked graph t m r.linked) r.inside r.members e in
+          go both.0 both.1 where
+            go : {a b : Bool} → (a ≡ true → b ≡ true) → (b ≡ true → a ≡ true) → a ≡ b
+            go {a} {b} to from = by_cases a b to from where
+              by_cases : (a b : Bool) → (a ≡ true → b ≡ true) → (b ≡ true → a ≡ true) → a ≡ b
+              by_cases true b f g = sym (f refl)
+              by_cases false true f g = g refl
+              by_cases false false f g = refl
+
+-- the order after its end is sorted
+pub sorted_round : (graph : Graph) (t : ℕ) (l : Links) (order levels old new : List ℕ) (at : ℕ) → InRound graph t (length (removed_after graph.edges t)) l order levels → old ≡ order → at ≡ length (order_upto graph.edges (suc t)) → take at new ≡ take at old → IsSorted nat_cmp (drop at new) → IsPermutation (drop at old) (drop at new)
+    → (drop at new ≡ removed_after graph.edges (suc t)) × (new ≡ order_upto graph.edges (suc t) ++ drop at new)
+sorted_round graph t l order levels old new at r is place front up moved =
+    let upto : List ℕ = order_upto graph.edges (suc t) in
+    let whole : old ≡ upto ++ r.next = is ∙ r.order_is in
+    let before : take at old ≡ upto = ap (take at) whole ∙ (ap (λ k. take k (upto ++ r.next)) place ∙ take-append_seam upto r.next) in
+    let next : drop at old ≡ r.next = ap (drop at) whole ∙ (ap (λ k. drop k (upto ++ r.next)) place ∙ drop-append_seam upto r.next) in
+    (next_sorted graph t l order levels (drop at new) r (subst (λ (xs : List ℕ). IsPermutation xs (drop at new)) next moved) up, sym (take-append-drop at new) ∙ ap (λ (xs : List ℕ). xs ++ drop at new) (front ∙ before))
+
+pub tail_is : (xs : List ℕ) (at : ℕ) → take (length xs - at) (drop at xs) ≡ drop at xs
+tail_is xs at = take_all (length xs - at) (drop at xs) (omega (arith, length-drop at xs))
+
+-- how long the order is
+pub order_fits : (graph : Graph) (t : ℕ) (l : Links) (start : ℕ) (order levels pivots : List ℕ) → AtRound graph t l start order levels pivots → length order ≤ length graph.edges
+order_fits graph t l start order levels pivots a = omega (arith, ap length a.order_is, length-order graph.edges (suc t))
+
+pub round_long : (graph : Graph) (t : ℕ) (l : Links) (start : ℕ) (order levels pivots : List ℕ) → AtRound graph t l start order levels pivots → length order ≡ start + length (removed_after graph.edges t)
+round_long graph t l start order levels pivots a = omega (arith, ap length a.order_is, a.start_is, length-append (order_upto graph.edges t) (removed_after graph.edges t))
+
+pub next_fits : (edges : List (List ℕ)) (t : ℕ) → length (order_upto edges t) + length (removed_after edges t) ≤ length edges
+next_fits edges t = omega (arith, length-order edges (suc t), length-append (order_upto edges t) (removed_after edges t))

@@ -1,0 +1,72 @@
+-- Pieces of the lists that peeling keeps.
+use Rattle.std.proofs.Common.{◌≡◌, ◌≢◌, ℕ, zero, suc, ◌+◌, ◌-◌, ◌<◌, ◌≤◌, true, eqb, List, [], ◌∷◌, ◌++◌, length, get_or, take, drop, sym, refl, ap, ◌∙◌, inl, inr, arith, append-nil, length-append, length-drop, nat_cmp}
+use Rattle.std.specs.List.{All, IsDistinct}
+use Rattle.std.specs.Ordering.{is_lt}
+use Rattle.std.specs.List.Sorted.{IsSorted, IsStrictlyIncreasing}
+use Rattle.std.proofs.lemmas.Bool.{cases_lt, lt-ltb, eqb-false, false≢true}
+use Rattle.std.proofs.lemmas.Map.Keys.{apart_from_distinct}
+use borrow.Rule.Slice.PartMut.{put_mid}
+use Rattle.std.proofs.Math.Seq.{drop-append_seam}
+use Rattle.std.proofs.lemmas.List.{length-take-le, take-append-le, take_all}
+use Rattle.std.proofs.lemmas.List.Elements.{All-from_get_or}
+use Rattle.cm_spec.specs.Lists.{numbers_from}
+use Rattle.cm_peel.proofs.Core.{length-numbers}
+
+pub get_or-numbers : (b n k : ℕ) → k < n → get_or (numbers_from b n) k 0 ≡ b + k
+get_or-numbers b zero k h = absurd (omega arith)
+get_or-numbers b (suc n) zero h = omega arith
+get_or-numbers b (suc n) (suc k) h = get_or-numbers (suc b) n k (omega arith) ∙ omega arith
+
+drop_all : {X : Type 0} (xs : List X) (n : ℕ) → length xs ≤ n → drop n xs ≡ []
+drop_all [] zero h = refl
+drop_all [] (suc n) h = refl
+drop_all (x ∷ xs) zero h = absurd (omega arith)
+drop_all (x ∷ xs) (suc n) h = drop_all xs n (omega arith)
+
+-- what a write to the end of a list leaves there
+pub tail_written : (xs ys : List ℕ) (a : ℕ) → a ≤ length xs → length ys ≡ length xs - a → drop a (put_mid a (length xs - a) xs ys) ≡ ys
+tail_written xs ys a h long =
+    let n : length (take a xs) ≡ a = length-take-le a xs h in
+    let past : List ℕ = drop (length xs - a) (drop a xs) in
+    let none : past ≡ [] = drop_all (drop a xs) (length xs - a) (omega (arith, length-drop a xs)) in
+    ap (λ k. drop k (take a xs ++ (ys ++ past))) (sym n) ∙ (drop-append_seam (take a xs) (ys ++ past) ∙ (ap (λ zs. ys ++ zs) none ∙ append-nil ys))
+
+-- a sorted list in which no number stands twice rises
+pub rises_sorted : (xs : List ℕ) → IsSorted nat_cmp xs → IsDistinct eqb xs → IsStrictlyIncreasing xs
+rises_sorted xs up apart k h =
+    let not_less = up k 0 (omega arith) h in
+    let differ : get_or xs k 0 ≢ get_or xs (k + 1) 0 = eqb-false _ _ (apart_from_distinct eqb xs k (k + 1) 0 apart (omega arith) h) in
+    elim (cases_lt (get_or xs (k + 1) 0) (get_or xs k 0)) [
+      | inl less ↦ absurd (false≢true (sym not_less ∙ is_less _ _ less))
+      | inr high ↦ omega arith
+    ] where
+      is_less : (x y : ℕ) → x < y → is_lt (nat_cmp x y) ≡ true
+      is_less x y h = rw (lt-ltb x y h) refl
+
+-- what a write to the front of a list leaves there, and how long the list is
+pub front_written : {X : Type 0} (new old : List X) (n : ℕ) → length new ≡ n → take n (new ++ drop n old) ≡ new
+front_written new old n long = take-append-le n new (drop n old) (omega arith) ∙ take_all n new (omega arith)
+
+pub length_written : {X : Type 0} (new old : List X) (n m : ℕ) → length new ≡ length (take n old) → n ≤ m → length old ≡ m → length (new ++ drop n old) ≡ m
+length_written new old n m long few whole =
+    let front : length (take n old) ≡ n = length-take-le n old (omega arith) in
+    omega (arith, length-append new (drop n old), length-drop n old)
+
+-- numbers one after another
+pub numbers-append : (b a n : ℕ) → numbers_from b a ++ numbers_from (b + a) n ≡ numbers_from b (a + n)
+numbers-append b zero n = let z : b + 0 ≡ b = omega arith in let y : 0 + n ≡ n = omega arith in rw (z, y) refl
+numbers-append b (suc a) n =
+    let z : b + suc a ≡ suc b + a = omega arith in
+    let y : suc a + n ≡ suc (a + n) = omega arith in
+    rw (z, y) (ap (λ xs. b ∷ xs) (numbers-append (suc b) a n))
+
+pub numbers_below : (b n m : ℕ) → b + n ≤ m → All (λ e. e < m) (numbers_from b n)
+numbers_below b n m h = All-from_get_or (λ e. e < m) (numbers_from b n) 0 (λ k low.
+    let short : k < n = omega (arith, length-numbers b n) in
+    omega (arith, get_or-numbers b n k short))
+
+-- a slice that is written back to its Vec
+pub written_back : {X : Type 0} (new old : List X) (n : ℕ) → n ≡ length old → length new ≡ length old → take n (new ++ drop (length new) old) ≡ new
+written_back new old n long same =
+    let e : n ≡ length new = omega arith in
+    ap (λ k. take k (new ++ drop (length new) old)) e ∙ front_written new old (length new) refl

@@ -1,0 +1,208 @@
+//! A round is worked on by chunks: what lies far apart in memory is first read into small arrays, so that no store waits
+//! for a load.
+ghost use Rattle.std.specs.Prelude.{◌≡◌, ℕ, ◌+◌, ◌*◌, ◌<◌, ◌≤◌, [], ◌++◌, ◌==◌, if◌then◌else◌, length, All, map, slice_index, slice_index_or, OnOk, false};
+ghost use Rattle.std.specs.List.{position_or_len};
+ghost use Rattle.std.specs.List.Sorted.{IsStrictlyIncreasing};
+ghost use Rattle.arrayvec.specs.ArrayVec.{array_vec_len};
+ghost use Rattle.cm_spec.specs.Lists.{has};
+ghost use Rattle.cm_spec.specs.Graph.{IsEdge, ends_at};
+ghost use Rattle.cm_graph.specs.Graph.{IsLinked, degree_of};
+ghost use Rattle.cm_peel.specs.AtRound.{AreTaken};
+ghost use Rattle.cm_peel.specs.Incident.{soles_of, soles_of_all, unlinked_all};
+
+use arrayvec::ArrayVec;
+use cm_graph::{Edges, Incidence, Steps};
+use std::alloc::AllocError;
+use std::sync::ledger::Ledger;
+
+/// How many edges are worked on together.
+pub(crate) const CHUNK: usize = 64;
+
+/// How many ends these have at most.
+pub(crate) const CHUNK_ENDS: usize = 192;
+
+/// The ends of the edges of a chunk.
+pub(crate) fn gather<const K: usize>(edges: &Edges<K>, chunk: &[u32], ends: &mut [[u32; K]])
+    requires small { K ≤ 3 }
+    requires places { All (λ e. e < length edges.now.edges) chunk.now }
+    requires long { length ends.old ≡ length chunk.now }
+    ensures ends { ends.new ≡ map (ends_at edges.now.edges) chunk.now }
+    ensures edges { All (λ each. IsEdge edges.now.vertices each) ends.new }
+{
+    for (i, e) in chunk.iter().enumerate() {
+        ends[i] = edges.ends(*e);
+    }
+}
+
+/// Unlinks the edges of a chunk.
+pub(crate) fn unlink_each<const K: usize, I: Incidence<K>, L: Ledger>(
+    incidence: &mut I,
+    chunk: &[u32],
+    ends: &[[u32; K]],
+    steps: &mut Steps<L>,
+)
+    requires small { K ≤ 3 }
+    requires rising { IsStrictlyIncreasing chunk.now }
+    requires long { length ends.now ≡ length chunk.now }
+    requires edges { All (λ each. IsEdge (I.links incidence.old).vertices each) ends.now }
+    requires linked { (i : ℕ) → i < length chunk.now → IsLinked (I.links incidence.old) (slice_index chunk.now i) (slice_index_or ends.now i []) }
+    ensures links { I.links incidence.new ≡ unlinked_all (I.links incidence.old) chunk.now }
+    ensures steps { steps.new ≡ steps.old + K * length chunk.now }
+{
+    for (i, e) in chunk.iter().enumerate() {
+        incidence.unlink(*e, ends[i], steps);
+    }
+}
+
+/// Adds the edges of those of an edge's ends that have degree one.
+fn push_soles<const K: usize, I: Incidence<K>, L: Ledger>(
+    incidence: &I,
+    ends: [u32; K],
+    soles: &mut ArrayVec<u32, CHUNK_ENDS>,
+    steps: &mut Steps<L>,
+)
+    requires vertices { All (λ v. v < (I.links incidence.now).vertices) ends }
+    requires room { array_vec_len soles.old + K ≤ 192 }
+    ensures soles { soles.new.items ≡ soles.old.items ++ soles_of (I.links incidence.now) ends.entry }
+    ensures few { array_vec_len soles.new ≤ array_vec_len soles.old + K }
+    ensures steps { steps.new ≤ steps.old + 2 * K }
+{
+    for v in ends {
+        if incidence.degree(v, steps) == 1 {
+            soles.push(incidence.sole(v, steps));
+        }
+    }
+}
+
+/// The edges of the vertices of degree one among the ends of a chunk.
+pub(crate) fn list_soles<const K: usize, I: Incidence<K>, L: Ledger>(
+    incidence: &I,
+    ends: &[[u32; K]],
+    soles: &mut ArrayVec<u32, CHUNK_ENDS>,
+    steps: &mut Steps<L>,
+)
+    requires small { K ≤ 3 }
+    requires vertices { All (λ each. All (λ v. v < (I.links incidence.now).vertices) each) ends.now }
+    requires few { length ends.now ≤ 64 }
+    ensures soles { soles.new.items ≡ soles_of_all (I.links incidence.now) ends.now }
+    ensures steps { steps.new ≤ steps.old + 2 * (K * length ends.now) }
+{
+    soles.clear();
+    for each in ends {
+        push_soles(incidence, *each, soles, steps);
+    }
+}
+
+/// The levels of some edges.
+fn look_up(levels: &[u32], soles: &[u32], marks: &mut [u32])
+    requires places { All (λ e. e < length levels.now) soles.now }
+    requires room { length soles.now ≤ length marks.old }
+    ensures { (i : ℕ) → i < length soles.now → slice_index marks.new i ≡ slice_index levels.now (slice_index soles.now i) }
+{
+    for (i, e) in soles.iter().enumerate() {
+        marks[i] = levels[*e as usize];
+    }
+}
+
+/// Takes those of the edges that have no level yet, `marks` being their levels.
+fn take_fresh(
+    soles: &[u32],
+    marks: &[u32],
+    level: u32,
+    levels: &mut [u32],
+    order: &mut Vec<u32>,
+) -> Result<(), AllocError>
+    requires places { All (λ e. e < length levels.old) soles.now }
+    requires room { length soles.now ≤ length marks.now }
+    requires marks { (i : ℕ) → i < length soles.now → slice_index marks.now i ≡ slice_index levels.old (slice_index soles.now i) }
+    requires some { 0 < level }
+    ensures { OnOk result (AreTaken soles.now level levels.old levels.new order.old.items order.new.items) }
+{
+    for (i, e) in soles.iter().enumerate() {
+        if marks[i] == 0 && levels[*e as usize] == 0 {
+            levels[*e as usize] = level;
+            order.push(*e)?;
+        }
+    }
+    Ok(())
+}
+
+/// Gives a level to those of the edges that have none, and adds them to the order.
+pub(crate) fn take(
+    soles: &[u32],
+    level: u32,
+    levels: &mut [u32],
+    order: &mut Vec<u32>,
+) -> Result<(), AllocError>
+    requires places { All (λ e. e < length levels.old) soles.now }
+    requires few { length soles.now ≤ 192 }
+    requires some { 0 < level }
+    ensures { OnOk result (AreTaken soles.now level levels.old levels.new order.old.items order.new.items) }
+{
+    let mut marks = [0; CHUNK_ENDS];
+    look_up(levels, soles, &mut marks);
+    take_fresh(soles, &marks, level, levels, order)
+}
+
+/// The degrees of an edge's ends.
+fn degrees_of<const K: usize, I: Incidence<K>, L: Ledger>(
+    incidence: &I,
+    ends: [u32; K],
+    steps: &mut Steps<L>,
+) -> [u32; K]
+    requires small { K ≤ 3 }
+    requires vertices { All (λ v. v < (I.links incidence.now).vertices) ends }
+    ensures degrees { result ≡ map (degree_of (I.links incidence.now)) ends.entry }
+    ensures steps { steps.new ≡ steps.old + K }
+{
+    let mut degrees = [0; K];
+    for i in 0..K {
+        degrees[i] = incidence.degree(ends[i], steps);
+    }
+    degrees
+}
+
+/// The degrees of the ends of a chunk.
+pub(crate) fn note_degrees<const K: usize, I: Incidence<K>, L: Ledger>(
+    incidence: &I,
+    ends: &[[u32; K]],
+    degrees: &mut [[u32; K]],
+    steps: &mut Steps<L>,
+)
+    requires small { K ≤ 3 }
+    requires vertices { All (λ each. All (λ v. v < (I.links incidence.now).vertices) each) ends.now }
+    requires long { length degrees.old ≡ length ends.now }
+    ensures degrees { degrees.new ≡ map (map (degree_of (I.links incidence.now))) ends.now }
+    ensures steps { steps.new ≡ steps.old + K * length ends.now }
+{
+    for (i, each) in ends.iter().enumerate() {
+        degrees[i] = degrees_of(incidence, *each, steps);
+    }
+}
+
+/// The lowest position of a degree one, or `K`.
+fn first_one<const K: usize>(degrees: [u32; K]) -> u8
+    requires small { K ≤ 3 }
+    ensures { result ≡ position_or_len (λ d. d == 1) degrees.entry }
+{
+    for i in 0..K {
+        if degrees[i] == 1 {
+            return i as u8;
+        }
+    }
+    K as u8
+}
+
+/// The pivots of a chunk.
+pub(crate) fn set_each<const K: usize>(chunk: &[u32], degrees: &[[u32; K]], pivots: &mut [u8])
+    requires small { K ≤ 3 }
+    requires rising { IsStrictlyIncreasing chunk.now }
+    requires places { All (λ e. e < length pivots.old) chunk.now }
+    requires long { length degrees.now ≡ length chunk.now }
+    ensures set { (i : ℕ) → i < length chunk.now → slice_index pivots.new (slice_index chunk.now i) ≡ position_or_len (λ d. d == 1) (slice_index_or degrees.now i []) }
+    ensures others { (e : ℕ) → has chunk.now e ≡ false → slice_index pivots.new e ≡ slice_index pivots.old e }
+{
+    for (i, e) in chunk.iter().enumerate() {
+        pivots[*e as usize] = first_one(degrees[i]);
+    }
+}
