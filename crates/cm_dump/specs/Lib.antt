@@ -4,3 +4,4 @@ pub mod Reading
 pub mod Headings
 pub mod Places
 pub mod Spelling
+pub mod Examples

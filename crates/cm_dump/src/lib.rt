@@ -2,12 +2,15 @@
 #![tactic(auto)]
 
 mod bulk;
+pub mod examples;
 mod fault;
 mod front;
 mod image;
 mod items;
 pub mod laws;
 mod reader;
+#[cfg(test)]
+mod tests;
 mod writer;
 
 pub use crate::fault::LoadFault;
