@@ -28,11 +28,7 @@ const FIVE: [u8; 29] = [
 fn source_of(alloc: Global, bytes: &[u8], fails: &[u64]) -> Result<MemSource, AllocError>
     ensures start { IfOk result (λ source. source.place ≡ 0) }
 {
-    Ok(MemSource::new(
-        bytes.to_vec(alloc)?,
-        fails.to_vec(alloc)?,
-        Vec::new(alloc),
-    ))
+    Ok(MemSource::new(bytes.to_vec(alloc)?, fails.to_vec(alloc)?, Vec::new(alloc)))
 }
 
 /// Why these bytes give no function, or that they do.
@@ -124,7 +120,11 @@ fn changed_bytes(rt: HostRuntime) -> Result<(), Fail> {
     ];
     for (at, byte, fault) in changes {
         let bytes = changed(alloc, &ONE_EMPTY, 25, [(at, byte), (at, byte)])?;
-        assert_eq!(rt; fault_of(alloc, &bytes, &[])?, Some(fault), "{byte} at {at}");
+        assert_eq!(rt;
+            fault_of(alloc, &bytes, &[])?,
+            Some(fault),
+            "{byte} at {at}"
+        );
     }
     Ok(())
 }
@@ -141,7 +141,11 @@ fn images(rt: HostRuntime) -> Result<(), Fail> {
         (30, [(26, 0x1c), (28, 2)], LoadFault::BadCell { at: 26 }),
         (30, [(25, 0), (28, 2)], LoadFault::BadPadding { at: 28 }),
         // An image that is cut off is not looked into.
-        (28, [(25, 0x80), (26, 0x1f)], LoadFault::Truncated { at: 28 }),
+        (
+            28,
+            [(25, 0x80), (26, 0x1f)],
+            LoadFault::Truncated { at: 28 },
+        ),
         (30, [(25, 0), (26, 0)], LoadFault::Trailing),
     ];
     for (len, two, fault) in changes {
@@ -162,7 +166,10 @@ fn lengths(rt: HostRuntime) -> Result<(), Fail> {
     assert_eq!(rt; fault_of(alloc, &longer, &[])?, Some(LoadFault::Trailing));
     // A header that claims an image of half a gigabyte, of which one byte is there.
     let claim = changed(alloc, &ONE_EMPTY, 25, [(14, 255), (18, 0x97)])?;
-    assert_eq!(rt; fault_of(alloc, &claim, &[])?, Some(LoadFault::Truncated { at: 25 }));
+    assert_eq!(rt;
+        fault_of(alloc, &claim, &[])?,
+        Some(LoadFault::Truncated { at: 25 })
+    );
     Ok(())
 }
 
@@ -189,7 +196,10 @@ fn long_images(rt: HostRuntime) -> Result<(), Fail> {
     assert!(rt; is_saved_again(alloc, &bytes)?);
     assert_eq!(rt; fault_of(alloc, &bytes, &[40])?, Some(LoadFault::Read));
     let cut = changed(alloc, &bytes, 100_000, [(24, 0), (25, 0)])?;
-    assert_eq!(rt; fault_of(alloc, &cut, &[])?, Some(LoadFault::Truncated { at: 100_000 }));
+    assert_eq!(rt;
+        fault_of(alloc, &cut, &[])?,
+        Some(LoadFault::Truncated { at: 100_000 })
+    );
     bytes.push(0)?;
     assert_eq!(rt; fault_of(alloc, &bytes, &[])?, Some(LoadFault::Trailing));
     Ok(())
