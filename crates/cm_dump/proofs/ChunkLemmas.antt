@@ -7,23 +7,23 @@ use Rattle.cm_dump.specs.declared.fault.LoadFault.TheVariants as faults
 use Rattle.cm_dump.specs.Reading.{item_at, Fails}
 use Rattle.cm_dump.proofs.ItemLemmas.{ltb_no, ltb_yes}
 
-ok_err : {A B : Type 0} (x : A) (e : B) → (let r : Result A B = Ok x in r) ≡ Err e → ⊥
+pub ok_err : {A B : Type 0} (x : A) (e : B) → (let r : Result A B = Ok x in r) ≡ Err e → ⊥
 ok_err x e is = grind (arith, is)
 
-ok_same : {A B : Type 0} {x y : A} → (let r : Result A B = Ok x in r) ≡ Ok y → x ≡ y
+pub ok_same : {A B : Type 0} {x y : A} → (let r : Result A B = Ok x in r) ≡ Ok y → x ≡ y
 ok_same is = grind (arith, is)
 
 lt_of : (m n : ℕ) → nat_lt m n ≡ true → m < n
 lt_of m n is = grind (arith, is)
 
-ge_of : (m n : ℕ) → nat_lt m n ≡ false → n ≤ m
+pub ge_of : (m n : ℕ) → nat_lt m n ≡ false → n ≤ m
 ge_of m n is = grind (arith, is)
 
 cut_or : (t : Bool) (f g : LoadFault) (l : List ℕ) → (if t then (let r : Result (List ℕ) LoadFault = Err f in r) else Ok l) ≡ Err g → (t ≡ true) × ((let r : Result (List ℕ) LoadFault = Err f in r) ≡ Err g)
 cut_or true f g l is = (refl, is)
 cut_or false f g l is = absurd (ok_err l g is)
 
-whole_or : (t : Bool) (f : LoadFault) (l m : List ℕ) → (if t then (let r : Result (List ℕ) LoadFault = Err f in r) else Ok l) ≡ Ok m → (t ≡ false) × (l ≡ m)
+pub whole_or : (t : Bool) (f : LoadFault) (l m : List ℕ) → (if t then (let r : Result (List ℕ) LoadFault = Err f in r) else Ok l) ≡ Ok m → (t ≡ false) × (l ≡ m)
 whole_or true f l m is = absurd (ok_err m f (sym is))
 whole_or false f l m is = (refl, ok_same is)
 

@@ -3,3 +3,4 @@ pub mod ItemLemmas
 pub mod ChunkLemmas
 pub mod CellLemmas
 pub mod SpellingLemmas
+pub mod ReadBackLemmas

@@ -1,6 +1,6 @@
 -- What the dump of a function spells.
-use Rattle.std.proofs.Common.{◌≡◌, ◌∙◌, ℕ, ◌+◌, ◌<◌, ◌≤◌, ◌^◌, List, [], ◌∷◌, ◌++◌, length, take, drop, ap, sym, arith, refl, length-append, nat_lt, nat_le, Result, Ok, Err, w32, None, append-nil}
-use Rattle.std.specs.Int.{to_le_bytes, from_le_bytes}
+use Rattle.std.proofs.Common.{◌≡◌, ◌∙◌, ℕ, ◌+◌, ◌<◌, ◌≤◌, ◌^◌, List, [], ◌∷◌, ◌++◌, length, take, drop, ap, sym, arith, refl, length-append, Result, Ok, w32, append-nil}
+use Rattle.std.specs.Int.{to_le_bytes}
 use Rattle.std.proofs.lemmas.Bool.{le-leb}
 use Rattle.std.proofs.lemmas.List.{take_at, drop_at}
 use Rattle.std.proofs.lemmas.List.FromFn.{length-map-range_with_len}
@@ -12,7 +12,6 @@ use Rattle.cm_spec.specs.Dump.{magic, header, fields_image, chm_dump}
 use Rattle.cm_spec.specs.Image.{width_of, fields_len, fields_byte}
 use Rattle.cm_spec.specs.Lists.{list_of}
 use Rattle.cm_dump.specs.declared.fault.LoadFault.{LoadFault}
-use Rattle.cm_dump.specs.declared.front.Header.{Header}
 use Rattle.cm_dump.specs.declared.writer.Func.{Func}
 use Rattle.cm_dump.specs.declared.writer.Func.TheVariants as func
 use Rattle.cm_dump.specs.Dumps.{dump_of}

@@ -1,4 +1,4 @@
-use Rattle.std.proofs.Common.{arith, ap, ◌≡◌, ◌∙◌, ◌≤◌, ◌<◌, ◌^◌, length}
+use Rattle.std.proofs.Common.{arith, ◌≤◌}
 use Rattle.cm_bits.specs.Fault.{bytes_number}
 use Rattle.cm_bits.specs.FieldsLaws.{field_room_for}
 use Rattle.cm_dump.proofs.CellLemmas.{cells_near}
