@@ -27,6 +27,26 @@ struct Plan<'a> {
     timed: bool,
 }
 
+impl<'a> Plan<'a> {
+    // Check sums alone.
+    fn summed(name: &'a str) -> Plan<'a> {
+        Plan {
+            name,
+            turns: 100_000,
+            timed: false,
+        }
+    }
+
+    // Check sums and times.
+    fn timed(name: &'a str, turns: u32) -> Plan<'a> {
+        Plan {
+            name,
+            turns,
+            timed: true,
+        }
+    }
+}
+
 // Tells how long a work took for an amount of turns or bytes.
 fn tell(
     rt: &(impl Print + Clock),
@@ -128,169 +148,46 @@ fn run<C: Cells + Drop>(
 
 // Small tables, whose check sums are stored with the program.
 fn small(rt: &(impl Print + Clock), alloc: Global) -> io::Result<()> {
-    let plan = Plan {
-        name: "bits",
-        turns: 100_000,
-        timed: false,
-    };
-    run::<Bits>(rt, alloc, plan, 100_001, 2)?;
-    run::<Crumbs>(
-        rt,
-        alloc,
-        Plan {
-            name: "crumbs",
-            ..plan
-        },
-        100_001,
-        4,
-    )?;
-    run::<Trits>(
-        rt,
-        alloc,
-        Plan {
-            name: "trits",
-            ..plan
-        },
-        100_001,
-        3,
-    )?;
-    run::<Fields>(
-        rt,
-        alloc,
-        Plan {
-            name: "fields",
-            ..plan
-        },
-        100_001,
-        100_000,
-    )?;
-    run::<Plain>(
-        rt,
-        alloc,
-        Plan {
-            name: "plain",
-            ..plan
-        },
-        100_001,
-        100_000,
-    )
+    run::<Bits>(rt, alloc, Plan::summed("bits"), 100_001, 2)?;
+    run::<Crumbs>(rt, alloc, Plan::summed("crumbs"), 100_001, 4)?;
+    run::<Trits>(rt, alloc, Plan::summed("trits"), 100_001, 3)?;
+    run::<Fields>(rt, alloc, Plan::summed("fields"), 100_001, 100_000)?;
+    run::<Plain>(rt, alloc, Plan::summed("plain"), 100_001, 100_000)
 }
 
 // Tables whose images have about 128 KiB.
 fn near(rt: &(impl Print + Clock), alloc: Global, turns: u32) -> io::Result<()> {
-    let plan = Plan {
-        name: "near bits",
-        turns,
-        timed: true,
-    };
-    run::<Bits>(rt, alloc, plan, 1_000_001, 2)?;
-    run::<Crumbs>(
-        rt,
-        alloc,
-        Plan {
-            name: "near crumbs",
-            ..plan
-        },
-        500_001,
-        4,
-    )?;
-    run::<Trits>(
-        rt,
-        alloc,
-        Plan {
-            name: "near trits",
-            ..plan
-        },
-        600_001,
-        3,
-    )?;
+    run::<Bits>(rt, alloc, Plan::timed("near bits", turns), 1_000_001, 2)?;
+    run::<Crumbs>(rt, alloc, Plan::timed("near crumbs", turns), 500_001, 4)?;
+    run::<Trits>(rt, alloc, Plan::timed("near trits", turns), 600_001, 3)?;
     run::<Fields>(
         rt,
         alloc,
-        Plan {
-            name: "near fields",
-            ..plan
-        },
+        Plan::timed("near fields", turns),
         60_001,
         100_000,
     )?;
-    run::<Fields>(
-        rt,
-        alloc,
-        Plan {
-            name: "near fields1",
-            ..plan
-        },
-        1_000_001,
-        1,
-    )?;
-    run::<Fields>(
-        rt,
-        alloc,
-        Plan {
-            name: "near fields3",
-            ..plan
-        },
-        500_001,
-        3,
-    )?;
-    run::<Plain>(
-        rt,
-        alloc,
-        Plan {
-            name: "near plain",
-            ..plan
-        },
-        32_001,
-        100_000,
-    )
+    run::<Fields>(rt, alloc, Plan::timed("near fields1", turns), 1_000_001, 1)?;
+    run::<Fields>(rt, alloc, Plan::timed("near fields3", turns), 500_001, 3)?;
+    run::<Plain>(rt, alloc, Plan::timed("near plain", turns), 32_001, 100_000)
 }
 
 // Tables that no cache holds: of bits, crumbs and trits as large as they can be.
 fn far(rt: &(impl Print + Clock), alloc: Global, turns: u32) -> io::Result<()> {
-    let plan = Plan {
-        name: "far bits",
-        turns,
-        timed: true,
-    };
-    run::<Bits>(rt, alloc, plan, MAX_CELLS, 2)?;
-    run::<Crumbs>(
-        rt,
-        alloc,
-        Plan {
-            name: "far crumbs",
-            ..plan
-        },
-        MAX_CELLS,
-        4,
-    )?;
-    run::<Trits>(
-        rt,
-        alloc,
-        Plan {
-            name: "far trits",
-            ..plan
-        },
-        MAX_CELLS,
-        3,
-    )?;
+    run::<Bits>(rt, alloc, Plan::timed("far bits", turns), MAX_CELLS, 2)?;
+    run::<Crumbs>(rt, alloc, Plan::timed("far crumbs", turns), MAX_CELLS, 4)?;
+    run::<Trits>(rt, alloc, Plan::timed("far trits", turns), MAX_CELLS, 3)?;
     run::<Fields>(
         rt,
         alloc,
-        Plan {
-            name: "far fields",
-            ..plan
-        },
+        Plan::timed("far fields", turns),
         200_000_001,
         100_000,
     )?;
     run::<Plain>(
         rt,
         alloc,
-        Plan {
-            name: "far plain",
-            ..plan
-        },
+        Plan::timed("far plain", turns),
         100_000_001,
         100_000,
     )
