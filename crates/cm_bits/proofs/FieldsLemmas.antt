@@ -19,6 +19,7 @@ use Rattle.cm_bits.specs.FieldsLaws.{length-field_cells, field_cells-at, field_c
 use Rattle.cm_bits.proofs.DigitsLemmas.{digits_sum-change, digits_sum-zero}
 use Rattle.cm_bits.proofs.WindowLemmas.{window_is, number_put, fit_put}
 use Rattle.cm_bits.proofs.PackedLemmas.{AllBelow-set, cell_of_zeros}
+use Rattle.cm_bits.specs.declared.TheConstants.{MAX_FIELD_BOUND}
 
 -- a field of w bits lies in a window of r bits from word j on
 pub field_at : (m w i j s r number window : ℕ) → w * i ≡ m * j + s → s + w ≤ r → window ≡ number / (2 ^ m) ^ j % 2 ^ r → number / (2 ^ w) ^ i % 2 ^ w ≡ window / 2 ^ s % 2 ^ w
@@ -80,7 +81,7 @@ width-is b w low high before at =
     omega arith
 
 -- the width of a table that serves its bound
-pub width-at : (b w : ℕ) → b ≤ 67108864 → w ≡ width_of b → (w ≤ 26) × (b ≤ 2 ^ w) × (0 < w)
+pub width-at : (b w : ℕ) → b ≤ MAX_FIELD_BOUND → w ≡ width_of b → (w ≤ 26) × (b ≤ 2 ^ w) × (0 < w)
 width-at b w h e = let f = width-fits b h in (omega (arith, f.1), rw e f.2, omega (arith, f.0))
 
 pub field_inside : (w n number i : ℕ) → i < length (field_cells w n number) → i < n
@@ -111,7 +112,7 @@ pub record FieldSets (w n i v bound : ℕ) (old new : List ℕ) : Type 0 where
   pub fields : IsFields w n new
   pub in_bound : AllBelow bound (field_cells w n (bytes_number new))
 
-pub field_sets : (b w n i v put : ℕ) (old new : List ℕ) → b ≤ 67108864 → w ≡ width_of b → IsFields w n old → AllBelow b (field_cells w n (bytes_number old)) → put < 2 ^ 64 → i < length (field_cells w n (bytes_number old)) → v < b → put + window_at old (i * w / 8) / 2 ^ (i * w % 8) % 2 ^ w * 2 ^ (i * w % 8) ≡ window_at old (i * w / 8) + v * 2 ^ (i * w % 8) → PutsWindow (i * w / 8) put old new → FieldSets w n i v b old new
+pub field_sets : (b w n i v put : ℕ) (old new : List ℕ) → b ≤ MAX_FIELD_BOUND → w ≡ width_of b → IsFields w n old → AllBelow b (field_cells w n (bytes_number old)) → put < 2 ^ 64 → i < length (field_cells w n (bytes_number old)) → v < b → put + window_at old (i * w / 8) / 2 ^ (i * w % 8) % 2 ^ w * 2 ^ (i * w % 8) ≡ window_at old (i * w / 8) + v * 2 ^ (i * w % 8) → PutsWindow (i * w / 8) put old new → FieldSets w n i v b old new
 field_sets b w n i v put old new h e f all short l m d p =
     let at = width-at b w h e in
     let xs : List ℕ = field_cells w n (bytes_number old) in

@@ -14,6 +14,7 @@ use Rattle.cm_bits.specs.Bound.{AllBelow}
 use Rattle.cm_bits.specs.Fault.{bytes_number, field_cells, fields_fault}
 use Rattle.cm_bits.specs.DigitsLaws.{digits_sum-same, digits_sum-lt, digit-digits_sum, digits_sum-digits, same_from_digits, pow_pow}
 use Rattle.cm_bits.specs.FaultLaws.{no_fault}
+use Rattle.cm_bits.specs.declared.TheConstants.{MAX_CELLS, MAX_FIELD_BOUND}
 
 pub length-field_cells : (w n number : ℕ) → length (field_cells w n number) ≡ n
 unfolding field_cells
@@ -23,7 +24,7 @@ pub field_cells-at : (w n number i : ℕ) → i < n → slice_index (field_cells
 unfolding field_cells
 field_cells-at w n number i l = get_or-map-range_with_len _ 0 n i i 0 l (omega arith)
 
-pub field_room_for : (w n number : ℕ) → n ≤ 671088645 → length (field_cells w n number) ≤ 671088645
+pub field_room_for : (w n number : ℕ) → n ≤ MAX_CELLS → length (field_cells w n number) ≤ MAX_CELLS
 field_room_for w n number h = omega (arith, length-field_cells w n number)
 
 -- the number of cells gives these
@@ -61,7 +62,7 @@ same_fields_image w xs ys n a b e =
     omega (arith, fields_number-lt w ys b, fields_fit w (length xs)))
     e)
 
-pub width-fits : (b : ℕ) → b ≤ 67108864 → (1 ≤ width_of b) × (width_of b ≤ 26) × (b ≤ 2 ^ width_of b)
+pub width-fits : (b : ℕ) → b ≤ MAX_FIELD_BOUND → (1 ≤ width_of b) × (width_of b ≤ 26) × (b ≤ 2 ^ width_of b)
 unfolding width_of
 width-fits b h =
     let f : ℕ → Bool = λ w. nat_le b (2 ^ w) in
@@ -76,7 +77,7 @@ width-fits b h =
           absurd (omega (arith, leb-false b (2 ^ 26) last))
     ]
 
-pub same_fields_bound : (b : ℕ) (xs ys : List ℕ) → b ≤ 67108864 → length xs ≡ length ys → AllBelow b xs → AllBelow b ys → ((q : ℕ) → q < fields_len (width_of b) (length xs) → fields_byte (width_of b) xs q ≡ fields_byte (width_of b) ys q) → xs ≡ ys
+pub same_fields_bound : (b : ℕ) (xs ys : List ℕ) → b ≤ MAX_FIELD_BOUND → length xs ≡ length ys → AllBelow b xs → AllBelow b ys → ((q : ℕ) → q < fields_len (width_of b) (length xs) → fields_byte (width_of b) xs q ≡ fields_byte (width_of b) ys q) → xs ≡ ys
 same_fields_bound b xs ys h n a l e =
     let w = width-fits b h in
     same_fields_image (width_of b) xs ys n (λ k m. omega (arith, a k m, w.2)) (λ k m. omega (arith, l k m, w.2)) e
@@ -103,7 +104,7 @@ bytes_number-image w xs b =
     (digits_sum-same 256 _ (λ q. fields_number w xs / 256 ^ q % 256) (fields_len w (length xs)) (λ i m. get_or-map-range_with_len (fields_byte w xs) 0 (fields_len w (length xs)) i i 0 m (omega arith))
     ∙ digits_sum-digits 256 (fields_len w (length xs)) (fields_number w xs) (lit< tt) (omega (arith, fields_number-lt w xs b, fields_fit w (length xs))))
 
-pub fields_fault-image : (b : ℕ) (xs : List ℕ) → b ≤ 67108864 → AllBelow b xs → fields_fault (width_of b) (length xs) b (list_of (fields_byte (width_of b) xs) (fields_len (width_of b) (length xs))) ≡ None
+pub fields_fault-image : (b : ℕ) (xs : List ℕ) → b ≤ MAX_FIELD_BOUND → AllBelow b xs → fields_fault (width_of b) (length xs) b (list_of (fields_byte (width_of b) xs) (fields_len (width_of b) (length xs))) ≡ None
 fields_fault-image b xs h l =
     let f = width-fits b h in
     let all : AllBelow (2 ^ width_of b) xs = λ k m. omega (arith, l k m, f.2) in

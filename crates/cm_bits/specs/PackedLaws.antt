@@ -13,6 +13,7 @@ use Rattle.cm_bits.specs.Fault.{packed_fault}
 use Rattle.cm_bits.specs.Held.{packed_cells}
 use Rattle.cm_bits.specs.DigitsLaws.{digits_sum-lt, digit-digits_sum, digits_sum-short}
 use Rattle.cm_bits.specs.FaultLaws.{no_fault, all_small}
+use Rattle.cm_bits.specs.declared.TheConstants.{MAX_CELLS}
 
 pub zero_lt : (d : ℕ) → 2 ≤ d → 0 < d
 zero_lt d h = omega arith
@@ -32,7 +33,7 @@ pub AllBelow-packed_cells : (d p n : ℕ) (bs : List ℕ) → 0 < d → AllBelow
 AllBelow-packed_cells d p n bs h k l =
     rw (packed_cells-at d p n bs k (omega (arith, length-packed_cells d p n bs))) (mod_below _ d h)
 
-pub packed_room : (d p n : ℕ) (bs : List ℕ) → n ≤ 671088645 → length (packed_cells d p n bs) ≤ 671088645
+pub packed_room : (d p n : ℕ) (bs : List ℕ) → n ≤ MAX_CELLS → length (packed_cells d p n bs) ≤ MAX_CELLS
 packed_room d p n bs h = omega (arith, length-packed_cells d p n bs)
 
 -- a place past the cells is 0, so each place is below d
