@@ -5,7 +5,7 @@ use Rattle.std.specs.List.{count_by}
 use Rattle.std.proofs.lemmas.Bool.{false≢true}
 use Rattle.std.proofs.lemmas.List.Sums.{sum_by-cons}
 use Rattle.cm_outer.proofs.NoteLemmas.{noted_next}
-use Rattle.cm_outer.specs.Noting.{HasNoted, Noted}
+use Rattle.cm_outer.specs.Noting.{Noted}
 use Rattle.cm_outer.specs.Writing.{joined}
 use Rattle.cm_query.proofs.TextLemmas.{then_nothing}
 use Rattle.cm_query.specs.Repeats.{is_repeated, with_earlier}

@@ -1,7 +1,7 @@
 -- The text of some keys is a prefix of the text of more.
-use Rattle.std.proofs.Common.{◌≡◌, ◌∙◌, ℕ, ◌+◌, ◌-◌, ◌≤◌, min, List, [], ◌∷◌, ◌++◌, length, take, drop, Option, None, Some, ap, sym, arith, append_assoc, append-nil, take-append-drop, refl}
+use Rattle.std.proofs.Common.{◌≡◌, ◌∙◌, ℕ, ◌+◌, ◌-◌, ◌≤◌, min, List, [], ◌∷◌, ◌++◌, length, take, drop, Option, None, Some, ap, sym, arith, append-nil, take-append-drop, refl}
 use Rattle.std.proofs.lemmas.Grind.{flat_map-append}
-use Rattle.std.proofs.lemmas.List.{drop-take, take_at, take_min, take-append-le}
+use Rattle.std.proofs.lemmas.List.{take_at, take_min, take-append-le}
 use Rattle.std.proofs.Math.Seq.{take-append-add}
 use Rattle.cm_outer.specs.Writing.{then_bytes}
 use Rattle.cm_query.specs.Stops.{TextAfter}

@@ -1,5 +1,5 @@
 -- What a query writes of keys with their lines, under a function from the bytes of a key to its answer.
-use Rattle.std.specs.Prelude.{ℕ, List, [], ◌∷◌, ◌++◌, Option, None, Some, Bool, if◌then◌else◌, codes, decimal}
+use Rattle.std.specs.Prelude.{ℕ, List, [], ◌∷◌, Option, None, Some, Bool, if◌then◌else◌, codes, decimal}
 use Rattle.std.specs.List.{flat_map}
 use Rattle.cm_outer.specs.Writing.{joined}
 use Rattle.cm_query.specs.Repeats.{is_repeated, with_earlier}

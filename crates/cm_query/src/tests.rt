@@ -1,0 +1,230 @@
+ghost use Rattle.std.specs.Prelude.{◌≤◌, None};
+
+use crate::{QueryFault, Tally, front_of_text, noted_exactly, query, worked_rows};
+use cm_algo::Answers;
+use cm_outer::{KeyBuf, KeyFault, KeyPass, MAX_KEYS, MemSink, Notes};
+use std::alloc::{AllocError, Global};
+use std::process::Abort;
+use std::test::Fail;
+
+/// Answers a key of fewer than four bytes with its length, and knows no other.
+struct Lengths {}
+
+impl Answers for Lengths {
+    ghost use Rattle.std.specs.Prelude.{length, nat_lt, Some, None, if◌then◌else◌};
+
+    ghost span_of = { λ _. 4 };
+
+    ghost answer_of = { λ _ key. (if nat_lt (length key) 4 then Some (length key) else None) };
+
+    fn span(&self) -> u32 {
+        4
+    }
+
+    fn answer(&self, key: &[u8]) -> Option<u32> {
+        if key.len() < 4 {
+            Some(key.len() as u32)
+        } else {
+            None
+        }
+    }
+}
+
+/// The keys of a list, one a line, with a fault after them or none.
+#[derive(Drop)]
+struct Listed<'a> {
+    keys: &'a [&'a [u8]],
+    fault: Option<KeyFault>,
+    given: u32,
+    usable: bool,
+    faults: u64,
+    ghost few: { given ≤ 16777216 },
+}
+
+impl KeyPass for Listed<'_> {
+    ghost told = { λ _. None };
+
+    ghost place = { λ p. p.given };
+
+    ghost last = { λ p. p.given };
+
+    ghost usable = { λ p. p.usable };
+
+    ghost faults = { λ p. p.faults };
+
+    fn usable(&self) -> bool {
+        self.usable
+    }
+
+    fn next(&mut self, key: &mut KeyBuf) -> Result<bool, KeyFault> {
+        let place = self.given as usize;
+        if place < self.keys.len() && self.given < MAX_KEYS {
+            key.clear();
+            let _ = key.try_extend_from_slice(self.keys[place]);
+            self.given += 1;
+            return Ok(true);
+        }
+        match self.fault {
+            None => Ok(false),
+            Some(fault) => {
+                self.usable = false;
+                if fault == KeyFault::Read {
+                    self.faults = self.faults.saturating_add(1);
+                }
+                Err(fault)
+            }
+        }
+    }
+
+    fn rewind(&mut self) -> Result<(), KeyFault> {
+        self.given = 0;
+        self.usable = true;
+        Ok(())
+    }
+
+    fn line(&self) -> u32 {
+        self.given
+    }
+}
+
+/// What a query is asked over memory with so much room, and what it has to answer and to write.
+#[derive(Drop)]
+struct Case<'a> {
+    keys: &'a [&'a [u8]],
+    fault: Option<KeyFault>,
+    out_room: usize,
+    err_room: usize,
+    answer: Result<Tally, QueryFault>,
+    out: &'a [u8],
+    err: &'a [u8],
+}
+
+fn check(rt: &impl Abort, alloc: Global, case: &Case) -> Result<(), AllocError> {
+    let mut pass = Listed {
+        keys: case.keys,
+        fault: case.fault,
+        given: 0,
+        usable: true,
+        faults: 0,
+    };
+    let mut out = MemSink::new(alloc, case.out_room, Vec::new(alloc))?;
+    let mut err = MemSink::new(alloc, case.err_room, Vec::new(alloc))?;
+    let mut notes = Notes::new();
+    let answer = query(
+        alloc,
+        &Lengths {},
+        &mut pass,
+        &mut out,
+        &mut err,
+        &mut notes,
+    );
+    assert_eq!(rt; answer, case.answer);
+    assert_eq!(rt; out.bytes(), case.out);
+    assert_eq!(rt; err.bytes(), case.err);
+    Ok(())
+}
+
+fn answered(lines: u32, repeated: u32, unknown: u32) -> Result<Tally, QueryFault> {
+    Ok(Tally {
+        lines,
+        repeated,
+        unknown,
+    })
+}
+
+#[test]
+fn worked_queries(rt: HostRuntime) -> Result<(), Fail> {
+    worked_rows();
+    noted_exactly();
+    front_of_text();
+    let cases = [
+        Case {
+            keys: &[b"", b"a"],
+            fault: None,
+            out_room: 100,
+            err_room: 100,
+            answer: answered(2, 0, 0),
+            out: b" -> 0\na -> 1\n",
+            err: b"",
+        },
+        Case {
+            keys: &[b"", b""],
+            fault: None,
+            out_room: 100,
+            err_room: 100,
+            answer: answered(2, 1, 0),
+            out: b" -> 0\n -> 0\n",
+            err: b"cmph: line 2: value 0 is repeated\n",
+        },
+        Case {
+            keys: &[b"ab", b"c", b"none", b"de", b"fgh"],
+            fault: None,
+            out_room: 100,
+            err_room: 100,
+            answer: answered(5, 1, 1),
+            out: b"ab -> 2\nc -> 1\nde -> 2\nfgh -> 3\n",
+            err: b"cmph: line 3: key is unknown\ncmph: line 4: value 2 is repeated\n",
+        },
+        Case {
+            keys: &[],
+            fault: None,
+            out_room: 0,
+            err_room: 0,
+            answer: answered(0, 0, 0),
+            out: b"",
+            err: b"",
+        },
+    ];
+    for case in &cases {
+        check(&rt, rt.alloc(), case)?;
+    }
+    Ok(())
+}
+
+#[test]
+fn refusals_in_mid_stream(rt: HostRuntime) -> Result<(), Fail> {
+    let cases = [
+        Case {
+            keys: &[b"ab", b"none"],
+            fault: Some(KeyFault::TooLong { line: 3 }),
+            out_room: 100,
+            err_room: 100,
+            answer: Err(QueryFault::Key(KeyFault::TooLong { line: 3 })),
+            out: b"ab -> 2\n",
+            err: b"cmph: line 2: key is unknown\n",
+        },
+        Case {
+            keys: &[b"ab"],
+            fault: Some(KeyFault::Read),
+            out_room: 100,
+            err_room: 100,
+            answer: Err(QueryFault::Key(KeyFault::Read)),
+            out: b"ab -> 2\n",
+            err: b"",
+        },
+        // The room for out ends inside the line of a repeated key.
+        Case {
+            keys: &[b"", b"", b"none"],
+            fault: None,
+            out_room: 9,
+            err_room: 100,
+            answer: Err(QueryFault::Write),
+            out: b" -> 0\n ->",
+            err: b"",
+        },
+        // A note that fails stops no answer.
+        Case {
+            keys: &[b"none", b"", b""],
+            fault: None,
+            out_room: 100,
+            err_room: 11,
+            answer: answered(3, 1, 1),
+            out: b" -> 0\n -> 0\n",
+            err: b"cmph: line ",
+        },
+    ];
+    for case in &cases {
+        check(&rt, rt.alloc(), case)?;
+    }
+    Ok(())
+}

@@ -1,4 +1,4 @@
-use Rattle.std.proofs.Common.{rules, ◌≡◌, ◌∙◌, ℕ, ◌+◌, ◌-◌, ◌<◌, ◌≤◌, List, ◌∷◌, ◌++◌, length, take, drop, Option, ap, sym, subst, arith}
+use Rattle.std.proofs.Common.{rules, ◌≡◌, ◌∙◌, ℕ, ◌+◌, ◌<◌, ◌≤◌, List, ◌∷◌, ◌++◌, length, take, drop, Option, ap, sym, subst, arith}
 use Rattle.std.specs.Prelude.{IfSome}
 use Rattle.cm_bits.specs.Held.{packed_cells}
 use Rattle.cm_outer.proofs.WriteLemmas.{then_twice}
@@ -7,7 +7,6 @@ use Rattle.cm_outer.specs.Writing.{then_bytes}
 use Rattle.cm_query.proofs.MarkLemmas.{length-marked}
 use Rattle.cm_query.proofs.NotedLemmas.{noted_more}
 use Rattle.cm_query.proofs.ProgressLemmas.{SoFar, next_within, so_far_next, text_at_write}
-use Rattle.cm_query.specs.Marks.{marked}
 use Rattle.cm_query.specs.Stops.{TextAfter}
 use Rattle.cm_query.specs.Texts.{line_of, note_of, text_of}
 use Rattle.cm_query.specs.declared.fault.QueryFault.TheVariants.{Write}

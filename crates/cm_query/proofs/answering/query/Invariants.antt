@@ -1,4 +1,4 @@
-use Rattle.std.proofs.Common.{◌≡◌, ◌+◌, ◌-◌, ◌≤◌, ◌<◌, ℕ, List, length, take, true}
+use Rattle.std.proofs.Common.{◌≡◌, ◌+◌, ◌-◌, ◌≤◌, ℕ, List, length, take, true}
 use Rattle.std.specs.Option.{ForSome}
 use Rattle.cm_bits.specs.Held.{packed_cells}
 use Rattle.cm_outer.specs.Noting.{Noted}
