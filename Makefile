@@ -9,7 +9,7 @@ all: bin/cmph
 
 # rt run proves every crate below the program before it links it; what it runs on here is thrown away.
 bin/cmph: $(SOURCES)
-	@echo "Proving and building cmph. The first time takes about 15 minutes on four processors; each crate is named as it comes."
+	@echo "Proving and building cmph. The first time takes many minutes; each crate is named as it comes."
 	@mkdir -p bin
 	@scratch=$$(mktemp -d) && cp examples/words $$scratch/ && cd crates/cmph && rt run -- -g $$scratch/words; status=$$?; rm -rf $$scratch; exit $$status
 	@cp crates/cmph/out/cmph $@
