@@ -1,8 +1,8 @@
--- What each function keeps.
-use Rattle.std.specs.Prelude.{◌≡◌, ◌<◌, ◌≤◌, ◌^◌, length}
+-- What each function keeps, and what it answers.
+use Rattle.std.specs.Prelude.{◌≡◌, ◌<◌, ◌≤◌, ◌^◌, ℕ, List, length, Option, Some}
 use Rattle.cm_bits.specs.Bound.{AllBelow}
 use Rattle.cm_outer.specs.declared.key_pass.TheConstants.{MAX_KEYS}
-use Rattle.cm_spec.specs.Chm.{Chm, chm_size}
+use Rattle.cm_spec.specs.Chm.{Chm, chm_answer, chm_size}
 use Rattle.cm_spec.specs.Rule.{IsRatio}
 use Rattle.cm_dump.specs.declared.writer.Func.{Func}
 use Rattle.cm_dump.specs.declared.writer.Func.TheVariants as func
@@ -18,3 +18,11 @@ pub record IsChm (f : Chm) : Type 0 where
 -- a function of any algorithm
 abbrev pub IsFunction : Func → Type 0
 IsFunction (func.Chm f) = IsChm f
+
+-- what the answers of a function are below
+abbrev pub span_by : Func → ℕ
+span_by (func.Chm f) = f.keys
+
+-- the answer of a function to the bytes of a key
+abbrev pub answer_by : Func → List ℕ → Option ℕ
+answer_by (func.Chm f) key = Some (chm_answer f key)

@@ -1,6 +1,7 @@
 //! The dump of a function, as bytes that a sink is given and a source gives.
 #![tactic(auto)]
 
+mod answers;
 mod bulk;
 pub mod examples;
 mod fault;

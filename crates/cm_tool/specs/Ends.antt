@@ -3,9 +3,11 @@ use Rattle.std.specs.Prelude.{◌≡◌, ◌≢◌, ◌<◌, ◌^◌, ℕ, List,
 use Rattle.cm_outer.specs.Writing.{then_bytes}
 use Rattle.cm_tool.specs.declared.stop.Stop.{Stop}
 use Rattle.cm_tool.specs.declared.stop.Stop.TheVariants.{Memory, Read, Write, Cored, Changed, NoKeys, TooLong, TooMany}
-use Rattle.cm_tool.specs.Messages.{no_seed, out_of_memory, cannot_read, cannot_write, keys_changed, no_keys, line_too_long, too_many_keys}
+use Rattle.cm_tool.specs.declared.stop.QueryStop.{QueryStop}
+use Rattle.cm_tool.specs.declared.stop.QueryStop.TheVariants as query_stop
+use Rattle.cm_tool.specs.Messages.{bad_dump, cannot_load, cannot_write_out, no_seed, out_of_memory, cannot_read, cannot_write, keys_changed, no_keys, line_too_long, too_many_keys}
 
--- the status of a job that stopped
+-- the status of a build that stopped
 abbrev pub status_of : Stop → ℕ
 status_of Memory = 6
 status_of Read = 4
@@ -16,7 +18,7 @@ status_of NoKeys = 8
 status_of (TooLong line) = 8
 status_of TooMany = 8
 
--- its message about a keys file
+-- its message
 abbrev pub message_of : List ℕ → Stop → List ℕ
 message_of keys Memory = out_of_memory
 message_of keys Read = cannot_read keys
@@ -26,6 +28,26 @@ message_of keys (Changed first again) = keys_changed keys first again
 message_of keys NoKeys = no_keys keys
 message_of keys (TooLong line) = line_too_long keys line
 message_of keys TooMany = too_many_keys keys
+
+-- the status of a query that stopped
+abbrev pub query_status_of : QueryStop → ℕ
+query_status_of query_stop.Memory = 6
+query_status_of query_stop.NoFunction = 4
+query_status_of (query_stop.BadDump fault) = 3
+query_status_of query_stop.Read = 4
+query_status_of query_stop.Write = 5
+query_status_of (query_stop.TooLong line) = 8
+query_status_of query_stop.TooMany = 8
+
+-- its message
+abbrev pub query_message_of : List ℕ → QueryStop → List ℕ
+query_message_of keys query_stop.Memory = out_of_memory
+query_message_of keys query_stop.NoFunction = cannot_load keys
+query_message_of keys (query_stop.BadDump fault) = bad_dump keys fault
+query_message_of keys query_stop.Read = cannot_read keys
+query_message_of keys query_stop.Write = cannot_write_out
+query_message_of keys (query_stop.TooLong line) = line_too_long keys line
+query_message_of keys query_stop.TooMany = too_many_keys keys
 
 -- err got the text, or a front of it where its own count rose
 pub record Says (text : List ℕ) (old new : Option (List ℕ)) (before now : ℕ) : Type 0 where

@@ -4,9 +4,17 @@ use Rattle.std.specs.Str.{bytes_eq}
 use Rattle.cm_spec.specs.Lists.{list_of}
 
 -- a build: the path of the keys file, and the first seed
-pub record Job : Type 0 where
+pub record BuildJob : Type 0 where
   pub keys : List ℕ
   pub seed : ℕ
+
+-- a query: the path of the keys file
+pub record QueryJob : Type 0 where
+  pub keys : List ℕ
+
+pub data Job : Type 0 where
+  Build : BuildJob → Job
+  Query : QueryJob → Job
 
 -- the word at a place
 abbrev pub word_at : List (List ℕ) → ℕ → List ℕ
@@ -29,11 +37,16 @@ is_plain words = nat_eq (length words) 3 && is_word words 1 (codes "-g") && is_p
 abbrev pub is_seeded : List (List ℕ) → Bool
 is_seeded words = nat_eq (length words) 5 && is_word words 1 (codes "-g") && is_word words 2 (codes "-s") && is_word words 3 (codes "0") && is_path (word_at words 4)
 
+-- `KEYS` alone asks for a query
+abbrev pub is_query : List (List ℕ) → Bool
+is_query words = nat_eq (length words) 2 && is_path (word_at words 1)
+
 -- the job of the words, if they ask for one
 unfoldable pub job_of : List (List ℕ) → Option Job
 job_of words =
-    if is_plain words then Some (record { keys = word_at words 2; seed = 1 })
-    else if is_seeded words then Some (record { keys = word_at words 4; seed = 0 })
+    if is_plain words then Some (Build (record { keys = word_at words 2; seed = 1 }))
+    else if is_seeded words then Some (Build (record { keys = word_at words 4; seed = 0 }))
+    else if is_query words then Some (Query (record { keys = word_at words 1 }))
     else None
 
 -- the function file's path: the keys file's, followed by `.mph`

@@ -14,7 +14,7 @@ use Rattle.cm_spec.specs.Chm.{Chm, chm_rule}
 use Rattle.cm_spec.specs.Dump.{chm_dump}
 use Rattle.cm_spec.specs.Rule.{IsCount}
 use Rattle.cm_dump.specs.Functions.{IsChm}
-use Rattle.cm_tool.specs.Job.{Job, target_of}
+use Rattle.cm_tool.specs.Job.{BuildJob, target_of}
 use Rattle.cm_tool.specs.Outcome.{keys_in, ratio, seeds_tried}
 use Rattle.cm_tool.specs.declared.stop.Stop.{Stop}
 use Rattle.cm_tool.specs.declared.stop.Stop.TheVariants.{Memory, Read, Write, Cored, Changed, NoKeys, TooLong, TooMany}
@@ -40,7 +40,7 @@ pub record IsChmOf (told : Told) (c : ℕ) (seeds : List ℕ) (f : Chm) : Type 0
   pub is : f ≡ chm_under told.keys c f.seed
 
 -- the function of the keys in these bytes
-abbrev pub IsFunctionOf : Job → List ℕ → Chm → Type 0
+abbrev pub IsFunctionOf : BuildJob → List ℕ → Chm → Type 0
 IsFunctionOf job bytes f = IsChmOf (keys_in bytes) ratio (seeds_tried job) f
 
 -- why a refused pass stops a job
@@ -69,7 +69,7 @@ Differs (TooLong line) = Unit {0}
 Differs TooMany = Unit {0}
 
 -- the keys are refused so
-abbrev pub Refuses : Job → Told → Stop → Type 0
+abbrev pub Refuses : BuildJob → Told → Stop → Type 0
 Refuses job told Memory = Unit {0}
 Refuses job told Read = Unit {0}
 Refuses job told Write = ⊥
@@ -80,7 +80,7 @@ Refuses job told (TooLong line) = told.fault ≡ Some (key_fault.TooLong line)
 Refuses job told TooMany = told.fault ≡ Some key_fault.TooMany
 
 -- a refusal over files: one for the keys alone shows that the keys file is there
-abbrev pub IsRefused : Job → Files → Stop → Type 0
+abbrev pub IsRefused : BuildJob → Files → Stop → Type 0
 IsRefused job files Memory = Unit {0}
 IsRefused job files Read = Unit {0}
 IsRefused job files Write = ⊥
@@ -91,15 +91,15 @@ IsRefused job files (TooLong line) = (bytes : List ℕ) × (file_at files job.ke
 IsRefused job files TooMany = (bytes : List ℕ) × (file_at files job.keys ≡ Some bytes) × Refuses job (keys_in bytes) TooMany
 
 -- the bytes are the dump of the function of the keys file
-abbrev pub Saves : Job → Files → List ℕ → Type 0
+abbrev pub Saves : BuildJob → Files → List ℕ → Type 0
 Saves job files dump = (bytes : List ℕ) × (f : Chm) × (file_at files job.keys ≡ Some bytes) × IsFunctionOf job bytes f × (dump ≡ chm_dump f) × IsChm f
 
 -- the files are as before, or the function file holds a front of the dump
-abbrev pub IsPart : Job → List ℕ → Option Files → Option Files → Type 0
+abbrev pub IsPart : BuildJob → List ℕ → Option Files → Option Files → Type 0
 IsPart job dump old new = (new ≡ old) ⊎ ((n : ℕ) × (new ≡ with_file (target_of job.keys) (take n dump) old))
 
 -- what each end of a build leaves of the files
-abbrev pub Leaves : Job → Option Files → Option Files → Result (Unit {0}) Stop → Type 0
+abbrev pub Leaves : BuildJob → Option Files → Option Files → Result (Unit {0}) Stop → Type 0
 Leaves job old new (Ok _) = (dump : List ℕ) × (new ≡ with_file (target_of job.keys) dump old) × ForSome old (λ files. Saves job files dump)
 Leaves job old new (Err Memory) = (new ≡ old) ⊎ (new ≡ with_file (target_of job.keys) [] old)
 Leaves job old new (Err Read) = new ≡ old

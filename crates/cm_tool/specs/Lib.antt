@@ -5,4 +5,5 @@ pub mod Messages
 pub mod Stores
 pub mod Outcome
 pub mod Leaves
+pub mod Asked
 pub mod Run

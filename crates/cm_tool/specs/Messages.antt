@@ -1,5 +1,7 @@
 -- What is said on err.
-use Rattle.std.specs.Prelude.{ℕ, List, [], ◌∷◌, codes, decimal}
+use Rattle.std.specs.Prelude.{ℕ, List, [], ◌∷◌, Option, None, Some, codes, decimal}
+use Rattle.cm_dump.specs.declared.fault.LoadFault.{LoadFault}
+use Rattle.cm_dump.specs.declared.fault.LoadFault.TheVariants as faults
 use Rattle.cm_outer.specs.Writing.{joined}
 
 abbrev pub bad_arguments : List ℕ
@@ -17,6 +19,49 @@ cannot_read file = joined (codes "cmph: " ∷ file ∷ codes ": cannot read\n" �
 -- of the function file, whose path is the keys file's and `.mph`
 abbrev pub cannot_write : List ℕ → List ℕ
 cannot_write keys = joined (codes "cmph: " ∷ keys ∷ codes ".mph: cannot write\n" ∷ [])
+
+-- of the function file
+abbrev pub cannot_load : List ℕ → List ℕ
+cannot_load keys = joined (codes "cmph: " ∷ keys ∷ codes ".mph: cannot read\n" ∷ [])
+
+abbrev pub cannot_write_out : List ℕ
+cannot_write_out = joined (codes "cmph: cannot write standard output\n" ∷ [])
+
+-- what is wrong with bytes that are no dump
+abbrev pub fault_words : LoadFault → List ℕ
+fault_words faults.Memory = codes "out of memory"
+fault_words faults.Read = codes "cannot read"
+fault_words (faults.Truncated at) = codes "truncated at "
+fault_words faults.BadMagic = codes "bad magic"
+fault_words faults.BadAlgorithm = codes "bad algorithm"
+fault_words (faults.BadField at) = codes "bad field at "
+fault_words (faults.BadPadding at) = codes "bad padding at "
+fault_words (faults.BadCell at) = codes "bad cell at "
+fault_words (faults.BadCount at) = codes "bad count at "
+fault_words (faults.BadRank at) = codes "bad rank at "
+fault_words faults.Trailing = codes "trailing bytes"
+
+-- at which byte it is wrong, where one is named
+abbrev pub fault_place : LoadFault → Option ℕ
+fault_place faults.Memory = None
+fault_place faults.Read = None
+fault_place (faults.Truncated at) = Some at
+fault_place faults.BadMagic = None
+fault_place faults.BadAlgorithm = None
+fault_place (faults.BadField at) = Some at
+fault_place (faults.BadPadding at) = Some at
+fault_place (faults.BadCell at) = Some at
+fault_place (faults.BadCount at) = Some at
+fault_place (faults.BadRank at) = Some at
+fault_place faults.Trailing = None
+
+-- a place in decimal, where there is one
+abbrev pub place_text : Option ℕ → List ℕ
+place_text None = []
+place_text (Some at) = decimal at
+
+abbrev pub bad_dump : List ℕ → LoadFault → List ℕ
+bad_dump keys fault = joined (codes "cmph: " ∷ keys ∷ codes ".mph: bad dump: " ∷ fault_words fault ∷ place_text (fault_place fault) ∷ codes "\n" ∷ [])
 
 abbrev pub keys_changed : List ℕ → ℕ → ℕ → List ℕ
 keys_changed file first again = joined (codes "cmph: " ∷ file ∷ codes ": keys changed: " ∷ decimal first ∷ codes ", then " ∷ decimal again ∷ codes "\n" ∷ [])

@@ -6,10 +6,10 @@ ghost use Rattle.cm_algo.specs.Fails.{HasBuildCause, FailsBuild, Differ};
 ghost use Rattle.cm_outer.specs.Files.{file_at};
 ghost use Rattle.cm_outer.specs.Passes.{Told};
 ghost use Rattle.cm_spec.specs.Chm.{chm_rule};
-ghost use Rattle.cm_tool.specs.Jobs.{job_seen};
+ghost use Rattle.cm_tool.specs.Jobs.{build_seen};
 ghost use Rattle.cm_tool.specs.Leaves.{HasStopCause, IsChmOf, IsFunctionOf, IsRefused, Leaves, stop_from, stop_from_key, Differs};
 
-use crate::job::{Job, seeds, target};
+use crate::job::{BuildJob, seeds, target};
 use crate::stop::Stop;
 use crate::storing::store;
 use cm_algo::{BuildFault, build};
@@ -80,12 +80,12 @@ fn stop_of_key(fault: KeyFault) -> Stop
 }
 
 /// Builds the function of a keys file.
-fn function_of<D: Disk>(alloc: Global, job: &Job, disk: &mut D) -> Result<Chm, Stop>
+fn function_of<D: Disk>(alloc: Global, job: &BuildJob, disk: &mut D) -> Result<Chm, Stop>
     ensures files { D.files disk.new ≡ D.files disk.old }
     ensures cause { HasStopCause (D.read_faults disk.old) (D.read_faults disk.new) (D.write_faults disk.old) (D.write_faults disk.new) result }
-    ensures made { IfOk result (λ f. ForSome (D.files disk.old) (λ files. (bytes : List ℕ) × (file_at files job.now.keys.now ≡ Some bytes) × IsFunctionOf (job_seen job.now) bytes f)) }
+    ensures made { IfOk result (λ f. ForSome (D.files disk.old) (λ files. (bytes : List ℕ) × (file_at files job.now.keys.now ≡ Some bytes) × IsFunctionOf (build_seen job.now) bytes f)) }
     ensures valid { IfOk result IsChm }
-    ensures refused { IfErr result (λ stop. ForSome (D.files disk.old) (λ files. IsRefused (job_seen job.now) files stop)) }
+    ensures refused { IfErr result (λ stop. ForSome (D.files disk.old) (λ files. IsRefused (build_seen job.now) files stop)) }
     ensures differ { IfErr result Differs }
 {
     let reader = match disk.open(job.keys) {
@@ -109,9 +109,9 @@ fn function_of<D: Disk>(alloc: Global, job: &Job, disk: &mut D) -> Result<Chm, S
 }
 
 /// Builds the function of a keys file, and saves it as the function file. This is created only after the build has succeeded.
-pub(crate) fn build_file<D: Disk>(alloc: Global, job: &Job, disk: &mut D) -> Result<(), Stop>
+pub(crate) fn build_file<D: Disk>(alloc: Global, job: &BuildJob, disk: &mut D) -> Result<(), Stop>
     ensures cause { HasStopCause (D.read_faults disk.old) (D.read_faults disk.new) (D.write_faults disk.old) (D.write_faults disk.new) result }
-    ensures leaves { Leaves (job_seen job.now) (D.files disk.old) (D.files disk.new) result }
+    ensures leaves { Leaves (build_seen job.now) (D.files disk.old) (D.files disk.new) result }
     ensures differ { IfErr result Differs }
 {
     let Ok(path) = target(alloc, job.keys) else {

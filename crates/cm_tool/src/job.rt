@@ -8,9 +8,22 @@ use std::alloc::{AllocError, Global};
 
 /// A build: the path of the keys file, and the first seed.
 #[derive(Drop)]
-pub(crate) struct Job<'a> {
+pub(crate) struct BuildJob<'a> {
     pub keys: &'a str,
     pub seed: u32,
+}
+
+/// A query: the path of the keys file.
+#[derive(Drop)]
+pub(crate) struct QueryJob<'a> {
+    pub keys: &'a str,
+}
+
+/// What the words of a command line ask for.
+#[derive(Drop)]
+pub(crate) enum Job<'a> {
+    Build(BuildJob<'a>),
+    Query(QueryJob<'a>),
 }
 
 /// Whether the word at a place is this one.
@@ -36,10 +49,10 @@ pub(crate) fn read_words<'a>(words: &'a [String]) -> Option<Job<'a>>
     ensures { option_map job_seen result ≡ job_of (map string_bytes words.now) }
 {
     if words.len() == 3 && is_at(words, 1, "-g") && is_path_at(words, 2) {
-        return Some(Job {
+        return Some(Job::Build(BuildJob {
             keys: words[2].as_str(),
             seed: 1,
-        });
+        }));
     }
     if words.len() == 5
         && is_at(words, 1, "-g")
@@ -47,10 +60,15 @@ pub(crate) fn read_words<'a>(words: &'a [String]) -> Option<Job<'a>>
         && is_at(words, 3, "0")
         && is_path_at(words, 4)
     {
-        return Some(Job {
+        return Some(Job::Build(BuildJob {
             keys: words[4].as_str(),
             seed: 0,
-        });
+        }));
+    }
+    if words.len() == 2 && is_path_at(words, 1) {
+        return Some(Job::Query(QueryJob {
+            keys: words[1].as_str(),
+        }));
     }
     None
 }

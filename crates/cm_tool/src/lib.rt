@@ -1,8 +1,11 @@
 //! What the program `cmph` does, as one call over a disk and two sinks.
 #![tactic(auto)]
 
+mod asking;
 mod building;
 mod job;
+mod loading;
+mod querying;
 mod report;
 mod stop;
 mod storing;

@@ -1,6 +1,8 @@
 //! Why a job stopped.
 
-/// What kept a job from its end.
+use cm_dump::LoadFault;
+
+/// What kept a build from its end.
 #[derive(Clone, Copy, Debug, PartialEq, Eq)]
 pub(crate) enum Stop {
     /// Want of memory.
@@ -18,5 +20,24 @@ pub(crate) enum Stop {
     /// A line, counted from 1, has more bytes than a key.
     TooLong { line: u32 },
     /// There are more keys than a function may have.
+    TooMany,
+}
+
+/// What kept a query from its end.
+#[derive(Clone, Copy, Debug, PartialEq, Eq)]
+pub(crate) enum QueryStop {
+    /// Want of memory.
+    Memory,
+    /// The function file can't be opened or read.
+    NoFunction,
+    /// The function file is not the dump of a function.
+    BadDump { fault: LoadFault },
+    /// The keys file can't be opened or read.
+    Read,
+    /// Out can't be written.
+    Write,
+    /// A line, counted from 1, has more bytes than a key.
+    TooLong { line: u32 },
+    /// There are more keys than a query may have.
     TooMany,
 }

@@ -1,21 +1,23 @@
 //! The top call.
-ghost use Rattle.std.specs.Prelude.{[], ◌≡◌, ◌≢◌, ◌<◌, ◌^◌, ◌⊎◌, ◌↔◌, ℕ, List, None, map, string_bytes};
+ghost use Rattle.std.specs.Prelude.{[], ◌≡◌, ◌≢◌, ◌<◌, ◌^◌, ◌⊎◌, ◌↔◌, ◌++◌, ℕ, List, None, map, string_bytes};
 ghost use Rattle.std.specs.Option.{ForSome};
 ghost use Rattle.cm_outer.specs.Files.{with_file};
 ghost use Rattle.cm_tool.specs.Ends.{Says};
-ghost use Rattle.cm_tool.specs.Job.{target_of};
+ghost use Rattle.cm_tool.specs.Job.{job_of, target_of};
 ghost use Rattle.cm_tool.specs.Outcome.{outcome_of};
-ghost use Rattle.cm_tool.specs.Run.{IsStatus, IfJob, Reaches, TookFirst, SavedNumbers, IsCored, SavedPart, IsMessage};
+ghost use Rattle.cm_tool.specs.Run.{IsStatus, ForBuild, ForQuery, IfBuild, UnlessQuery, Reaches, TookFirst, SavedNumbers, IsCored, SavedPart, IsCutShort, IsMessage};
 
 use crate::building::build_file;
-use crate::job::read_words;
+use crate::job::{Job, read_words};
+use crate::querying::run_query;
 use crate::report::{report, say};
 use cm_outer::{Disk, Sink};
 use std::alloc::Global;
 
-/// Does what the words of a command line ask for, and answers the status: 0 done, 1 no seed of the list gives a function, 2 the
-/// words ask for nothing known, 4 the keys file can't be opened, read or rewound, 5 the function file can't be created, written
-/// or closed, 6 want of memory, 7 the keys changed between passes, 8 no keys, a line that is too long, or too many keys.
+/// Does what the words of a command line ask for, and answers the status: 0 done; 1 no seed of the list gives a function, or a
+/// query met an unknown key or a repeated value; 2 the words ask for nothing known; 3 the function file is no dump; 4 a file
+/// can't be opened, read or rewound; 5 the function file can't be created, written or closed, or out can't be written; 6 want of
+/// memory; 7 the keys changed between passes; 8 no keys in a build, a line that is too long, or too many keys.
 pub fn run<D: Disk, O: Sink, E: Sink>(
     alloc: Global,
     words: &[String],
@@ -34,14 +36,14 @@ pub fn run<D: Disk, O: Sink, E: Sink>(
 
     // Without want of memory or a fault, status, out, err and files are the stated function of the words and the files.
     ensures outcome { result ≢ 4 → result ≢ 5 → result ≢ 6 → ForSome (D.files disk.old) (λ files.
-        Reaches (map string_bytes words.now) files result (O.written out.old) (O.written out.new) (E.written err.old) (E.written err.new) (E.faults err.old) (E.faults err.new) (D.files disk.new)) }
+        Reaches (outcome_of (map string_bytes words.now) files) result (O.written out.old) (O.written out.new) (E.written err.old) (E.written err.new) (E.faults err.old) (E.faults err.new) (D.files disk.new)) }
 
     // A build takes the first seed whose graph has an empty 2-core, and is refused where there is none.
-    ensures first { result ≡ 0 → ForSome (D.files disk.old) (λ files. IfJob (map string_bytes words.now) (TookFirst files)) }
-    ensures cored { result ≡ 1 → ForSome (D.files disk.old) (λ files. IfJob (map string_bytes words.now) (IsCored files)) }
+    ensures first { result ≡ 0 → ForSome (D.files disk.old) (λ files. ForBuild (job_of (map string_bytes words.now)) (TookFirst files)) }
+    ensures cored { result ≡ 1 → ForSome (D.files disk.old) (λ files. ForBuild (job_of (map string_bytes words.now)) (IsCored files)) }
 
     // The function file then holds the dump of a function that answers each key with its number.
-    ensures numbers { result ≡ 0 → ForSome (D.files disk.old) (λ files. IfJob (map string_bytes words.now) (SavedNumbers files (D.files disk.new))) }
+    ensures numbers { result ≡ 0 → ForSome (D.files disk.old) (λ files. ForBuild (job_of (map string_bytes words.now)) (SavedNumbers files (D.files disk.new))) }
 
     // Told files never change between passes.
     ensures unchanged { ForSome (D.files disk.old) (λ _. result ≢ 7) }
@@ -49,21 +51,33 @@ pub fn run<D: Disk, O: Sink, E: Sink>(
     // A file that isn't there can't be read.
     ensures missing { ForSome (D.files disk.old) (λ files. outcome_of (map string_bytes words.now) files ≡ None → (result ≡ 4) ⊎ (result ≡ 6)) }
 
-    // What a refusal leaves of the files, and of out.
+    // What a refusal leaves of the files. A query leaves them as they were.
     ensures kept { result ≢ 0 → result ≢ 5 → result ≢ 6 → D.files disk.new ≡ D.files disk.old }
-    ensures part { result ≡ 5 → ForSome (D.files disk.old) (λ files. IfJob (map string_bytes words.now) (SavedPart (map string_bytes words.now) files (D.files disk.old) (D.files disk.new))) }
-    ensures memory { result ≡ 6 → (D.files disk.new ≡ D.files disk.old) ⊎ IfJob (map string_bytes words.now) (λ job. D.files disk.new ≡ with_file (target_of job.keys) [] (D.files disk.old)) }
-    ensures out { (O.written out.new ≡ O.written out.old) × (O.faults out.new ≡ O.faults out.old) }
+    ensures part { result ≡ 5 → ForSome (D.files disk.old) (λ files. ForBuild (job_of (map string_bytes words.now)) (SavedPart files (D.files disk.old) (D.files disk.new))) }
+    ensures memory { result ≡ 6 → (D.files disk.new ≡ D.files disk.old) ⊎ IfBuild (job_of (map string_bytes words.now)) (λ job. D.files disk.new ≡ with_file (target_of job.keys) [] (D.files disk.old)) }
+    ensures asked { ForQuery (job_of (map string_bytes words.now)) (λ _. (D.files disk.new ≡ D.files disk.old) × (D.write_faults disk.new ≡ D.write_faults disk.old)) }
 
-    // Err gets the message of the status, or a front of it where err itself fails.
-    ensures err { (text : List ℕ) × IsMessage (map string_bytes words.now) result text × Says text (E.written err.old) (E.written err.new) (E.faults err.old) (E.faults err.new) }
+    // Only a query writes to out, and not where it wants memory.
+    ensures out { UnlessQuery (job_of (map string_bytes words.now)) ((O.written out.new ≡ O.written out.old) × (O.faults out.new ≡ O.faults out.old)) }
+    ensures silent { result ≡ 6 → O.written out.new ≡ O.written out.old }
+
+    // A query that a fault cut short has answered the first keys, and noted what there is to note of them.
+    ensures cut { (result ≡ 4) ⊎ (result ≡ 5) → ForSome (D.files disk.old) (λ files. ForQuery (job_of (map string_bytes words.now))
+        (IsCutShort files result (O.written out.old) (O.written out.new) (E.written err.old) (E.written err.new) (E.faults err.old) (E.faults err.new))) }
+
+    // Err gets a query's notes and the message of the status, or a front of them where err itself fails.
+    ensures err { (notes : List ℕ) × (text : List ℕ) × UnlessQuery (job_of (map string_bytes words.now)) (notes ≡ []) × IsMessage (job_of (map string_bytes words.now)) result text
+        × Says (notes ++ text) (E.written err.old) (E.written err.new) (E.faults err.old) (E.faults err.new) }
 {
     let Some(job) = read_words(words) else {
         say(err, &[b"cmph: bad arguments; cmph -h shows the usage\n"]);
         return 2;
     };
-    match build_file(alloc, &job, disk) {
-        Ok(()) => 0,
-        Err(stop) => report(job.keys, stop, err),
+    match job {
+        Job::Build(job) => match build_file(alloc, &job, disk) {
+            Ok(()) => 0,
+            Err(stop) => report(job.keys, stop, err),
+        },
+        Job::Query(job) => run_query(alloc, &job, disk, out, err),
     }
 }

@@ -1,0 +1,85 @@
+//! Queries.
+ghost use Rattle.std.specs.Prelude.{◌≡◌, ◌≢◌, ◌<◌, ◌^◌, ◌⊎◌, ◌↔◌, ◌++◌, ℕ, List, Err, None, Some};
+ghost use Rattle.std.specs.Option.{ForSome};
+ghost use Rattle.cm_outer.specs.Noting.{Noted};
+ghost use Rattle.cm_tool.specs.Asked.{EndsQuery, HasQueryStopCause};
+ghost use Rattle.cm_tool.specs.Ends.{Says};
+ghost use Rattle.cm_tool.specs.Job.{Query};
+ghost use Rattle.cm_tool.specs.Jobs.{query_seen};
+ghost use Rattle.cm_tool.specs.Outcome.{job_outcome};
+ghost use Rattle.cm_tool.specs.Run.{IsCutShort, IsQueryMessage, IsStatus, Reaches};
+ghost use Rattle.cm_tool.specs.declared.stop.QueryStop.{QueryStop};
+
+use crate::asking::{ask_keys, send_on};
+use crate::job::QueryJob;
+use crate::loading::load_file;
+use crate::report::report_query;
+use crate::stop::QueryStop;
+use cm_outer::{Disk, Notes, Sink};
+use cm_query::Tally;
+use std::alloc::Global;
+
+/// Loads the function of a keys file, and answers the keys.
+fn answer_file<D: Disk, O: Sink, E: Sink>(
+    alloc: Global,
+    keys: &str,
+    disk: &mut D,
+    out: &mut O,
+    err: &mut E,
+    notes: &mut Notes,
+) -> Result<Tally, QueryStop>
+    ensures files { D.files disk.new ≡ D.files disk.old }
+    ensures cause { HasQueryStopCause (D.read_faults disk.old) (D.read_faults disk.new) (D.write_faults disk.old) (D.write_faults disk.new) (O.faults out.old) (O.faults out.new) result }
+    ensures memory { result ≡ Err QueryStop.Memory → O.written out.new ≡ O.written out.old }
+    ensures says { (text : List ℕ) × Noted notes.old notes.new (E.written err.old) (E.written err.new) (E.faults err.old) (E.faults err.new) text }
+    ensures told { ForSome (D.files disk.old) (λ files. (text : List ℕ) × Noted notes.old notes.new (E.written err.old) (E.written err.new) (E.faults err.old) (E.faults err.new) text
+        × EndsQuery files keys.now (O.written out.old) (O.written out.new) text result) }
+{
+    let function = match load_file(alloc, keys, disk) {
+        Ok(function) => function,
+        Err(stop) => return Err(stop),
+    };
+    let asked = ask_keys(alloc, &function, keys, disk, out, err, notes);
+    send_on(out, asked)
+}
+
+/// Does a query, and answers its status.
+pub(crate) fn run_query<D: Disk, O: Sink, E: Sink>(
+    alloc: Global,
+    job: &QueryJob,
+    disk: &mut D,
+    out: &mut O,
+    err: &mut E,
+) -> u8
+    ensures status { IsStatus result }
+    ensures known { (result ≢ 2) × (result ≢ 7) }
+    ensures files { D.files disk.new ≡ D.files disk.old }
+    ensures write_faults { D.write_faults disk.new ≡ D.write_faults disk.old }
+    ensures read { D.read_faults disk.old < 2 ^ 63 → ((result ≡ 4) ↔ (D.read_faults disk.old < D.read_faults disk.new)) }
+    ensures write { O.faults out.old < 2 ^ 63 → ((result ≡ 5) ↔ (O.faults out.old < O.faults out.new)) }
+    ensures outcome { result ≢ 4 → result ≢ 5 → result ≢ 6 → ForSome (D.files disk.old) (λ files.
+        Reaches (job_outcome files (Some (Query (query_seen job.now)))) result (O.written out.old) (O.written out.new) (E.written err.old) (E.written err.new) (E.faults err.old) (E.faults err.new) (D.files disk.new)) }
+    ensures missing { ForSome (D.files disk.old) (λ files. job_outcome files (Some (Query (query_seen job.now))) ≡ None → (result ≡ 4) ⊎ (result ≡ 6)) }
+    ensures memory { result ≡ 6 → O.written out.new ≡ O.written out.old }
+    ensures cut { (result ≡ 4) ⊎ (result ≡ 5) → ForSome (D.files disk.old) (λ files.
+        IsCutShort files result (O.written out.old) (O.written out.new) (E.written err.old) (E.written err.new) (E.faults err.old) (E.faults err.new) (query_seen job.now)) }
+    ensures err { (notes : List ℕ) × (text : List ℕ) × IsQueryMessage (query_seen job.now) result text × Says (notes ++ text) (E.written err.old) (E.written err.new) (E.faults err.old) (E.faults err.new) }
+{
+    let mut notes = Notes::new();
+    match answer_file(alloc, job.keys, disk, out, err, &mut notes) {
+        Ok(tally) => noted_status(tally),
+        Err(stop) => report_query(job.keys, stop, err, &mut notes),
+    }
+}
+
+/// The status of a query that came to its end.
+fn noted_status(tally: Tally) -> u8
+    ensures none { tally.repeated + tally.unknown ≡ 0 → result ≡ 0 }
+    ensures some { tally.repeated + tally.unknown ≢ 0 → result ≡ 1 }
+{
+    if tally.repeated == 0 && tally.unknown == 0 {
+        0
+    } else {
+        1
+    }
+}
