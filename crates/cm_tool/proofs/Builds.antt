@@ -11,7 +11,7 @@ use Rattle.cm_outer.specs.declared.key_pass.KeyFault.{KeyFault}
 use Rattle.cm_outer.specs.declared.key_pass.KeyFault.TheVariants as key_fault
 use Rattle.cm_spec.specs.Built.{cells_under, chm_under, first_seed, IsFirst}
 use Rattle.cm_spec.specs.Chm.{Chm, chm_rule}
-use Rattle.cm_tool.specs.Job.{Job}
+use Rattle.cm_tool.specs.Job.{BuildJob}
 use Rattle.cm_tool.specs.Leaves.{IsChmOf, IsRefused, Leaves, stop_from}
 use Rattle.cm_tool.specs.Outcome.{keys_in, ratio, seeds_tried}
 use Rattle.cm_tool.specs.declared.stop.Stop.{Stop}
@@ -34,7 +34,7 @@ chm_from told c seeds f m seed cells k before after fine some few built keys_are
   is = chm_by_parts f told.keys c (keys_are ∙ built.many) ratio_is (cells_are ∙ built.cells_are ∙ ap (λ (s : ℕ). cells_under chm_rule told.keys c s) (sym seed_is));
 }
 
-pub refused_from : (job : Job) (files : Files) (bytes : List ℕ) (fault : BuildFault) → file_at files job.keys ≡ Some bytes → FailsBuild chm_rule (keys_in bytes) ratio (seeds_tried job) fault → IsRefused job files (stop_from fault)
+pub refused_from : (job : BuildJob) (files : Files) (bytes : List ℕ) (fault : BuildFault) → file_at files job.keys ≡ Some bytes → FailsBuild chm_rule (keys_in bytes) ratio (seeds_tried job) fault → IsRefused job files (stop_from fault)
 refused_from job files bytes build_fault.Memory there fails = tt
 refused_from job files bytes build_fault.NoKeys there fails = (bytes, there, (fails.1, fails.0))
 refused_from job files bytes (build_fault.Cored seed) there fails = (bytes, there, (fails.1, fails.0, fails.2, fails.3))
@@ -44,7 +44,7 @@ refused_from job files bytes (build_fault.Key key_fault.TooMany) there fails = (
 refused_from job files bytes (build_fault.Changed first again) there fails = absurd fails
 
 -- a build that was refused leaves the files as they were
-pub leaves_refused : (job : Job) (old new : Option Files) (stop : Stop) → new ≡ old → ForSome old (λ files. IsRefused job files stop) → Leaves job old new (Err stop)
+pub leaves_refused : (job : BuildJob) (old new : Option Files) (stop : Stop) → new ≡ old → ForSome old (λ files. IsRefused job files stop) → Leaves job old new (Err stop)
 leaves_refused job old new Memory same refused = inl same
 leaves_refused job old new Read same refused = same
 leaves_refused job old new Write same refused = ([], inl same, λ files is. absurd (refused files is))

@@ -1,2 +1,3 @@
+mod Asks
 mod Builds
 mod Outcomes

@@ -16,64 +16,61 @@ use Rattle.cm_dump.proofs.SpellingLemmas.{spelling_of-dump_of}
 use Rattle.cm_dump.specs.Spelling.{spelling_of}
 use Rattle.cm_dump.specs.declared.writer.Func.TheVariants as func
 use Rattle.cm_peel.proofs.Core.{empty_rest}
+use Rattle.cm_query.proofs.TextLemmas.{then_nothing}
 use Rattle.cm_spec.specs.Built.{chm_under, first_seed, graph_of}
 use Rattle.cm_spec.specs.Rounds.{rest_of}
 use Rattle.cm_spec.specs.Chm.{Chm, chm_rule}
 use Rattle.cm_spec.specs.Dump.{chm_dump}
 use Rattle.cm_tool.specs.Ends.{Says, message_of, status_of}
-use Rattle.cm_tool.specs.Job.{Job, job_of, target_of}
+use Rattle.cm_tool.specs.Job.{BuildJob, Build, target_of}
 use Rattle.cm_tool.specs.Leaves.{Differs, IsFunctionOf, IsPart, IsRefused, Leaves}
 use Rattle.cm_tool.specs.Messages.{bad_arguments, no_keys, no_seed}
 use Rattle.cm_tool.specs.Outcome as outcomes
-use Rattle.cm_tool.specs.Outcome.{Outcome, build_over, fault_message, job_outcome, keys_in, outcome_of, ratio, refusal, saving, seeds_tried, with_seed}
-use Rattle.cm_tool.specs.Run.{IfJob, IsCored, IsMessage, Reaches, SavedNumbers, SavedPart, TookFirst}
+use Rattle.cm_tool.specs.Outcome.{Outcome, build_over, fault_message, job_outcome, keys_in, ratio, refusal, saving, seeds_tried, with_seed}
+use Rattle.cm_tool.specs.Run.{IsBuildMessage, IsCored, Reaches, SavedNumbers, SavedPart, TookFirst}
 use Rattle.cm_tool.specs.declared.stop.Stop.{Stop}
 use Rattle.cm_tool.specs.declared.stop.Stop.TheVariants.{Memory, Read, Write, Cored, Changed, NoKeys, TooLong, TooMany}
-
-pub then_nothing : (known : Option (List ℕ)) → known ≡ then_bytes known []
-then_nothing None = refl
-then_nothing (Some w) = ap Some (sym (append-nil w))
 
 pub nothing_said : (known : Option (List ℕ)) (count : ℕ) → Says [] known known count count
 nothing_said known count = record { front = (0, then_nothing known); whole = λ _ _. then_nothing known }
 
 -- what keys that end with no fault, or with one, make of a build
-over_some : (job : Job) (files : Files) (keys : List (ℕ × List ℕ)) (fault : Option KeyFault) → fault ≡ None → 0 < length keys → build_over job files keys fault ≡ with_seed job files keys (first_seed chm_rule keys ratio (seeds_tried job))
+over_some : (job : BuildJob) (files : Files) (keys : List (ℕ × List ℕ)) (fault : Option KeyFault) → fault ≡ None → 0 < length keys → build_over job files keys fault ≡ with_seed job files keys (first_seed chm_rule keys ratio (seeds_tried job))
 over_some job files [] fault fine some = absurd (omega arith)
 over_some job files (key ∷ keys) fault fine some = rw fine refl
 
-over_none : (job : Job) (files : Files) (keys : List (ℕ × List ℕ)) (fault : Option KeyFault) → fault ≡ None → keys ≡ [] → build_over job files keys fault ≡ refusal 8 (no_keys job.keys) files
+over_none : (job : BuildJob) (files : Files) (keys : List (ℕ × List ℕ)) (fault : Option KeyFault) → fault ≡ None → keys ≡ [] → build_over job files keys fault ≡ refusal 8 (no_keys job.keys) files
 over_none job files keys fault fine none = rw (fine, none) refl
 
-over_fault : (job : Job) (files : Files) (keys : List (ℕ × List ℕ)) (fault : Option KeyFault) (f : KeyFault) → fault ≡ Some f → build_over job files keys fault ≡ refusal 8 (fault_message job.keys f) files
+over_fault : (job : BuildJob) (files : Files) (keys : List (ℕ × List ℕ)) (fault : Option KeyFault) (f : KeyFault) → fault ≡ Some f → build_over job files keys fault ≡ refusal 8 (fault_message job.keys f) files
 over_fault job files [] fault f is = rw is refl
 over_fault job files (key ∷ keys) fault f is = rw is refl
 
 -- the outcome of a job whose keys file is there
-there : (words : List (List ℕ)) (job : Job) (files : Files) (bytes : List ℕ) (o : Outcome) → job_of words ≡ Some job → file_at files job.keys ≡ Some bytes → build_over job files (keys_in bytes).keys (keys_in bytes).fault ≡ o → outcome_of words files ≡ Some o
+there : (job : BuildJob) (files : Files) (bytes : List ℕ) (o : Outcome) → file_at files job.keys ≡ Some bytes → build_over job files (keys_in bytes).keys (keys_in bytes).fault ≡ o → job_outcome files (Some (Build job)) ≡ Some o
 unfolding outcomes.build_outcome
-there words job files bytes o asks file is = ap (job_outcome files) asks ∙ ap (option_map (outcomes.build_outcome job files)) file ∙ ap Some is
+there job files bytes o file is = ap (option_map (outcomes.build_outcome job files)) file ∙ ap Some is
 
-pub outcome_saving : (words : List (List ℕ)) (job : Job) (files : Files) (bytes : List ℕ) (f : Chm) → job_of words ≡ Some job → file_at files job.keys ≡ Some bytes → IsFunctionOf job bytes f → outcome_of words files ≡ Some (saving job files (chm_dump f))
-outcome_saving words job files bytes f asks file made =
+pub outcome_saving : (job : BuildJob) (files : Files) (bytes : List ℕ) (f : Chm) → file_at files job.keys ≡ Some bytes → IsFunctionOf job bytes f → job_outcome files (Some (Build job)) ≡ Some (saving job files (chm_dump f))
+outcome_saving job files bytes f file made =
     let keys = (keys_in bytes).keys in
-    there words job files bytes _ asks file (over_some job files keys (keys_in bytes).fault made.no_fault (omega (arith, made.many.0)) ∙ ap (with_seed job files keys) made.chosen ∙ ap (λ (g : Chm). saving job files (chm_dump g)) (sym made.is))
+    there job files bytes _ file (over_some job files keys (keys_in bytes).fault made.no_fault (omega (arith, made.many.0)) ∙ ap (with_seed job files keys) made.chosen ∙ ap (λ (g : Chm). saving job files (chm_dump g)) (sym made.is))
 
 -- a refusal for the keys alone is the outcome
-pub outcome_refused : (words : List (List ℕ)) (job : Job) (files : Files) (stop : Stop) → job_of words ≡ Some job → IsRefused job files stop → status_of stop ≢ 4 → status_of stop ≢ 6 → outcome_of words files ≡ Some (refusal (status_of stop) (message_of job.keys stop) files)
-outcome_refused words job files Memory asks refused a b = absurd (b refl)
-outcome_refused words job files Read asks refused a b = absurd (a refl)
-outcome_refused words job files Write asks refused a b = absurd refused
-outcome_refused words job files Cored asks refused a b =
+pub outcome_refused : (job : BuildJob) (files : Files) (stop : Stop) → IsRefused job files stop → status_of stop ≢ 4 → status_of stop ≢ 6 → job_outcome files (Some (Build job)) ≡ Some (refusal (status_of stop) (message_of job.keys stop) files)
+outcome_refused job files Memory refused a b = absurd (b refl)
+outcome_refused job files Read refused a b = absurd (a refl)
+outcome_refused job files Write refused a b = absurd refused
+outcome_refused job files Cored refused a b =
     let keys = (keys_in refused.0).keys in
-    there words job files refused.0 _ asks refused.1 (over_some job files keys (keys_in refused.0).fault refused.2.0 refused.2.1 ∙ ap (with_seed job files keys) refused.2.2)
-outcome_refused words job files (Changed first again) asks refused a b = absurd refused
-outcome_refused words job files NoKeys asks refused a b = there words job files refused.0 _ asks refused.1 (over_none job files _ _ refused.2.0 refused.2.1)
-outcome_refused words job files (TooLong line) asks refused a b = there words job files refused.0 _ asks refused.1 (over_fault job files _ _ (key_fault.TooLong line) refused.2)
-outcome_refused words job files TooMany asks refused a b = there words job files refused.0 _ asks refused.1 (over_fault job files _ _ key_fault.TooMany refused.2)
+    there job files refused.0 _ refused.1 (over_some job files keys (keys_in refused.0).fault refused.2.0 refused.2.1 ∙ ap (with_seed job files keys) refused.2.2)
+outcome_refused job files (Changed first again) refused a b = absurd refused
+outcome_refused job files NoKeys refused a b = there job files refused.0 _ refused.1 (over_none job files _ _ refused.2.0 refused.2.1)
+outcome_refused job files (TooLong line) refused a b = there job files refused.0 _ refused.1 (over_fault job files _ _ (key_fault.TooLong line) refused.2)
+outcome_refused job files TooMany refused a b = there job files refused.0 _ refused.1 (over_fault job files _ _ key_fault.TooMany refused.2)
 
 -- what a refusal other than for memory or a fault left
-kept : (job : Job) (old new : Option Files) (stop : Stop) → Leaves job old new (Err stop) → status_of stop ≢ 4 → status_of stop ≢ 5 → status_of stop ≢ 6 → (new ≡ old) × ForSome old (λ files. IsRefused job files stop)
+kept : (job : BuildJob) (old new : Option Files) (stop : Stop) → Leaves job old new (Err stop) → status_of stop ≢ 4 → status_of stop ≢ 5 → status_of stop ≢ 6 → (new ≡ old) × ForSome old (λ files. IsRefused job files stop)
 kept job old new Memory leaves a b c = absurd (c refl)
 kept job old new Read leaves a b c = absurd (a refl)
 kept job old new Write leaves a b c = absurd (b refl)
@@ -84,13 +81,13 @@ kept job old new (TooLong line) leaves a b c = leaves
 kept job old new TooMany leaves a b c = leaves
 
 -- a job that stopped
-pub stopped : (words : List (List ℕ)) (job : Job) (old new : Option Files) (stop : Stop) (out err err_new : Option (List ℕ)) (before now : ℕ) (files : Files) → job_of words ≡ Some job → Leaves job old new (Err stop)
-    → Says (message_of job.keys stop) err err_new before now → status_of stop ≢ 4 → status_of stop ≢ 5 → status_of stop ≢ 6 → old ≡ Some files → Reaches words files (status_of stop) out out err err_new before now new
-stopped words job old new stop out err err_new before now files asks leaves says a b c is =
+pub stopped : (job : BuildJob) (old new : Option Files) (stop : Stop) (out err err_new : Option (List ℕ)) (before now : ℕ) (files : Files) → Leaves job old new (Err stop)
+    → Says (message_of job.keys stop) err err_new before now → status_of stop ≢ 4 → status_of stop ≢ 5 → status_of stop ≢ 6 → old ≡ Some files → Reaches (job_outcome files (Some (Build job))) (status_of stop) out out err err_new before now new
+stopped job old new stop out err err_new before now files leaves says a b c is =
     let left = kept job old new stop leaves a b c in
     record {
       outcome = refusal (status_of stop) (message_of job.keys stop) files;
-      is = outcome_refused words job files stop asks (left.1 files is) a c;
+      is = outcome_refused job files stop (left.1 files is) a c;
       status_is = refl;
       out = then_nothing out;
       err = says;
@@ -98,12 +95,12 @@ stopped words job old new stop out err err_new before now files asks leaves says
     }
 
 -- a job that came to its end
-pub finished : (words : List (List ℕ)) (job : Job) (old new : Option Files) (out err : Option (List ℕ)) (count : ℕ) (files : Files) → job_of words ≡ Some job → Leaves job old new (Ok tt) → old ≡ Some files → Reaches words files 0 out out err err count count new
-finished words job old new out err count files asks leaves is =
+pub finished : (job : BuildJob) (old new : Option Files) (out err : Option (List ℕ)) (count : ℕ) (files : Files) → Leaves job old new (Ok tt) → old ≡ Some files → Reaches (job_outcome files (Some (Build job))) 0 out out err err count count new
+finished job old new out err count files leaves is =
     let saves = leaves.2 files is in
     record {
       outcome = saving job files leaves.0;
-      is = outcome_saving words job files saves.0 saves.1 asks saves.2 saves.3 ∙ ap (λ (dump : List ℕ). Some (saving job files dump)) (sym saves.4);
+      is = outcome_saving job files saves.0 saves.1 saves.2 saves.3 ∙ ap (λ (dump : List ℕ). Some (saving job files dump)) (sym saves.4);
       status_is = refl;
       out = then_nothing out;
       err = nothing_said err count;
@@ -111,73 +108,69 @@ finished words job old new out err count files asks leaves is =
     }
 
 -- words that ask for nothing known
-pub misused : (words : List (List ℕ)) (old : Option Files) (out err err_new : Option (List ℕ)) (before now : ℕ) (files : Files) → job_of words ≡ None → Says bad_arguments err err_new before now → old ≡ Some files → Reaches words files 2 out out err err_new before now old
-misused words old out err err_new before now files asks says is = record {
+pub misused : (old : Option Files) (out err err_new : Option (List ℕ)) (before now : ℕ) (files : Files) → Says bad_arguments err err_new before now → old ≡ Some files → Reaches (job_outcome files None) 2 out out err err_new before now old
+misused old out err err_new before now files says is = record {
   outcome = refusal 2 bad_arguments files;
-  is = ap (job_outcome files) asks;
+  is = refl;
   status_is = refl;
   out = then_nothing out;
   err = says;
   files_are = is;
 }
 
-pub took_first : (words : List (List ℕ)) (job : Job) (old new : Option Files) (files : Files) → job_of words ≡ Some job → Leaves job old new (Ok tt) → old ≡ Some files → IfJob words (TookFirst files)
-took_first words job old new files asks leaves is =
+pub took_first : (job : BuildJob) (old new : Option Files) (files : Files) → Leaves job old new (Ok tt) → old ≡ Some files → TookFirst files job
+took_first job old new files leaves is =
     let saves = leaves.2 files is in
-    (job, asks, (saves.0, saves.3.first.0, saves.1.seed, saves.2, saves.3.first.1))
+    (saves.0, saves.3.first.0, saves.1.seed, saves.2, saves.3.first.1)
 
-pub is_cored : (words : List (List ℕ)) (job : Job) (old new : Option Files) (stop : Stop) (files : Files) → job_of words ≡ Some job → Leaves job old new (Err stop) → old ≡ Some files → status_of stop ≡ 1 → IfJob words (IsCored files)
-is_cored words job old new Memory files asks leaves is one = absurd (omega arith)
-is_cored words job old new Read files asks leaves is one = absurd (omega arith)
-is_cored words job old new Write files asks leaves is one = absurd (omega arith)
-is_cored words job old new Cored files asks leaves is one = let refused = leaves.1 files is in (job, asks, (refused.0, refused.1, refused.2.3))
-is_cored words job old new (Changed first again) files asks leaves is one = absurd (omega arith)
-is_cored words job old new NoKeys files asks leaves is one = absurd (omega arith)
-is_cored words job old new (TooLong line) files asks leaves is one = absurd (omega arith)
-is_cored words job old new TooMany files asks leaves is one = absurd (omega arith)
+pub is_cored : (job : BuildJob) (old new : Option Files) (stop : Stop) (files : Files) → Leaves job old new (Err stop) → old ≡ Some files → status_of stop ≡ 1 → IsCored files job
+is_cored job old new Memory files leaves is one = absurd (omega arith)
+is_cored job old new Read files leaves is one = absurd (omega arith)
+is_cored job old new Write files leaves is one = absurd (omega arith)
+is_cored job old new Cored files leaves is one = let refused = leaves.1 files is in (refused.0, refused.1, refused.2.3)
+is_cored job old new (Changed first again) files leaves is one = absurd (omega arith)
+is_cored job old new NoKeys files leaves is one = absurd (omega arith)
+is_cored job old new (TooLong line) files leaves is one = absurd (omega arith)
+is_cored job old new TooMany files leaves is one = absurd (omega arith)
 
-pub saved_part : (words : List (List ℕ)) (job : Job) (old new : Option Files) (stop : Stop) (files : Files) → job_of words ≡ Some job → Leaves job old new (Err stop) → old ≡ Some files → status_of stop ≡ 5 → IfJob words (SavedPart words files old new)
-saved_part words job old new Memory files asks leaves is five = absurd (omega arith)
-saved_part words job old new Read files asks leaves is five = absurd (omega arith)
-saved_part words job old new Write files asks leaves is five =
+pub saved_part : (job : BuildJob) (old new : Option Files) (stop : Stop) (files : Files) → Leaves job old new (Err stop) → old ≡ Some files → status_of stop ≡ 5 → SavedPart files old new job
+saved_part job old new Memory files leaves is five = absurd (omega arith)
+saved_part job old new Read files leaves is five = absurd (omega arith)
+saved_part job old new Write files leaves is five =
     let saves = leaves.2 files is in
-    (job, asks, (leaves.0, outcome_saving words job files saves.0 saves.1 asks saves.2 saves.3 ∙ ap (λ (dump : List ℕ). Some (saving job files dump)) (sym saves.4), leaves.1))
-saved_part words job old new Cored files asks leaves is five = absurd (omega arith)
-saved_part words job old new (Changed first again) files asks leaves is five = absurd (omega arith)
-saved_part words job old new NoKeys files asks leaves is five = absurd (omega arith)
-saved_part words job old new (TooLong line) files asks leaves is five = absurd (omega arith)
-saved_part words job old new TooMany files asks leaves is five = absurd (omega arith)
+    (leaves.0, outcome_saving job files saves.0 saves.1 saves.2 saves.3 ∙ ap (λ (dump : List ℕ). Some (saving job files dump)) (sym saves.4), leaves.1)
+saved_part job old new Cored files leaves is five = absurd (omega arith)
+saved_part job old new (Changed first again) files leaves is five = absurd (omega arith)
+saved_part job old new NoKeys files leaves is five = absurd (omega arith)
+saved_part job old new (TooLong line) files leaves is five = absurd (omega arith)
+saved_part job old new TooMany files leaves is five = absurd (omega arith)
 
 -- the file of a path that was written
 written_at : (files : Files) (path bytes : List ℕ) → file_at (map.insert files path bytes) path ≡ Some bytes
 written_at files path bytes =
     map.get-insert nat_list_cmp_total files path bytes path ∙ ap (λ (b : Bool). cond b (Some bytes) (map.get files path)) ((eq_by_cmp_equiv nat_list_cmp_total).refl path)
 
-pub saved_numbers : (words : List (List ℕ)) (job : Job) (old new : Option Files) (files : Files) → job_of words ≡ Some job → Leaves job old new (Ok tt) → old ≡ Some files → IfJob words (SavedNumbers files new)
-saved_numbers words job old new files asks leaves is =
+pub saved_numbers : (job : BuildJob) (old new : Option Files) (files : Files) → Leaves job old new (Ok tt) → old ≡ Some files → SavedNumbers files new job
+saved_numbers job old new files leaves is =
     let saves = leaves.2 files is in
     let keys = (keys_in saves.0).keys in
     let f = saves.1 in
     let none : rest_of (graph_of chm_rule keys ratio f.seed) ≡ [] = empty_rest _ saves.3.first.1.empty in
     let numbers : AnswersNumbers keys f = subst (AnswersNumbers keys) (sym saves.3.is) (answers_numbers keys ratio f.seed saves.3.many (omega arith, omega arith) none) in
     let spells = ap spelling_of saves.4 ∙ spelling_of-dump_of (func.Chm f) saves.5 in
-    (job, asks, (saves.0, leaves.0, f, map.insert files (target_of job.keys) leaves.0, saves.2, leaves.1 ∙ ap (with_file (target_of job.keys) leaves.0) is, written_at files (target_of job.keys) leaves.0, spells, numbers))
+    (saves.0, leaves.0, f, map.insert files (target_of job.keys) leaves.0, saves.2, leaves.1 ∙ ap (with_file (target_of job.keys) leaves.0) is, written_at files (target_of job.keys) leaves.0, spells, numbers)
 
 -- the message of a job that stopped goes with its status
-pub message_is : (words : List (List ℕ)) (job : Job) (stop : Stop) → job_of words ≡ Some job → Differs stop → IsMessage words (status_of stop) (message_of job.keys stop)
-message_is words job Memory asks differ = record { done = λ e. absurd (omega arith); cored = λ e. absurd (omega arith); usage = λ e. absurd (omega arith); read = λ e. absurd (omega arith); write = λ e. absurd (omega arith); memory = λ e. refl; changed = λ e. absurd (omega arith); keys = λ e. absurd (omega arith) }
-message_is words job Read asks differ = record { done = λ e. absurd (omega arith); cored = λ e. absurd (omega arith); usage = λ e. absurd (omega arith); read = λ e. (job, asks, refl); write = λ e. absurd (omega arith); memory = λ e. absurd (omega arith); changed = λ e. absurd (omega arith); keys = λ e. absurd (omega arith) }
-message_is words job Write asks differ = record { done = λ e. absurd (omega arith); cored = λ e. absurd (omega arith); usage = λ e. absurd (omega arith); read = λ e. absurd (omega arith); write = λ e. (job, asks, refl); memory = λ e. absurd (omega arith); changed = λ e. absurd (omega arith); keys = λ e. absurd (omega arith) }
-message_is words job Cored asks differ = record { done = λ e. absurd (omega arith); cored = λ e. refl; usage = λ e. absurd (omega arith); read = λ e. absurd (omega arith); write = λ e. absurd (omega arith); memory = λ e. absurd (omega arith); changed = λ e. absurd (omega arith); keys = λ e. absurd (omega arith) }
-message_is words job (Changed first again) asks differ = record { done = λ e. absurd (omega arith); cored = λ e. absurd (omega arith); usage = λ e. absurd (omega arith); read = λ e. absurd (omega arith); write = λ e. absurd (omega arith); memory = λ e. absurd (omega arith); changed = λ e. (job, asks, (first, again, differ, refl)); keys = λ e. absurd (omega arith) }
-message_is words job NoKeys asks differ = record { done = λ e. absurd (omega arith); cored = λ e. absurd (omega arith); usage = λ e. absurd (omega arith); read = λ e. absurd (omega arith); write = λ e. absurd (omega arith); memory = λ e. absurd (omega arith); changed = λ e. absurd (omega arith); keys = λ e. (job, asks, inl refl) }
-message_is words job (TooLong line) asks differ = record { done = λ e. absurd (omega arith); cored = λ e. absurd (omega arith); usage = λ e. absurd (omega arith); read = λ e. absurd (omega arith); write = λ e. absurd (omega arith); memory = λ e. absurd (omega arith); changed = λ e. absurd (omega arith); keys = λ e. (job, asks, inr (inr (line, refl))) }
-message_is words job TooMany asks differ = record { done = λ e. absurd (omega arith); cored = λ e. absurd (omega arith); usage = λ e. absurd (omega arith); read = λ e. absurd (omega arith); write = λ e. absurd (omega arith); memory = λ e. absurd (omega arith); changed = λ e. absurd (omega arith); keys = λ e. (job, asks, inr (inl refl)) }
+pub message_is : (job : BuildJob) (stop : Stop) → Differs stop → IsBuildMessage job (status_of stop) (message_of job.keys stop)
+message_is job Memory differ = record { done = λ e. absurd (omega arith); cored = λ e. absurd (omega arith); read = λ e. absurd (omega arith); write = λ e. absurd (omega arith); memory = λ e. refl; changed = λ e. absurd (omega arith); keys = λ e. absurd (omega arith) }
+message_is job Read differ = record { done = λ e. absurd (omega arith); cored = λ e. absurd (omega arith); read = λ e. refl; write = λ e. absurd (omega arith); memory = λ e. absurd (omega arith); changed = λ e. absurd (omega arith); keys = λ e. absurd (omega arith) }
+message_is job Write differ = record { done = λ e. absurd (omega arith); cored = λ e. absurd (omega arith); read = λ e. absurd (omega arith); write = λ e. refl; memory = λ e. absurd (omega arith); changed = λ e. absurd (omega arith); keys = λ e. absurd (omega arith) }
+message_is job Cored differ = record { done = λ e. absurd (omega arith); cored = λ e. refl; read = λ e. absurd (omega arith); write = λ e. absurd (omega arith); memory = λ e. absurd (omega arith); changed = λ e. absurd (omega arith); keys = λ e. absurd (omega arith) }
+message_is job (Changed first again) differ = record { done = λ e. absurd (omega arith); cored = λ e. absurd (omega arith); read = λ e. absurd (omega arith); write = λ e. absurd (omega arith); memory = λ e. absurd (omega arith); changed = λ e. ((first, again, differ, refl)); keys = λ e. absurd (omega arith) }
+message_is job NoKeys differ = record { done = λ e. absurd (omega arith); cored = λ e. absurd (omega arith); read = λ e. absurd (omega arith); write = λ e. absurd (omega arith); memory = λ e. absurd (omega arith); changed = λ e. absurd (omega arith); keys = λ e. (inl refl) }
+message_is job (TooLong line) differ = record { done = λ e. absurd (omega arith); cored = λ e. absurd (omega arith); read = λ e. absurd (omega arith); write = λ e. absurd (omega arith); memory = λ e. absurd (omega arith); changed = λ e. absurd (omega arith); keys = λ e. (inr (inr (line, refl))) }
+message_is job TooMany differ = record { done = λ e. absurd (omega arith); cored = λ e. absurd (omega arith); read = λ e. absurd (omega arith); write = λ e. absurd (omega arith); memory = λ e. absurd (omega arith); changed = λ e. absurd (omega arith); keys = λ e. (inr (inl refl)) }
 
--- nothing is said at the end
-pub silent : (words : List (List ℕ)) → IsMessage words 0 []
-silent words = record { done = λ e. refl; cored = λ e. absurd (omega arith); usage = λ e. absurd (omega arith); read = λ e. absurd (omega arith); write = λ e. absurd (omega arith); memory = λ e. absurd (omega arith); changed = λ e. absurd (omega arith); keys = λ e. absurd (omega arith) }
-
--- the message for words that ask for nothing known
-pub usage_is : (words : List (List ℕ)) → IsMessage words 2 bad_arguments
-usage_is words = record { done = λ e. absurd (omega arith); cored = λ e. absurd (omega arith); usage = λ e. refl; read = λ e. absurd (omega arith); write = λ e. absurd (omega arith); memory = λ e. absurd (omega arith); changed = λ e. absurd (omega arith); keys = λ e. absurd (omega arith) }
+-- a build says nothing at its end
+pub silent : (job : BuildJob) → IsBuildMessage job 0 []
+silent job = record { done = λ e. refl; cored = λ e. absurd (omega arith); read = λ e. absurd (omega arith); write = λ e. absurd (omega arith); memory = λ e. absurd (omega arith); changed = λ e. absurd (omega arith); keys = λ e. absurd (omega arith) }

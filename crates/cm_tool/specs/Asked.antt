@@ -1,9 +1,10 @@
 -- How a query ends.
-use Rattle.std.specs.Prelude.{◌≡◌, ◌≤◌, ⊥, ℕ, List, [], ◌++◌, take, drop, Option, None, Some, Result, Ok, Err}
+use Rattle.std.specs.Prelude.{◌≡◌, ◌≤◌, ℕ, List, [], ◌++◌, take, drop, Bool, true, false, Option, None, Some, Result, Ok, Err}
 use Rattle.std.specs.Option.{ForSome}
 use Rattle.cm_dump.specs.Functions.{answer_by}
 use Rattle.cm_dump.specs.Spelling.{spelling_of}
 use Rattle.cm_dump.specs.declared.fault.LoadFault.{LoadFault}
+use Rattle.cm_dump.specs.declared.fault.LoadFault.TheVariants as faults
 use Rattle.cm_dump.specs.declared.writer.Func.{Func}
 use Rattle.cm_outer.specs.Causes.{Rose}
 use Rattle.cm_outer.specs.Files.{Files, file_at}
@@ -20,16 +21,37 @@ use Rattle.cm_tool.specs.Outcome.{keys_in}
 use Rattle.cm_tool.specs.declared.stop.QueryStop.{QueryStop}
 use Rattle.cm_tool.specs.declared.stop.QueryStop.TheVariants.{Memory, NoFunction, BadDump, Read, Write, TooLong, TooMany}
 
--- which counts an end has raised: the disk's of reading and of writing, and that of out
+-- which counts a query that stopped has raised: the disk's of reading and of writing, and that of out
+abbrev pub IsStopCause : ℕ → ℕ → ℕ → ℕ → ℕ → ℕ → QueryStop → Type 0
+IsStopCause r r' w w' o o' Memory = (r' ≡ r) × (w' ≡ w) × (o' ≡ o)
+IsStopCause r r' w w' o o' NoFunction = (r ≤ r') × Rose r r' × (w' ≡ w) × (o' ≡ o)
+IsStopCause r r' w w' o o' (BadDump fault) = (r' ≡ r) × (w' ≡ w) × (o' ≡ o)
+IsStopCause r r' w w' o o' Read = (r ≤ r') × Rose r r' × (w' ≡ w) × (o' ≡ o)
+IsStopCause r r' w w' o o' Write = (r' ≡ r) × (w' ≡ w) × (o ≤ o') × Rose o o'
+IsStopCause r r' w w' o o' (TooLong line) = (r' ≡ r) × (w' ≡ w) × (o' ≡ o)
+IsStopCause r r' w w' o o' TooMany = (r' ≡ r) × (w' ≡ w) × (o' ≡ o)
+
+-- and one that came to its end has raised none
 abbrev pub HasQueryStopCause : {T : Type 0} → ℕ → ℕ → ℕ → ℕ → ℕ → ℕ → Result T QueryStop → Type 0
 HasQueryStopCause r r' w w' o o' (Ok _) = (r' ≡ r) × (w' ≡ w) × (o' ≡ o)
-HasQueryStopCause r r' w w' o o' (Err Memory) = (r' ≡ r) × (w' ≡ w) × (o' ≡ o)
-HasQueryStopCause r r' w w' o o' (Err NoFunction) = (r ≤ r') × Rose r r' × (w' ≡ w) × (o' ≡ o)
-HasQueryStopCause r r' w w' o o' (Err (BadDump fault)) = (r' ≡ r) × (w' ≡ w) × (o' ≡ o)
-HasQueryStopCause r r' w w' o o' (Err Read) = (r ≤ r') × Rose r r' × (w' ≡ w) × (o' ≡ o)
-HasQueryStopCause r r' w w' o o' (Err Write) = (r' ≡ r) × (w' ≡ w) × (o ≤ o') × Rose o o'
-HasQueryStopCause r r' w w' o o' (Err (TooLong line)) = (r' ≡ r) × (w' ≡ w) × (o' ≡ o)
-HasQueryStopCause r r' w w' o o' (Err TooMany) = (r' ≡ r) × (w' ≡ w) × (o' ≡ o)
+HasQueryStopCause r r' w w' o o' (Err stop) = IsStopCause r r' w w' o o' stop
+
+-- why a refused dump stops a query
+abbrev pub stop_from_load : LoadFault → QueryStop
+stop_from_load faults.Memory = Memory
+stop_from_load faults.Read = NoFunction
+stop_from_load fault = BadDump fault
+
+-- whether a query has come to the end of its keys, or to a fault of the line there
+abbrev pub asked_all : Result Tally QueryStop → Bool
+asked_all (Ok tally) = true
+asked_all (Err Memory) = false
+asked_all (Err NoFunction) = false
+asked_all (Err (BadDump fault)) = false
+asked_all (Err Read) = false
+asked_all (Err Write) = false
+asked_all (Err (TooLong line)) = true
+asked_all (Err TooMany) = true
 
 -- why a refused query of a pass stops a job
 abbrev pub stop_from_query : QueryFault → QueryStop

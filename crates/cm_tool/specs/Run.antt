@@ -1,5 +1,5 @@
 -- What the top call promises, in words over the command line and the files.
-use Rattle.std.specs.Prelude.{◌≡◌, ◌≢◌, ◌⊎◌, ⊥, ℕ, List, [], ◌∷◌, ◌++◌, Option, None, Some, Ok, true}
+use Rattle.std.specs.Prelude.{◌≡◌, ◌≢◌, ◌⊎◌, ℕ, List, [], ◌∷◌, ◌++◌, Option, None, Some, Ok, true}
 use Rattle.cm_chm.specs.Numbering.{AnswersNumbers}
 use Rattle.cm_dump.specs.Functions.{answer_by}
 use Rattle.cm_dump.specs.Spelling.{spelling_of}

@@ -4,7 +4,7 @@ ghost use Rattle.std.specs.Option.{ForSome};
 ghost use Rattle.cm_dump.specs.Functions.{answer_by};
 ghost use Rattle.cm_outer.specs.Files.{Files};
 ghost use Rattle.cm_outer.specs.Noting.{Noted};
-ghost use Rattle.cm_tool.specs.Asked.{EndsKeys, HasQueryStopCause, stop_from_query};
+ghost use Rattle.cm_tool.specs.Asked.{EndsKeys, HasQueryStopCause, asked_all, stop_from_query};
 ghost use Rattle.cm_tool.specs.declared.stop.QueryStop.{QueryStop};
 
 use crate::stop::QueryStop;
@@ -59,6 +59,16 @@ pub(crate) fn ask_keys<D: Disk, O: Sink, E: Sink>(
     }
 }
 
+/// Whether a query has come to the end of its keys, or to a fault of the line there.
+fn is_whole(asked: Result<Tally, QueryStop>) -> bool
+    ensures { result ≡ asked_all asked }
+{
+    match asked {
+        Ok(_) | Err(QueryStop::TooLong { line: _ } | QueryStop::TooMany) => true,
+        Err(_) => false,
+    }
+}
+
 /// Sends on what a query wrote, where nothing has cut it short.
 pub(crate) fn send_on<O: Sink>(
     out: &mut O,
@@ -68,13 +78,12 @@ pub(crate) fn send_on<O: Sink>(
     ensures memory { result ≡ Err QueryStop.Memory → (asked ≡ Err QueryStop.Memory) × (out.new ≡ out.old) }
     ensures ends { (f : List ℕ → Option ℕ) (files : Files) (path : List ℕ) (old : Option (List ℕ)) (notes : List ℕ) → EndsKeys f files path old (O.written out.old) notes asked → EndsKeys f files path old (O.written out.new) notes result }
 {
-    match asked {
-        Ok(_) | Err(QueryStop::TooLong { line: _ }) | Err(QueryStop::TooMany) => {
-            match out.write(&[]) {
-                Ok(()) => asked,
-                Err(Failed) => Err(QueryStop::Write),
-            }
+    if is_whole(asked) {
+        match out.write(&[]) {
+            Ok(()) => asked,
+            Err(Failed) => Err(QueryStop::Write),
         }
-        Err(_) => asked,
+    } else {
+        asked
     }
 }

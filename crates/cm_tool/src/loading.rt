@@ -1,13 +1,24 @@
 //! The function that a file holds.
 ghost use Rattle.std.specs.Prelude.{◌≡◌, ℕ, IfOk, IfErr};
 ghost use Rattle.std.specs.Option.{ForSome};
-ghost use Rattle.cm_tool.specs.Asked.{HasQueryStopCause, RefusesDump, Spells};
+ghost use Rattle.cm_tool.specs.Asked.{HasQueryStopCause, RefusesDump, Spells, stop_from_load};
 
 use crate::job::target;
 use crate::stop::QueryStop;
 use cm_dump::{Func, LoadFault, load};
 use cm_outer::{Disk, DiskFault};
 use std::alloc::Global;
+
+/// Why a refused dump stops a query.
+fn stop_of_load(fault: LoadFault) -> QueryStop
+    ensures stop { result ≡ stop_from_load fault }
+{
+    match fault {
+        LoadFault::Memory => QueryStop::Memory,
+        LoadFault::Read => QueryStop::NoFunction,
+        fault => QueryStop::BadDump { fault },
+    }
+}
 
 /// Loads the function of a keys file.
 pub(crate) fn load_file<D: Disk>(alloc: Global, keys: &str, disk: &mut D) -> Result<Func, QueryStop>
@@ -28,8 +39,6 @@ pub(crate) fn load_file<D: Disk>(alloc: Global, keys: &str, disk: &mut D) -> Res
     disk.shut(reader);
     match loaded {
         Ok(function) => Ok(function),
-        Err(LoadFault::Memory) => Err(QueryStop::Memory),
-        Err(LoadFault::Read) => Err(QueryStop::NoFunction),
-        Err(fault) => Err(QueryStop::BadDump { fault }),
+        Err(fault) => Err(stop_of_load(fault)),
     }
 }

@@ -1,5 +1,5 @@
 //! Queries.
-ghost use Rattle.std.specs.Prelude.{◌≡◌, ◌≢◌, ◌<◌, ◌^◌, ◌⊎◌, ◌↔◌, ◌++◌, ℕ, List, Err, None, Some};
+ghost use Rattle.std.specs.Prelude.{◌≡◌, ◌≢◌, ◌<◌, ◌≤◌, ◌^◌, ◌⊎◌, ◌↔◌, ◌+◌, ◌++◌, ℕ, List, Err, None, Some};
 ghost use Rattle.std.specs.Option.{ForSome};
 ghost use Rattle.cm_outer.specs.Noting.{Noted};
 ghost use Rattle.cm_tool.specs.Asked.{EndsQuery, HasQueryStopCause};
@@ -76,6 +76,7 @@ pub(crate) fn run_query<D: Disk, O: Sink, E: Sink>(
 fn noted_status(tally: Tally) -> u8
     ensures none { tally.repeated + tally.unknown ≡ 0 → result ≡ 0 }
     ensures some { tally.repeated + tally.unknown ≢ 0 → result ≡ 1 }
+    ensures within { result ≤ 1 }
 {
     if tally.repeated == 0 && tally.unknown == 0 {
         0

@@ -1,5 +1,5 @@
 //! What is said on err.
-ghost use Rattle.std.specs.Prelude.{◌≡◌, List, ℕ, map, Result};
+ghost use Rattle.std.specs.Prelude.{◌≡◌, List, [], ◌∷◌, ℕ, codes, map, Result};
 ghost use Rattle.cm_outer.specs.Noting.{Noted};
 ghost use Rattle.cm_outer.specs.Writing.{joined};
 ghost use Rattle.cm_tool.specs.Ends.{Says, status_of, message_of, query_status_of, query_message_of};
@@ -147,12 +147,22 @@ fn note_long_line<E: Sink>(file: &[u8], line: u32, err: &mut E, notes: &mut Note
 fn explain_dump<E: Sink>(file: &[u8], fault: LoadFault, err: &mut E, notes: &mut Notes)
     ensures noted { Noted notes.old notes.new (E.written err.old) (E.written err.new) (E.faults err.old) (E.faults err.new) (bad_dump file.now fault) }
 {
-    let mut buffer = Buffer::new();
-    let place = match place_of(fault) {
-        Some(at) => buffer.format(at).as_bytes(),
-        None => b"",
-    };
     let words = words_of(fault);
+    match place_of(fault) {
+        Some(at) => {
+            let mut buffer = Buffer::new();
+            let digits = buffer.format(at).as_bytes();
+            note_dump(file, words, digits, err, notes);
+        }
+        None => note_dump(file, words, b"", err, notes),
+    }
+}
+
+/// Notes what is wrong with the function file, and at which byte.
+fn note_dump<E: Sink>(file: &[u8], words: &[u8], place: &[u8], err: &mut E, notes: &mut Notes)
+    ensures noted { Noted notes.old notes.new (E.written err.old) (E.written err.new) (E.faults err.old) (E.faults err.new)
+        (joined (codes "cmph: " ∷ file.now ∷ codes ".mph: bad dump: " ∷ words.now ∷ place.now ∷ codes "\n" ∷ [])) }
+{
     notes.note_pieces(err, &[b"cmph: ", file, b".mph: bad dump: ", words, place, b"\n"]);
 }
 

@@ -1,12 +1,12 @@
 use Rattle.std.proofs.Common.{◌≡◌, ◌∙◌, refl}
 use Rattle.cm_spec.specs.Dump.{chm_dump}
 use Rattle.cm_tool.specs.Job.{target_of}
-use Rattle.cm_tool.specs.Jobs.{job_seen}
+use Rattle.cm_tool.specs.Jobs.{build_seen}
 use Rattle.cm_tool.proofs.Builds.{leaves_refused}
 use Rattle.cm_tool.proofs.building.build_file.Goals as goal
 
 pub returns-in-Err-clause-leaves : goal.returns-in-Err-clause-leaves
-returns-in-Err-clause-leaves g c = leaves_refused (job_seen c.args.job.now) _ _ c.in-Err.stop c.function_of.ensures.files c.in-Err.ensures.refused
+returns-in-Err-clause-leaves g c = leaves_refused (build_seen c.args.job.now) _ _ c.in-Err.stop c.function_of.ensures.files c.in-Err.ensures.refused
 
 pub returns-in-Ok-store-clause-leaves : goal.returns-in-Ok-store-clause-leaves
 returns-in-Ok-store-clause-leaves g c =

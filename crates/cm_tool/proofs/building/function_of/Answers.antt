@@ -4,7 +4,7 @@ use Rattle.cm_algo.specs.Fails.{FailsBuild}
 use Rattle.cm_keys.specs.Lines.{lines_of}
 use Rattle.cm_outer.specs.Passes.{Told}
 use Rattle.cm_spec.specs.Chm.{chm_rule}
-use Rattle.cm_tool.specs.Jobs.{job_seen}
+use Rattle.cm_tool.specs.Jobs.{build_seen}
 use Rattle.cm_tool.specs.Leaves.{IsChmOf, IsRefused}
 use Rattle.cm_tool.specs.Outcome.{keys_in, ratio, seeds_tried}
 use Rattle.cm_tool.proofs.Builds.{refused_from}
@@ -14,7 +14,7 @@ pub returns-in-Ok-outcome-clause-made : goal.returns-in-Ok-outcome-clause-made
 returns-in-Ok-outcome-clause-made g c = λ files is.
     let opened = c.in-Ok.ensures.reader files is in
     let told = c.new-keys.ensures.told ∙ ap (λ (known : Option (List ℕ)). option_map keys_in known) opened.tells in
-    let tried : c.as_slice.result.now ≡ seeds_tried (job_seen c.args.job.now) = search rules in
+    let tried : c.as_slice.result.now ≡ seeds_tried (build_seen c.args.job.now) = search rules in
     let made = c.in-Ok-outcome.ensures.made (keys_in opened.bytes) told in
     (opened.bytes, opened.there, rw tried at made)
 
@@ -22,6 +22,6 @@ pub returns-in-Err-clause-refused : goal.returns-in-Err-clause-refused
 returns-in-Err-clause-refused g c = λ files is.
     let opened = c.in-Ok.ensures.reader files is in
     let told = c.new-keys.ensures.told ∙ ap (λ (known : Option (List ℕ)). option_map keys_in known) opened.tells in
-    let tried : c.as_slice.result.now ≡ seeds_tried (job_seen c.args.job.now) = search rules in
+    let tried : c.as_slice.result.now ≡ seeds_tried (build_seen c.args.job.now) = search rules in
     let fails = rw tried at (c.in-Err.ensures.fault (keys_in opened.bytes) told) in
-    rw c.stop_of.ensures.stop (refused_from (job_seen c.args.job.now) files opened.bytes c.in-Err.fault opened.there fails)
+    rw c.stop_of.ensures.stop (refused_from (build_seen c.args.job.now) files opened.bytes c.in-Err.fault opened.there fails)

@@ -1,0 +1,24 @@
+use Rattle.std.proofs.Common.{[], ◌≡◌, ◌∙◌}
+use Rattle.cm_query.proofs.NotedLemmas.{noted_nothing}
+use Rattle.cm_tool.proofs.Asks.{with_function, without_function}
+use Rattle.cm_tool.proofs.querying.answer_file.Goals as goal
+
+pub returns-in-Err-clause-cause : goal.returns-in-Err-clause-cause
+returns-in-Err-clause-cause g c = c.in-Err.ensures.cause _
+
+pub returns-in-Err-clause-says : goal.returns-in-Err-clause-says
+returns-in-Err-clause-says g c = ([], noted_nothing _ _ _)
+
+pub returns-in-Err-clause-told : goal.returns-in-Err-clause-told
+returns-in-Err-clause-told g c = λ files is. ([], noted_nothing _ _ _, without_function files c.args.keys.now _ c.in-Err.stop (c.in-Err.ensures.refused files is))
+
+pub returns-clause-cause : goal.returns-clause-cause
+returns-clause-cause g c =
+    let loaded = c.in-Ok.ensures.cause 0 in
+    c.send_on.ensures.cause _ _ _ _ _ (rw (loaded.0, loaded.1) at c.ask_keys-asked.ensures.cause)
+
+pub returns-clause-told : goal.returns-clause-told
+returns-clause-told g c = λ files is.
+    let told = c.ask_keys-asked.ensures.told files (c.load_file.ensures.files ∙ is) in
+    let spells = c.in-Ok.ensures.spelled files is in
+    (told.0, told.1, with_function c.in-Ok.function files c.args.keys.now _ _ told.0 c.send_on.result spells (c.send_on.ensures.ends _ files _ _ told.0 told.2))
