@@ -1,6 +1,6 @@
 -- From the parts of a query to what it promises.
-use Rattle.std.proofs.Common.{◌≡◌, ◌≢◌, ◌∙◌, ◌⊎◌, ◌↔◌, ℕ, ◌+◌, ◌-◌, ◌<◌, ◌≤◌, ◌^◌, List, [], ◌∷◌, ◌++◌, length, take, drop, Option, None, Some, Result, Ok, Err, inl, inr, refl, ap, sym, subst, arith, append-nil, Bool, true, false}
-use Rattle.std.specs.Option.{ForSome, option_map}
+use Rattle.std.proofs.Common.{◌≡◌, ◌≢◌, ◌∙◌, ◌⊎◌, ◌↔◌, ℕ, ◌+◌, ◌-◌, ◌≤◌, List, [], ◌∷◌, ◌++◌, length, take, Option, None, Some, Result, Ok, Err, inl, inr, refl, ap, sym, subst, arith, append-nil, Bool, true}
+use Rattle.std.specs.Option.{option_map}
 use Rattle.std.proofs.lemmas.List.{take_all}
 use Rattle.cm_dump.specs.Functions.{answer_by}
 use Rattle.cm_dump.specs.Reading.{Fails}
@@ -11,7 +11,6 @@ use Rattle.cm_dump.specs.declared.writer.Func.{Func}
 use Rattle.cm_outer.proofs.NoteLemmas.{noted_all, noted_front}
 use Rattle.cm_outer.specs.Files.{Files, file_at}
 use Rattle.cm_outer.specs.Noting.{HasNoted}
-use Rattle.cm_outer.specs.Passes.{Told}
 use Rattle.cm_outer.specs.Writing.{then_bytes}
 use Rattle.cm_outer.specs.declared.key_pass.KeyFault.{KeyFault}
 use Rattle.cm_outer.specs.declared.key_pass.KeyFault.TheVariants as key_fault
@@ -23,7 +22,7 @@ use Rattle.cm_query.specs.Texts.{notes_of, text_of}
 use Rattle.cm_query.specs.declared.fault.QueryFault.{QueryFault}
 use Rattle.cm_query.specs.declared.fault.QueryFault.TheVariants as query_fault
 use Rattle.cm_query.specs.declared.tally.Tally.{Tally}
-use Rattle.cm_tool.specs.Asked.{AskedAll, AskedPart, EndsKeys, EndsQuery, IsBadDump, RefusesDump, Spells, asked_all, keys_at, keys_or_none, stop_from_load, stop_from_query}
+use Rattle.cm_tool.specs.Asked.{AskedAll, EndsKeys, EndsQuery, IsBadDump, RefusesDump, Spells, asked_all, keys_at, keys_or_none, stop_from_load, stop_from_query}
 use Rattle.cm_tool.specs.Ends.{Says, query_message_of, query_status_of}
 use Rattle.cm_tool.specs.Job.{QueryJob, Query, target_of}
 use Rattle.cm_tool.specs.Messages.{bad_dump}
@@ -40,7 +39,7 @@ take_keys keys given all = take_all given keys (omega (arith, all))
 -- the keys that were asked for until a refusal
 pub asked_until : (f : List ℕ → Option ℕ) (files : Files) (path bytes : List ℕ) (old new : Option (List ℕ)) (given : ℕ) (fault : QueryFault) → file_at files path ≡ Some bytes
     → StopsAt (keys_in bytes) given fault → TextAfter 10 f (keys_in bytes).keys given old new fault → EndsKeys f files path old new (notes_of f (noted_keys (keys_in bytes).keys given fault)) (Err (stop_from_query fault))
-asked_until f files path bytes old new given query_fault.Memory there stops text = tt
+asked_until f files path bytes old new given query_fault.Memory there stops text = (text, refl)
 asked_until f files path bytes old new given (query_fault.Key key_fault.Read) there stops text =
     let here : keys_at files path ≡ (keys_in bytes).keys = ap keys_or_none there in
     (given, rw here (record { out = text ∙ ap (then_bytes old) (sym (append-nil _)); notes_are = refl }))
@@ -80,7 +79,7 @@ cut_after f files path old new notes (Err TooMany) whole ends = cut_after_all f 
 -- a query with its function
 pub with_function : (function : Func) (files : Files) (path : List ℕ) (old new : Option (List ℕ)) (notes : List ℕ) (asked : Result Tally QueryStop) → Spells files path function → EndsKeys (answer_by function) files path old new notes asked → EndsQuery files path old new notes asked
 with_function function files path old new notes (Ok tally) spells ends = (function, spells, ends)
-with_function function files path old new notes (Err Memory) spells ends = tt
+with_function function files path old new notes (Err Memory) spells ends = ends
 with_function function files path old new notes (Err NoFunction) spells ends = absurd ends
 with_function function files path old new notes (Err (BadDump fault)) spells ends = absurd ends
 with_function function files path old new notes (Err Read) spells ends = (function, spells, ends)
@@ -90,7 +89,7 @@ with_function function files path old new notes (Err TooMany) spells ends = (fun
 
 -- and one without
 pub without_function : (files : Files) (path : List ℕ) (old : Option (List ℕ)) (stop : QueryStop) → RefusesDump files path stop → EndsQuery files path old old [] (Err stop)
-without_function files path old Memory refuses = tt
+without_function files path old Memory refuses = (refl, refl)
 without_function files path old NoFunction refuses = (refl, refl)
 without_function files path old (BadDump fault) refuses = (refuses, (refl, refl))
 without_function files path old Read refuses = absurd refuses
@@ -183,10 +182,10 @@ query_message_is job TooMany = record { done = λ e. absurd (omega arith); noted
 pub answered_is : (job : QueryJob) (status : ℕ) → status ≤ 1 → IsQueryMessage job status []
 answered_is job status small = record { done = λ e. refl; noted = λ e. refl; dump = λ e. absurd (omega (arith, small, e)); read = λ e. absurd (omega (arith, small, e)); write = λ e. absurd (omega (arith, small, e)); memory = λ e. absurd (omega (arith, small, e)); keys = λ e. absurd (omega (arith, small, e)) }
 
--- a query that a fault cut short
+-- a query that a fault or want of memory cut short
 pub cut_short : (job : QueryJob) (files : Files) (old new err err_new : Option (List ℕ)) (before now : ℕ) (notes : List ℕ) (stop : QueryStop) → EndsQuery files job.keys old new notes (Err stop) → Says (notes ++ query_message_of job.keys stop) err err_new before now
-    → (query_status_of stop ≡ 4) ⊎ (query_status_of stop ≡ 5) → IsCutShort files (query_status_of stop) old new err err_new before now job
-cut_short job files old new err err_new before now notes Memory ends says either = absurd (omega (arith, either))
+    → (query_status_of stop ≡ 4) ⊎ (query_status_of stop ≡ 5) ⊎ (query_status_of stop ≡ 6) → IsCutShort files (query_status_of stop) old new err err_new before now job
+cut_short job files old new err err_new before now notes Memory ends says either = record { notes = notes; text = query_message_of job.keys Memory; message = query_message_is job Memory; says = says; answered = inl ends }
 cut_short job files old new err err_new before now notes NoFunction ends says either = record { notes = notes; text = query_message_of job.keys NoFunction; message = query_message_is job NoFunction; says = says; answered = inl ends }
 cut_short job files old new err err_new before now notes (BadDump fault) ends says either = absurd (omega (arith, either))
 cut_short job files old new err err_new before now notes Read ends says either = record { notes = notes; text = query_message_of job.keys Read; message = query_message_is job Read; says = says; answered = inr (ends.0, ends.2.0, 0, ends.1, ends.2.1) }

@@ -1,5 +1,5 @@
 -- From a build over a pass to the function of a keys file, or to why it was refused.
-use Rattle.std.proofs.Common.{◌≡◌, ◌∙◌, ℕ, ◌<◌, ◌≤◌, List, [], length, Option, None, Some, Err, inl, refl, ap, sym, subst, arith}
+use Rattle.std.proofs.Common.{◌≡◌, ◌∙◌, ℕ, ◌≤◌, List, [], length, Option, None, Some, Err, inl, ap, sym, subst, arith}
 use Rattle.std.specs.Option.{ForSome}
 use Rattle.cm_algo.specs.Builds.{IsBuilt}
 use Rattle.cm_algo.specs.Fails.{FailsBuild}
@@ -7,9 +7,8 @@ use Rattle.cm_algo.specs.declared.fault.BuildFault.{BuildFault}
 use Rattle.cm_algo.specs.declared.fault.BuildFault.TheVariants as build_fault
 use Rattle.cm_outer.specs.Files.{Files, file_at}
 use Rattle.cm_outer.specs.Passes.{Told}
-use Rattle.cm_outer.specs.declared.key_pass.KeyFault.{KeyFault}
 use Rattle.cm_outer.specs.declared.key_pass.KeyFault.TheVariants as key_fault
-use Rattle.cm_spec.specs.Built.{cells_under, chm_under, first_seed, IsFirst}
+use Rattle.cm_spec.specs.Built.{cells_under, chm_under, IsFirst}
 use Rattle.cm_spec.specs.Chm.{Chm, chm_rule}
 use Rattle.cm_tool.specs.Job.{BuildJob}
 use Rattle.cm_tool.specs.Leaves.{IsChmOf, IsRefused, Leaves, stop_from}

@@ -1,13 +1,10 @@
 -- From the end of a job to what the top call promises.
-use Rattle.std.proofs.Common.{◌≡◌, ◌≢◌, ◌∙◌, ◌⊎◌, ℕ, ◌<◌, ◌≤◌, ◌^◌, List, [], ◌∷◌, ◌++◌, length, take, Option, None, Some, Ok, Err, inl, inr, refl, ap, sym, subst, arith, append-nil, Bool, cond}
-use Rattle.std.specs.Ordering.{nat_cmp}
+use Rattle.std.proofs.Common.{◌≡◌, ◌≢◌, ◌∙◌, ℕ, ◌<◌, List, [], ◌∷◌, length, Option, None, Some, Ok, Err, inl, inr, refl, ap, sym, subst, arith, Bool, cond}
 use Rattle.std.specs.Cmp.{eq_by_cmp_equiv}
-use Rattle.std.specs.Cmp.Lexicographic.{slice_cmp, nat_list_cmp_total}
+use Rattle.std.specs.Cmp.Lexicographic.{nat_list_cmp_total}
 use Rattle.std.specs.Option.{ForSome, option_map}
 use Rattle.std.specs.FinMap as map
 use Rattle.cm_outer.specs.Files.{Files, file_at, with_file}
-use Rattle.cm_outer.specs.Passes.{Told}
-use Rattle.cm_outer.specs.Writing.{then_bytes}
 use Rattle.cm_outer.specs.declared.key_pass.KeyFault.{KeyFault}
 use Rattle.cm_outer.specs.declared.key_pass.KeyFault.TheVariants as key_fault
 use Rattle.cm_chm.proofs.NumberingLemmas.{answers_numbers}
@@ -17,14 +14,14 @@ use Rattle.cm_dump.specs.Spelling.{spelling_of}
 use Rattle.cm_dump.specs.declared.writer.Func.TheVariants as func
 use Rattle.cm_peel.proofs.Core.{empty_rest}
 use Rattle.cm_query.proofs.TextLemmas.{then_nothing}
-use Rattle.cm_spec.specs.Built.{chm_under, first_seed, graph_of}
+use Rattle.cm_spec.specs.Built.{first_seed, graph_of}
 use Rattle.cm_spec.specs.Rounds.{rest_of}
 use Rattle.cm_spec.specs.Chm.{Chm, chm_rule}
 use Rattle.cm_spec.specs.Dump.{chm_dump}
 use Rattle.cm_tool.specs.Ends.{Says, message_of, status_of}
 use Rattle.cm_tool.specs.Job.{BuildJob, Build, target_of}
-use Rattle.cm_tool.specs.Leaves.{Differs, IsFunctionOf, IsPart, IsRefused, Leaves}
-use Rattle.cm_tool.specs.Messages.{bad_arguments, no_keys, no_seed}
+use Rattle.cm_tool.specs.Leaves.{Differs, IsFunctionOf, IsRefused, Leaves}
+use Rattle.cm_tool.specs.Messages.{bad_arguments, no_keys}
 use Rattle.cm_tool.specs.Outcome as outcomes
 use Rattle.cm_tool.specs.Outcome.{Outcome, build_over, fault_message, job_outcome, keys_in, ratio, refusal, saving, seeds_tried, with_seed}
 use Rattle.cm_tool.specs.Run.{IsBuildMessage, IsCored, Reaches, SavedNumbers, SavedPart, TookFirst}

@@ -1,6 +1,5 @@
 -- How a query ends.
 use Rattle.std.specs.Prelude.{◌≡◌, ◌≤◌, ℕ, List, [], ◌++◌, take, drop, Bool, true, false, Option, None, Some, Result, Ok, Err}
-use Rattle.std.specs.Option.{ForSome}
 use Rattle.cm_dump.specs.Functions.{answer_by}
 use Rattle.cm_dump.specs.Spelling.{spelling_of}
 use Rattle.cm_dump.specs.declared.fault.LoadFault.{LoadFault}
@@ -100,10 +99,14 @@ pub record AskedAll (f : List ℕ → Option ℕ) (files : Files) (path : List �
   pub out : new ≡ then_bytes old (text_of 10 f (keys_in bytes).keys)
   pub notes_are : notes ≡ notes_of f (keys_in bytes).keys
 
+-- neither out nor err got anything before the message
+abbrev pub GotNothing : Option (List ℕ) → Option (List ℕ) → List ℕ → Type 0
+GotNothing old new notes = (new ≡ old) × (notes ≡ [])
+
 -- how the keys of a keys file were asked for, under a function
 abbrev pub EndsKeys : (List ℕ → Option ℕ) → Files → List ℕ → Option (List ℕ) → Option (List ℕ) → List ℕ → Result Tally QueryStop → Type 0
 EndsKeys f files path old new notes (Ok tally) = (all : AskedAll f files path old new notes None) × (tally ≡ tally_of f (keys_in all.bytes).keys)
-EndsKeys f files path old new notes (Err Memory) = Unit {0}
+EndsKeys f files path old new notes (Err Memory) = GotNothing old new notes
 EndsKeys f files path old new notes (Err NoFunction) = ⊥
 EndsKeys f files path old new notes (Err (BadDump fault)) = ⊥
 EndsKeys f files path old new notes (Err Read) = (given : ℕ) × AskedPart f (keys_at files path) old new notes given 0
@@ -111,14 +114,10 @@ EndsKeys f files path old new notes (Err Write) = (bytes : List ℕ) × (given :
 EndsKeys f files path old new notes (Err (TooLong line)) = AskedAll f files path old new notes (Some (key_fault.TooLong line))
 EndsKeys f files path old new notes (Err TooMany) = AskedAll f files path old new notes (Some key_fault.TooMany)
 
--- neither out nor err got anything before the message
-abbrev pub GotNothing : Option (List ℕ) → Option (List ℕ) → List ℕ → Type 0
-GotNothing old new notes = (new ≡ old) × (notes ≡ [])
-
 -- how a query over files ended
 abbrev pub EndsQuery : Files → List ℕ → Option (List ℕ) → Option (List ℕ) → List ℕ → Result Tally QueryStop → Type 0
 EndsQuery files path old new notes (Ok tally) = (f : Func) × Spells files path f × EndsKeys (answer_by f) files path old new notes (Ok tally)
-EndsQuery files path old new notes (Err Memory) = Unit {0}
+EndsQuery files path old new notes (Err Memory) = GotNothing old new notes
 EndsQuery files path old new notes (Err NoFunction) = GotNothing old new notes
 EndsQuery files path old new notes (Err (BadDump fault)) = IsBadDump files path fault × GotNothing old new notes
 EndsQuery files path old new notes (Err Read) = (f : Func) × Spells files path f × EndsKeys (answer_by f) files path old new notes (Err Read)

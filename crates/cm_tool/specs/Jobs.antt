@@ -1,5 +1,4 @@
 -- Jobs as the code holds them.
-use Rattle.std.specs.Prelude.{ℕ, List}
 use Rattle.cm_tool.specs.declared.job.BuildJob.{BuildJob as HeldBuildJob}
 use Rattle.cm_tool.specs.declared.job.QueryJob.{QueryJob as HeldQueryJob}
 use Rattle.cm_tool.specs.declared.job.Job.{Job as HeldJob}

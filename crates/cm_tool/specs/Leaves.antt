@@ -1,7 +1,6 @@
 -- What each end of a build leaves.
 use Rattle.std.specs.Prelude.{◌≡◌, ◌≢◌, ◌⊎◌, ◌<◌, ◌≤◌, ℕ, List, [], length, take, Option, None, Some, Result, Ok, Err}
 use Rattle.std.specs.Option.{ForSome}
-use Rattle.std.specs.FinMap as map
 use Rattle.cm_outer.specs.Causes.{Rose}
 use Rattle.cm_outer.specs.Files.{Files, file_at, with_file}
 use Rattle.cm_algo.specs.declared.fault.BuildFault.{BuildFault}

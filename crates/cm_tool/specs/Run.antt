@@ -71,7 +71,7 @@ IsCored files job = (bytes : List ℕ) × (file_at files job.keys ≡ Some bytes
 abbrev pub SavedPart : Files → Option Files → Option Files → BuildJob → Type 0
 SavedPart files old new job = (dump : List ℕ) × (job_outcome files (Some (Build job)) ≡ Some (saving job files dump)) × IsPart job dump old new
 
--- A query that a fault cut short. With no function, out and err got nothing. Else the first keys were answered, with their notes, and out may have a front of the text of one key more.
+-- A query that a fault or want of memory cut short. Out and err got nothing; or else the first keys were answered, with their notes, and out may have a front of the text of one key more.
 abbrev pub AnsweredPart : Files → Option (List ℕ) → Option (List ℕ) → List ℕ → QueryJob → Type 0
 AnsweredPart files old new notes job = GotNothing old new notes
     ⊎ ((f : Func) × (given : ℕ) × (rest : ℕ) × Spells files job.keys f × AskedPart (answer_by f) (keys_at files job.keys) old new notes given rest)
@@ -96,7 +96,7 @@ pub record IsQueryMessage (job : QueryJob) (status : ℕ) (text : List ℕ) : Ty
   pub memory : status ≡ 6 → text ≡ out_of_memory
   pub keys : status ≡ 8 → (text ≡ too_many_keys job.keys) ⊎ ((line : ℕ) × (text ≡ line_too_long job.keys line))
 
--- a query that a fault cut short: err got the notes of the keys that were answered, and the message of the fault
+-- a query that was cut short: err got the notes of the keys that were answered, and the message of the fault
 pub record IsCutShort (files : Files) (status : ℕ) (out_old out_new err_old err_new : Option (List ℕ)) (err_before err_now : ℕ) (job : QueryJob) : Type 0 where
   pub notes : List ℕ
   pub text : List ℕ

@@ -14,4 +14,6 @@ mod top;
 pub use crate::top::run;
 
 #[cfg(test)]
+mod query_tests;
+#[cfg(test)]
 mod tests;

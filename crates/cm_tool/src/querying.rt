@@ -61,7 +61,7 @@ pub(crate) fn run_query<D: Disk, O: Sink, E: Sink>(
         Reaches (job_outcome files (Some (Query (query_seen job.now)))) result (O.written out.old) (O.written out.new) (E.written err.old) (E.written err.new) (E.faults err.old) (E.faults err.new) (D.files disk.new)) }
     ensures missing { ForSome (D.files disk.old) (λ files. job_outcome files (Some (Query (query_seen job.now))) ≡ None → (result ≡ 4) ⊎ (result ≡ 6)) }
     ensures memory { result ≡ 6 → O.written out.new ≡ O.written out.old }
-    ensures cut { (result ≡ 4) ⊎ (result ≡ 5) → ForSome (D.files disk.old) (λ files.
+    ensures cut { (result ≡ 4) ⊎ (result ≡ 5) ⊎ (result ≡ 6) → ForSome (D.files disk.old) (λ files.
         IsCutShort files result (O.written out.old) (O.written out.new) (E.written err.old) (E.written err.new) (E.faults err.old) (E.faults err.new) (query_seen job.now)) }
     ensures err { (notes : List ℕ) × (text : List ℕ) × IsQueryMessage (query_seen job.now) result text × Says (notes ++ text) (E.written err.old) (E.written err.new) (E.faults err.old) (E.faults err.new) }
 {

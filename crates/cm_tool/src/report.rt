@@ -163,7 +163,10 @@ fn note_dump<E: Sink>(file: &[u8], words: &[u8], place: &[u8], err: &mut E, note
     ensures noted { Noted notes.old notes.new (E.written err.old) (E.written err.new) (E.faults err.old) (E.faults err.new)
         (joined (codes "cmph: " ∷ file.now ∷ codes ".mph: bad dump: " ∷ words.now ∷ place.now ∷ codes "\n" ∷ [])) }
 {
-    notes.note_pieces(err, &[b"cmph: ", file, b".mph: bad dump: ", words, place, b"\n"]);
+    notes.note_pieces(
+        err,
+        &[b"cmph: ", file, b".mph: bad dump: ", words, place, b"\n"],
+    );
 }
 
 /// What is wrong with bytes that are no dump.

@@ -12,13 +12,13 @@ const LETTERS: [u8; 25] = [
 ];
 
 /// The function of the empty key: three vertices, seed 0.
-const ONE_EMPTY: [u8; 25] = [
+pub(crate) const ONE_EMPTY: [u8; 25] = [
     0x43, 0x4d, 0x50, 0x48, 0x44, 0x4d, 0x50, 0x31, 1, 0, 0, 0, 1, 0, 0, 0, 0x10, 0xe4, 0x1f, 0, 0,
     0, 0, 0, 0,
 ];
 
 /// The function of the empty key and `a`: five vertices, seed 0, cells 0 0 1 0 0.
-const EMPTY_AND_A: [u8; 25] = [
+pub(crate) const EMPTY_AND_A: [u8; 25] = [
     0x43, 0x4d, 0x50, 0x48, 0x44, 0x4d, 0x50, 0x31, 1, 0, 0, 0, 2, 0, 0, 0, 0x10, 0xe4, 0x1f, 0, 0,
     0, 0, 0, 4,
 ];
@@ -189,39 +189,13 @@ fn other_words(rt: HostRuntime) -> Result<(), Fail> {
     let usage = "cmph: bad arguments; cmph -h shows the usage\n";
     assert!(rt; ends(alloc, 1000, b"a\n", &["cmph"], 2, usage, None)?);
     assert!(rt; ends(alloc, 1000, b"a\n", &["cmph", "-g"], 2, usage, None)?);
-    assert!(rt;
-        ends(
-            alloc,
-            1000,
-            b"a\n",
-            &["cmph", "-t", "2", "keys"],
-            2,
-            usage,
-            None
-        )?
-    );
-    assert!(rt;
-        ends(
-            alloc,
-            1000,
-            b"a\n",
-            &["cmph", "-g", "-s", "2", "keys"],
-            2,
-            usage,
-            None
-        )?
-    );
-    assert!(rt;
-        ends(
-            alloc,
-            1000,
-            b"a\n",
-            &["cmph", "-g", "-keys"],
-            2,
-            usage,
-            None
-        )?
-    );
+    assert!(rt; ends(alloc, 1000, b"a\n", &["cmph", "-keys"], 2, usage, None)?);
+    let three = ["cmph", "-t", "2", "keys"];
+    assert!(rt; ends(alloc, 1000, b"a\n", &three, 2, usage, None)?);
+    let seeded = ["cmph", "-g", "-s", "2", "keys"];
+    assert!(rt; ends(alloc, 1000, b"a\n", &seeded, 2, usage, None)?);
+    let dashed = ["cmph", "-g", "-keys"];
+    assert!(rt; ends(alloc, 1000, b"a\n", &dashed, 2, usage, None)?);
     Ok(())
 }
 

@@ -61,8 +61,8 @@ pub fn run<D: Disk, O: Sink, E: Sink>(
     ensures out { UnlessQuery (job_of (map string_bytes words.now)) ((O.written out.new ≡ O.written out.old) × (O.faults out.new ≡ O.faults out.old)) }
     ensures silent { result ≡ 6 → O.written out.new ≡ O.written out.old }
 
-    // A query that a fault cut short has answered the first keys, and noted what there is to note of them.
-    ensures cut { (result ≡ 4) ⊎ (result ≡ 5) → ForSome (D.files disk.old) (λ files. ForQuery (job_of (map string_bytes words.now))
+    // A query that a fault or want of memory cut short has answered the first keys, and noted what there is to note of them.
+    ensures cut { (result ≡ 4) ⊎ (result ≡ 5) ⊎ (result ≡ 6) → ForSome (D.files disk.old) (λ files. ForQuery (job_of (map string_bytes words.now))
         (IsCutShort files result (O.written out.old) (O.written out.new) (E.written err.old) (E.written err.new) (E.faults err.old) (E.faults err.new))) }
 
     // Err gets a query's notes and the message of the status, or a front of them where err itself fails.

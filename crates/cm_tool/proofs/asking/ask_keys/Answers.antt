@@ -1,4 +1,4 @@
-use Rattle.std.proofs.Common.{rules, [], ◌≡◌, ◌∙◌, ℕ, List, Option, refl, ap, sym}
+use Rattle.std.proofs.Common.{[], ◌∙◌, ℕ, List, Option, refl, ap}
 use Rattle.std.specs.Option.{option_map}
 use Rattle.cm_dump.specs.Functions.{answer_by}
 use Rattle.cm_query.proofs.NotedLemmas.{noted_nothing}
@@ -12,7 +12,7 @@ pub returns-in-Err-Memory-clause-says : goal.returns-in-Err-Memory-clause-says
 returns-in-Err-Memory-clause-says g c = ([], noted_nothing _ _ _)
 
 pub returns-in-Err-Memory-clause-told : goal.returns-in-Err-Memory-clause-told
-returns-in-Err-Memory-clause-told g c = λ files is. ([], noted_nothing _ _ _, tt)
+returns-in-Err-Memory-clause-told g c = λ files is. ([], noted_nothing _ _ _, (refl, refl))
 
 pub returns-in-Err-Failed-clause-says : goal.returns-in-Err-Failed-clause-says
 returns-in-Err-Failed-clause-says g c = ([], noted_nothing _ _ _)
@@ -25,8 +25,7 @@ returns-in-Ok-asked-clause-told g c = λ files is.
     let opened = c.in-Ok.ensures.reader files is in
     let told = c.new-pass.ensures.told ∙ ap (λ (known : Option (List ℕ)). option_map keys_in known) opened.tells in
     let keys = keys_in opened.bytes in
-    let asked = c.in-Ok-asked.ensures in
-    (
+    let asked = c.in-Ok-asked.ensures in (
       notes_of (answer_by c.args.function.now) keys.keys,
       asked.notes keys told,
       (record { bytes = opened.bytes; there = opened.there; fault_is = asked.end keys told; out = asked.text keys told; notes_are = refl }, asked.tally keys told),
@@ -39,8 +38,7 @@ returns-in-Err-clause-told g c = λ files is.
     let keys = keys_in opened.bytes in
     let asked = c.in-Err.ensures in
     let f = answer_by c.args.function.now in
-    let given = c.query-asked.new.keys.given in
-    (
+    let given = c.query-asked.new.keys.given in (
       notes_of f (noted_keys keys.keys given c.in-Err.fault),
       asked.notes_after keys told,
       rw c.stop_of_query.ensures.stop (asked_until f files c.args.keys.now opened.bytes _ _ given c.in-Err.fault opened.there (asked.stops keys told) (asked.text_after keys told)),

@@ -1,4 +1,4 @@
-use Rattle.std.proofs.Common.{rules, ◌≡◌, ◌∙◌, ap, sym, Option, List, ℕ, [], take, true}
+use Rattle.std.proofs.Common.{rules, ◌≡◌, ◌∙◌, ap, sym, Option, List, ℕ, true}
 use Rattle.std.proofs.Math.Seq.{take-nil}
 use Rattle.cm_outer.specs.Writing.{then_bytes}
 use Rattle.cm_query.proofs.TextLemmas.{then_nothing}

@@ -1,4 +1,4 @@
-use Rattle.std.proofs.Common.{◌≡◌, ◌∙◌}
+use Rattle.std.proofs.Common.{◌∙◌}
 use Rattle.cm_tool.proofs.Builds.{chm_from}
 use Rattle.cm_tool.proofs.building.chm_of.Goals as goal
 

@@ -1,12 +1,7 @@
-use Rattle.std.proofs.Common.{rules, ◌≡◌, ◌∙◌, ℕ, List, Option, Some, None, ap, sym}
+use Rattle.std.proofs.Common.{rules, ◌≡◌, ◌∙◌, ℕ, List, Option, ap}
 use Rattle.std.specs.Option.{option_map}
-use Rattle.cm_algo.specs.Fails.{FailsBuild}
-use Rattle.cm_keys.specs.Lines.{lines_of}
-use Rattle.cm_outer.specs.Passes.{Told}
-use Rattle.cm_spec.specs.Chm.{chm_rule}
 use Rattle.cm_tool.specs.Jobs.{build_seen}
-use Rattle.cm_tool.specs.Leaves.{IsChmOf, IsRefused}
-use Rattle.cm_tool.specs.Outcome.{keys_in, ratio, seeds_tried}
+use Rattle.cm_tool.specs.Outcome.{keys_in, seeds_tried}
 use Rattle.cm_tool.proofs.Builds.{refused_from}
 use Rattle.cm_tool.proofs.building.function_of.Goals as goal
 

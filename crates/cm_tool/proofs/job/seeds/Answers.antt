@@ -1,6 +1,5 @@
-use Rattle.std.proofs.Common.{rules, arith, lit<, ◌≡◌, ◌∙◌, ℕ, ◌+◌, ◌%◌, ◌^◌, ◌<◌, List, [], ◌∷◌, ◌++◌, length, map, ap, sym}
+use Rattle.std.proofs.Common.{rules, arith, ◌≡◌, ◌∙◌, ℕ, ◌+◌, ◌%◌, ◌^◌, ◌<◌, List, [], ◌∷◌, ◌++◌, length, ap, sym}
 use Rattle.std.proofs.lemmas.List.FromFn.{length-map-range_with_len, map-range_with_len_more}
-use Rattle.cm_tool.specs.Job.{seeds_of}
 use Rattle.cm_tool.proofs.job.seeds.Goals as goal
 
 pub push-requires : goal.push-requires

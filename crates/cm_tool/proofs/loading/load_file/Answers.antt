@@ -1,6 +1,4 @@
-use Rattle.std.proofs.Common.{◌≡◌, ◌∙◌, List, ℕ, Option, Some, Ok, ap, sym}
-use Rattle.cm_dump.specs.Spelling.{spelling_of}
-use Rattle.cm_outer.specs.Files.{file_at}
+use Rattle.std.proofs.Common.{◌≡◌, ◌∙◌}
 use Rattle.cm_tool.specs.Job.{target_of}
 use Rattle.cm_tool.proofs.Asks.{refused_dump}
 use Rattle.cm_tool.proofs.loading.load_file.Goals as goal

@@ -1,4 +1,4 @@
-use Rattle.std.proofs.Common.{[], ◌≡◌, ◌≢◌, ◌∙◌, sym}
+use Rattle.std.proofs.Common.{[], ◌∙◌}
 use Rattle.cm_outer.proofs.NoteLemmas.{noted_first, noted_next}
 use Rattle.cm_tool.specs.Ends.{query_message_of}
 use Rattle.cm_tool.specs.Jobs.{query_seen}

@@ -1,4 +1,3 @@
-use Rattle.std.proofs.Common.{◌≡◌}
 use Rattle.cm_outer.proofs.NoteLemmas.{noted_first, noted_front, noted_all}
 use Rattle.cm_tool.proofs.report.say.Goals as goal
 

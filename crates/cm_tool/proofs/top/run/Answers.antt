@@ -1,4 +1,4 @@
-use Rattle.std.proofs.Common.{rules, [], ◌≡◌, ◌≢◌, ◌∙◌, ℕ, List, Option, Some, None, map, ap, sym, refl}
+use Rattle.std.proofs.Common.{rules, [], ◌≡◌, ◌∙◌, Option, Some, None, map, ap, sym, refl}
 use Rattle.std.specs.Prelude.{string_bytes}
 use Rattle.cm_tool.specs.Job.{Job, Build, Query, job_of}
 use Rattle.cm_tool.specs.Jobs.{build_seen, job_seen, query_seen}
@@ -6,7 +6,7 @@ use Rattle.cm_tool.specs.declared.job.BuildJob.{BuildJob}
 use Rattle.cm_tool.specs.declared.job.QueryJob.{QueryJob}
 use Rattle.cm_tool.specs.declared.job.Job.{Job as HeldJob}
 use Rattle.cm_tool.specs.declared.job.Job.TheVariants as held
-use Rattle.cm_tool.specs.Ends.{message_of, status_of}
+use Rattle.cm_tool.specs.Ends.{message_of}
 use Rattle.cm_tool.specs.Messages.{bad_arguments}
 use Rattle.cm_tool.proofs.Outcomes.{stopped, finished, misused, took_first, saved_numbers, is_cored, saved_part, message_is, silent, nothing_said}
 use Rattle.cm_tool.proofs.top.run.Goals as goal
