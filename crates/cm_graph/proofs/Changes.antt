@@ -12,7 +12,7 @@ use Rattle.cm_graph.specs.Kept.{AreChanged}
 use Rattle.cm_graph.specs.declared.xored.Vertex.{Vertex}
 
 -- an end is none of the ends before it
-touches_before : (ends : List ℕ) (i : ℕ) → AllPairs (λ u v. u ≢ v) ends → i < length ends → touches (get_or ends i 0) (take i ends) ≡ false
+pub touches_before : (ends : List ℕ) (i : ℕ) → AllPairs (λ u v. u ≢ v) ends → i < length ends → touches (get_or ends i 0) (take i ends) ≡ false
 touches_before ends i apart h =
     list_any_none (λ u. eqb u (get_or ends i 0)) (take i ends) (All-from_get_or (λ u. eqb u (get_or ends i 0) ≡ false) (take i ends) 0 (λ k below.
     let at : k < i = omega (arith, length-take i ends) in
@@ -24,10 +24,10 @@ or_none true = refl
 or_none false = refl
 
 -- what one more end adds at a vertex
-touches_more_same : (ends : List ℕ) (i v : ℕ) → i < length ends → get_or ends i 0 ≡ v → touches v (take (i + 1) ends) ≡ true
+pub touches_more_same : (ends : List ℕ) (i v : ℕ) → i < length ends → get_or ends i 0 ≡ v → touches v (take (i + 1) ends) ≡ true
 touches_more_same ends i v h e = list_any_more (λ u. eqb u v) ends i 0 h ∙ or_right _ _ (eq-eqb _ _ e)
 
-touches_more_other : (ends : List ℕ) (i v : ℕ) → i < length ends → get_or ends i 0 ≢ v → touches v (take (i + 1) ends) ≡ touches v (take i ends)
+pub touches_more_other : (ends : List ℕ) (i v : ℕ) → i < length ends → get_or ends i 0 ≢ v → touches v (take (i + 1) ends) ≡ touches v (take i ends)
 touches_more_other ends i v h e = list_any_more (λ u. eqb u v) ends i 0 h ∙ (ap (λ b. touches v (take i ends) || b) (ne_eqb _ _ e) ∙ or_none _)
 
 -- at the next end, nothing has changed yet

@@ -3,12 +3,14 @@
 
 pub mod edges;
 pub mod incidence;
+pub mod linked;
 mod slots;
 pub mod steps;
 pub mod xored;
 
 pub use crate::edges::Edges;
 pub use crate::incidence::Incidence;
+pub use crate::linked::Linked;
 pub use crate::steps::Steps;
 pub use crate::xored::Xored;
 

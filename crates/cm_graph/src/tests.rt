@@ -1,6 +1,6 @@
 ghost use Rattle.std.specs.Prelude.{◌≡◌, ◌<◌};
 
-use crate::{Edges, Incidence, Steps, Xored};
+use crate::{Edges, Incidence, Linked, Steps, Xored};
 use std::alloc::{AllocError, Global};
 use std::marker::Brand;
 use std::sync::ledger::{Blank, Ledger};
@@ -51,12 +51,50 @@ fn fork<I: Incidence<3> + Drop, L: Ledger>(
     Ok([shared, sole, left, none])
 }
 
+/// Links three edges that share a vertex, unlinks the middle one and then the first, and links that one elsewhere.
+fn star<I: Incidence<2> + Drop, L: Ledger>(
+    alloc: Global,
+    blank: Blank,
+) -> Result<[u32; 5], AllocError>
+    requires name { blank.name ≡ L.name }
+    requires parts { blank.parts ≡ L.parts }
+    requires some { 0 < blank.parts }
+{
+    let mut steps = Steps::<L>::new(blank);
+    let mut links = I::empty(alloc, 4, 3)?;
+    links.link(0, [0, 1], &mut steps);
+    links.link(1, [2, 0], &mut steps);
+    links.link(2, [0, 3], &mut steps);
+    let all = links.degree(0, &mut steps);
+    links.unlink(1, [2, 0], &mut steps);
+    let two = links.degree(0, &mut steps);
+    links.unlink(0, [0, 1], &mut steps);
+    let last = links.sole(0, &mut steps);
+    links.link(0, [3, 2], &mut steps);
+    let again = links.sole(2, &mut steps);
+    let both = links.degree(3, &mut steps);
+    Ok([all, two, last, again, both])
+}
+
 #[test]
 fn xored(rt: HostRuntime) -> Result<(), Fail> {
     let seen = path::<Xored<2>, Brand>(rt.alloc(), Blank::new(1))?;
     assert_eq!(rt; seen, [2, 1, 0, 0, 1, 1]);
     let seen = fork::<Xored<3>, Brand>(rt.alloc(), Blank::new(1))?;
     assert_eq!(rt; seen, [2, 2, 5, 0]);
+    let seen = star::<Xored<2>, Brand>(rt.alloc(), Blank::new(1))?;
+    assert_eq!(rt; seen, [3, 2, 2, 0, 2]);
+    Ok(())
+}
+
+#[test]
+fn linked(rt: HostRuntime) -> Result<(), Fail> {
+    let seen = path::<Linked<2>, Brand>(rt.alloc(), Blank::new(1))?;
+    assert_eq!(rt; seen, [2, 1, 0, 0, 1, 1]);
+    let seen = fork::<Linked<3>, Brand>(rt.alloc(), Blank::new(1))?;
+    assert_eq!(rt; seen, [2, 2, 5, 0]);
+    let seen = star::<Linked<2>, Brand>(rt.alloc(), Blank::new(1))?;
+    assert_eq!(rt; seen, [3, 2, 2, 0, 2]);
     Ok(())
 }
 

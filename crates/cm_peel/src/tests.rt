@@ -1,7 +1,7 @@
 ghost use Rattle.std.specs.Prelude.{◌≡◌, ◌<◌, length, IfOk};
 
 use crate::{Peeled, peel};
-use cm_graph::{Edges, Incidence, Steps, Xored};
+use cm_graph::{Edges, Incidence, Linked, Steps, Xored};
 use std::alloc::{AllocError, Global};
 use std::marker::Brand;
 use std::sync::ledger::{Blank, Ledger};
@@ -30,6 +30,13 @@ fn peeled_pairs(alloc: Global, edges: &Edges<2>) -> Result<Peeled<2>, AllocError
     peel_pairs::<Xored<2>, Brand>(alloc, edges, Blank::new(1))
 }
 
+fn chained_pairs(alloc: Global, edges: &Edges<2>) -> Result<Peeled<2>, AllocError>
+    ensures levels { IfOk result (λ p. length p.levels ≡ length edges.now.edges) }
+    ensures pivots { IfOk result (λ p. length p.pivots ≡ length edges.now.edges) }
+{
+    peel_pairs::<Linked<2>, Brand>(alloc, edges, Blank::new(1))
+}
+
 /// Peels edges with three ends over a given incidence, with steps that nobody reads.
 fn peel_triples<I: Incidence<3> + Drop, L: Ledger>(
     alloc: Global,
@@ -51,6 +58,13 @@ fn peeled_triples(alloc: Global, edges: &Edges<3>) -> Result<Peeled<3>, AllocErr
     ensures pivots { IfOk result (λ p. length p.pivots ≡ length edges.now.edges) }
 {
     peel_triples::<Xored<3>, Brand>(alloc, edges, Blank::new(1))
+}
+
+fn chained_triples(alloc: Global, edges: &Edges<3>) -> Result<Peeled<3>, AllocError>
+    ensures levels { IfOk result (λ p. length p.levels ≡ length edges.now.edges) }
+    ensures pivots { IfOk result (λ p. length p.pivots ≡ length edges.now.edges) }
+{
+    peel_triples::<Linked<3>, Brand>(alloc, edges, Blank::new(1))
 }
 
 /// Adds an edge, unless it isn't one over the vertices.
@@ -89,10 +103,15 @@ fn path(rt: HostRuntime) -> Result<(), Fail> {
         assert!(rt; add(&mut edges, v, v + 1)?);
     }
     let peeled = peeled_pairs(rt.alloc(), &edges)?;
-    let marks = marks(rt.alloc(), edges.len(), &peeled)?;
-    assert_eq!(rt; marks.as_slice(), [(1, 0), (2, 0), (1, 1)].as_slice());
+    let seen = marks(rt.alloc(), edges.len(), &peeled)?;
+    assert_eq!(rt; seen.as_slice(), [(1, 0), (2, 0), (1, 1)].as_slice());
     assert_eq!(rt; peeled.order(), [0, 2, 1].as_slice());
     assert_eq!(rt; peeled.rest().len(), 0);
+    let chained = chained_pairs(rt.alloc(), &edges)?;
+    let seen = marks(rt.alloc(), edges.len(), &chained)?;
+    assert_eq!(rt; seen.as_slice(), [(1, 0), (2, 0), (1, 1)].as_slice());
+    assert_eq!(rt; chained.order(), [0, 2, 1].as_slice());
+    assert_eq!(rt; chained.rest().len(), 0);
     Ok(())
 }
 
@@ -114,6 +133,9 @@ fn ring(rt: HostRuntime) -> Result<(), Fail> {
     );
     assert_eq!(rt; tailed.order(), [3].as_slice());
     assert_eq!(rt; tailed.rest(), [0, 1, 2].as_slice());
+    let chained = chained_pairs(rt.alloc(), &edges)?;
+    assert_eq!(rt; chained.order(), [3].as_slice());
+    assert_eq!(rt; chained.rest(), [0, 1, 2].as_slice());
     Ok(())
 }
 
@@ -125,10 +147,15 @@ fn triple(rt: HostRuntime) -> Result<(), Fail> {
     assert_eq!(rt; none.rest().len(), 0);
     edges.push([0, 3, 6])?;
     let peeled = peeled_triples(rt.alloc(), &edges)?;
-    let marks = marks(rt.alloc(), edges.len(), &peeled)?;
-    assert_eq!(rt; marks.as_slice(), [(1, 0)].as_slice());
+    let seen = marks(rt.alloc(), edges.len(), &peeled)?;
+    assert_eq!(rt; seen.as_slice(), [(1, 0)].as_slice());
     assert_eq!(rt; peeled.order(), [0].as_slice());
     assert_eq!(rt; peeled.rest().len(), 0);
+    let chained = chained_triples(rt.alloc(), &edges)?;
+    let seen = marks(rt.alloc(), edges.len(), &chained)?;
+    assert_eq!(rt; seen.as_slice(), [(1, 0)].as_slice());
+    assert_eq!(rt; chained.order(), [0].as_slice());
+    assert_eq!(rt; chained.rest().len(), 0);
     Ok(())
 }
 

@@ -5,3 +5,6 @@ ghosts-path g a = record { name = a.blank.name; parts = a.blank.parts }
 
 abbrev pub ghosts-fork : goal.ghosts-fork
 ghosts-fork g a = record { name = a.blank.name; parts = a.blank.parts }
+
+abbrev pub ghosts-star : goal.ghosts-star
+ghosts-star g a = record { name = a.blank.name; parts = a.blank.parts }
