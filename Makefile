@@ -1,5 +1,5 @@
 # make            proves and builds bin/cmph
-# make demo       builds a function over a word list and shows it
+# make demo       builds a function over a word list, and queries it
 # make check      the gate: proves everything from nothing, and runs all tests
 # make install    puts the program into $(PREFIX)/bin
 PREFIX ?= /usr/local
@@ -15,11 +15,12 @@ bin/cmph: $(SOURCES)
 	@cp crates/cmph/out/cmph $@
 
 demo: bin/cmph
-	@scratch=$$(mktemp -d) && cp examples/words $$scratch/ && \
-	echo "\$$ cmph -g words        ($$(wc -l < examples/words) words, one a line)" && \
-	bin/cmph -g $$scratch/words && \
-	echo "\$$ od -A d -t x1z words.mph | head -n 8" && od -A d -t x1z $$scratch/words.mph | head -n 8 && \
-	echo "words.mph has $$(wc -c < $$scratch/words.mph) bytes"; status=$$?; rm -rf $$scratch; exit $$status
+	@scratch=$$(mktemp -d) && cp examples/words $$scratch/ && cd $$scratch && cmph=$(CURDIR)/bin/cmph && \
+	echo "\$$ cmph -g words        ($$(wc -l < words) words, one a line)" && $$cmph -g words && \
+	echo "\$$ cmph words | head -n 5" && $$cmph words > answers && head -n 5 answers && \
+	echo "\$$ cmph words | tail -n 2" && tail -n 2 answers && \
+	echo "words has $$(wc -c < words) bytes, and words.mph $$(wc -c < words.mph)"; \
+	status=$$?; rm -rf $$scratch; exit $$status
 
 check:
 	bash .ci/run

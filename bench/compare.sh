@@ -1,6 +1,6 @@
 #!/usr/bin/env bash
-# Times a CHM build by this program and by the C tool, on the same keys, in one run. Each tool is given keys and a seed whose first
-# graph works, so that the work is equal.
+# Times a CHM build and a query by this program and by the C tool, on the same keys, in one run. Each tool is given keys and a seed
+# whose first graph works, so that the work is equal. Both write the same text of a query, into a file that is thrown away.
 #
 #   bench/compare.sh [KEYS ..]       numbers of keys; 100000 and 1000000 where none is given
 #
@@ -47,15 +47,20 @@ measure() {
     done | awk '{ t = $1 + $2; if (NR == 1 || t < least) least = t; if ($3 > most) most = $3 } END { print least, most }'
 }
 
-printf '| keys | ours, s | C, s | ratio | ours, bytes a key | C, bytes a key | ratio | ours, file | C, file |\n|---|---|---|---|---|---|---|---|---|\n'
-for n in "${@:-100000 1000000}"; do
-    for n in $n; do
-        fitting_start "$n"
-        seed=$(fitting_seed)
-        read -r our_time our_memory < <(measure "$ours" -g "$scratch/keys")
-        read -r their_time their_memory < <(measure "$theirs" -g -a chm -s "$seed" -m "$scratch/theirs.mph" "$scratch/keys")
-        awk -v n="$n" -v a="$our_time" -v b="$their_time" -v c="$our_memory" -v d="$their_memory" \
-            -v e="$(stat -c %s "$scratch/keys.mph")" -v f="$(stat -c %s "$scratch/theirs.mph")" \
-            'BEGIN { printf "| %d | %.2f | %.2f | %.2f | %.0f | %.0f | %.2f | %d | %d |\n", n, a, b, a / b, c * 1024 / n, d * 1024 / n, c / d, e, f }'
-    done
+row() {
+    awk -v work="$1" -v n="$2" -v a="$3" -v b="$4" -v c="$5" -v d="$6" \
+        'BEGIN { printf "| %d | %s | %.2f | %.2f | %.2f | %.0f | %.0f | %.2f |\n", n, work, a, b, a / b, c * 1024 / n, d * 1024 / n, c / d }'
+}
+
+printf '| keys | work | ours, s | C, s | ratio | ours, bytes a key | C, bytes a key | ratio |\n|---|---|---|---|---|---|---|---|\n'
+for n in ${@:-100000 1000000}; do
+    fitting_start "$n"
+    seed=$(fitting_seed)
+    read -r our_time our_memory < <(measure "$ours" -g "$scratch/keys")
+    read -r their_time their_memory < <(measure "$theirs" -g -a chm -s "$seed" -m "$scratch/theirs.mph" "$scratch/keys")
+    row build "$n" "$our_time" "$their_time" "$our_memory" "$their_memory"
+    read -r our_time our_memory < <(measure "$ours" "$scratch/keys")
+    read -r their_time their_memory < <(measure "$theirs" -v -m "$scratch/theirs.mph" "$scratch/keys")
+    row query "$n" "$our_time" "$their_time" "$our_memory" "$their_memory"
+    echo "function files of $n keys: ours $(stat -c %s "$scratch/keys.mph") bytes, C $(stat -c %s "$scratch/theirs.mph")" >&2
 done

@@ -9,7 +9,7 @@ use std::io::Write;
 #[derive(Drop)]
 pub struct StdSink<W> {
     writer: W,
-    waiting: ArrayVec<u8, 8192>,
+    waiting: ArrayVec<u8, 65536>,
     by_lines: bool,
     faults: u64,
 }
@@ -54,16 +54,39 @@ impl<W: Write> StdSink<W> {
         (writer, faults)
     }
 
-    /// Sends on what waits, and then the piece where it doesn't fit the buffer.
+    /// Sends on what waits.
+    fn send_on(&mut self) -> bool
+        ensures faults { self.new.faults ≡ self.old.faults }
+    {
+        if self.writer.write_all(self.waiting.as_slice()).is_err() {
+            return false;
+        }
+        self.waiting.clear();
+        true
+    }
+
+    /// Lets a piece wait, where it fits the buffer once what waits there was sent on; a larger one is sent on itself.
+    fn take(&mut self, piece: &[u8]) -> bool
+        ensures faults { self.new.faults ≡ self.old.faults }
+    {
+        if self.waiting.try_extend_from_slice(piece).is_ok() {
+            return true;
+        }
+        self.send_on()
+            && (self.waiting.try_extend_from_slice(piece).is_ok()
+                || self.writer.write_all(piece).is_ok())
+    }
+
+    /// Takes a piece. At a piece that ends a line where that is asked for, and at an empty one, nothing goes on waiting.
     fn pass_on(&mut self, piece: &[u8]) -> bool
         ensures faults { self.new.faults ≡ self.old.faults }
     {
-        if piece.is_empty() || self.waiting.try_extend_from_slice(piece).is_err() {
-            if self.writer.write_all(self.waiting.as_slice()).is_err() {
-                return false;
-            }
-            self.waiting.clear();
-            return self.writer.write_all(piece).is_ok() && self.writer.flush().is_ok();
+        let ends_line = self.by_lines && piece.last() == Some(&b'\n');
+        if !self.take(piece) {
+            return false;
+        }
+        if piece.is_empty() || ends_line {
+            return self.send_on() && self.writer.flush().is_ok();
         }
         true
     }
@@ -75,8 +98,7 @@ impl<W: Write> Sink for StdSink<W> {
     ghost faults = { λ s. s.faults };
 
     fn write(&mut self, piece: &[u8]) -> Result<(), Failed> {
-        let ends_line = self.by_lines && piece.last() == Some(&b'\n');
-        if self.pass_on(piece) && (!ends_line || self.pass_on(&[])) {
+        if self.pass_on(piece) {
             Ok(())
         } else {
             self.faults = self.faults.saturating_add(1);

@@ -18,28 +18,48 @@ fn new_file<R: Files + AllocGlobal>(rt: &R, bytes: &[u8]) -> Result<String, Fail
     Ok(String::new(rt.alloc()))
 }
 
-/// Builds over a file, and answers the status.
-fn build_over<R: Files + AllocGlobal>(rt: &R, path: &str) -> Result<u8, Fail> {
+/// What a run left.
+#[derive(Drop)]
+struct Left {
+    status: u8,
+    out: Vec<u8>,
+    err: Vec<u8>,
+}
+
+/// Runs with these words after the program's name.
+fn run_on<R: Files + AllocGlobal>(rt: &R, rest: &[&str]) -> Result<Left, Fail> {
     let alloc = rt.alloc();
     let mut words = Vec::new(alloc);
     words.push(String::from_str(alloc, "cmph")?)?;
-    words.push(String::from_str(alloc, "-g")?)?;
-    words.push(String::from_str(alloc, path)?)?;
+    for word in rest {
+        words.push(String::from_str(alloc, *word)?)?;
+    }
     let mut disk = FileDisk::new(rt);
     let mut out = StdSink::new(Vec::new(alloc));
     let mut err = StdSink::by_lines(Vec::new(alloc));
-    Ok(run(alloc, &words, &mut disk, &mut out, &mut err))
+    let status = run(alloc, &words, &mut disk, &mut out, &mut err);
+    let (out, _) = out.into_parts();
+    let (err, _) = err.into_parts();
+    Ok(Left { status, out, err })
+}
+
+/// The status of a run.
+fn status_on<R: Files + AllocGlobal>(rt: &R, rest: &[&str]) -> Result<u8, Fail> {
+    Ok(run_on(rt, rest)?.status)
 }
 
 #[test]
 fn real_files(rt: HostRuntime) -> Result<(), Fail> {
     let keys = new_file(&rt, b"a\nb\n")?;
     let function = format!(in rt.alloc(); "{}.mph", keys.as_str())?;
-    let status = build_over(&rt, keys.as_str())?;
+    let built = status_on(&rt, &["-g", keys.as_str()])?;
     let dump = fs::read(&rt, function.as_str())?;
+    let asked = run_on(&rt, &[keys.as_str()])?;
+    fs::write(&rt, function.as_str(), b"CMPHDMP1")?;
+    let damaged = status_on(&rt, &[keys.as_str()])?;
     fs::remove_file(&rt, keys.as_str())?;
     fs::remove_file(&rt, function.as_str())?;
-    assert_eq!(rt; status, 0);
+    assert_eq!(rt; built, 0);
     assert_eq!(rt;
         dump.as_slice(),
         [
@@ -48,8 +68,14 @@ fn real_files(rt: HostRuntime) -> Result<(), Fail> {
         ]
         .as_slice()
     );
+    // The text has been sent on by the end of the query.
+    assert_eq!(rt; asked.status, 0);
+    assert_eq!(rt; asked.out.as_slice(), b"a -> 0\nb -> 1\n".as_slice());
+    assert_eq!(rt; asked.err.len(), 0);
+    assert_eq!(rt; damaged, 3);
     // The file is gone now, and a folder can't be read.
-    assert_eq!(rt; build_over(&rt, keys.as_str())?, 4);
-    assert_eq!(rt; build_over(&rt, "/tmp")?, 4);
+    assert_eq!(rt; status_on(&rt, &["-g", keys.as_str()])?, 4);
+    assert_eq!(rt; status_on(&rt, &["-g", "/tmp"])?, 4);
+    assert_eq!(rt; status_on(&rt, &["/tmp"])?, 4);
     Ok(())
 }
