@@ -14,6 +14,7 @@ use crate::writing::{LINE_END, note_key, write_line};
 use cm_algo::Answers;
 use cm_bits::{Bits, Cells};
 use cm_outer::{Failed, KeyBuf, KeyPass, Notes, Sink};
+use itoa::Buffer;
 use std::alloc::Global;
 
 /// Answers each key of a pass that stands at its start: its line goes to out and then, where it has no answer or one that an
@@ -64,6 +65,7 @@ pub fn query<A: Answers, P: KeyPass, O: Sink, E: Sink>(
         unknown: 0,
     };
     let mut key = KeyBuf::new();
+    let mut buffer = Buffer::new();
     'keys: loop {
         match keys.next(&mut key) {
             Ok(true) => {}
@@ -71,7 +73,7 @@ pub fn query<A: Answers, P: KeyPass, O: Sink, E: Sink>(
             Err(fault) => return Err(QueryFault::Key(fault)),
         }
         let answer = function.answer(&key);
-        match write_line(out, &key, answer) {
+        match write_line(out, &key, answer, &mut buffer) {
             Ok(()) => {}
             Err(Failed) => return Err(QueryFault::Write),
         }

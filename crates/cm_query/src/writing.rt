@@ -1,21 +1,46 @@
 //! What a query writes of one key.
-ghost use Rattle.std.specs.Prelude.{ℕ, List, Option};
+ghost use Rattle.std.specs.Prelude.{◌≡◌, ◌+◌, ◌++◌, ◌≤◌, ◌∷◌, [], ℕ, List, Option, codes, decimal, length};
 ghost use Rattle.cm_outer.specs.Causes.{HasCause};
 ghost use Rattle.cm_outer.specs.Noting.{Noted};
-ghost use Rattle.cm_outer.specs.Writing.{Writes};
+ghost use Rattle.cm_outer.specs.Writing.{Writes, joined};
 ghost use Rattle.cm_query.specs.Texts.{line_of, note_of, repeated_note, unknown_note};
+ghost use Rattle.cm_query.specs.declared.writing.TheConstants.{LINE_END};
 
+use arrayvec::ArrayVec;
 use cm_outer::{Failed, Notes, Sink, write_pieces};
 use itoa::Buffer;
 
 /// The byte that ends a line of the text on out.
 pub const LINE_END: u8 = 10;
 
+/// Appends a part for which there is room.
+fn append(tail: &mut ArrayVec<u8, 15>, part: &[u8])
+    requires room { length tail.old.items + length part.now ≤ 15 }
+    ensures all { tail.new.items ≡ tail.old.items ++ part.now }
+{
+    if tail.try_extend_from_slice(part).is_err() {
+        unreachable!();
+    }
+}
+
+/// What follows a key in its line: an arrow, the number in decimal, and the byte that ends the line.
+fn tail_of(number: u32, buffer: &mut Buffer) -> ArrayVec<u8, 15>
+    ensures tail { result.items ≡ joined (codes " -> " ∷ decimal number ∷ (LINE_END ∷ []) ∷ []) }
+{
+    let digits = buffer.format(number).as_bytes();
+    let mut tail = ArrayVec::new();
+    append(&mut tail, b" -> ");
+    append(&mut tail, digits);
+    tail.push(LINE_END);
+    tail
+}
+
 /// Writes the line of a key, if it has an answer. Fails exactly where the sink does, which has then taken a prefix of the line.
 pub(crate) fn write_line<O: Sink>(
     out: &mut O,
     key: &[u8],
     answer: Option<u32>,
+    buffer: &mut Buffer,
 ) -> Result<(), Failed>
     ensures line { Writes (O.written out.old) (O.written out.new) (line_of LINE_END key.now answer) result }
     ensures cause { HasCause (O.faults out.old) (O.faults out.new) result }
@@ -23,9 +48,8 @@ pub(crate) fn write_line<O: Sink>(
     let Some(number) = answer else {
         return Ok(());
     };
-    let mut buffer = Buffer::new();
-    let digits = buffer.format(number).as_bytes();
-    write_pieces(out, &[key, b" -> ", digits, &[LINE_END]])
+    let tail = tail_of(number, buffer);
+    write_pieces(out, &[key, tail.as_slice()])
 }
 
 /// Notes of a key that it has no answer, or that its answer is repeated.
