@@ -4,7 +4,7 @@ use Rattle.std.specs.List.{position_or_len, range_with_len}
 use Rattle.std.proofs.Common.{arith, ap, sym, ◌∙◌, lit<}
 use Rattle.std.proofs.Math.Nat.{zero-div, mul_comm, mul-sub, pow-le-pow_right, div-div-eq-div-mul, mod-eq_of_lt, one-le-pow, div-add-mod, mul-le-mul_left, zero-mod}
 use Rattle.std.proofs.Math.Pow.{mod-mod-pow}
-use Rattle.std.proofs.lemmas.Nat.{mod_below, div_below, field_of, pow_pos, one_shl}
+use Rattle.std.proofs.lemmas.Nat.{mod_below, div_below, field_of, pow_pos}
 use Rattle.std.proofs.lemmas.Nat.Bits.{and_high}
 use Rattle.std.proofs.lemmas.Bool.{lt-leb, le-leb}
 use Rattle.std.proofs.lemmas.List.{ext_get_or, length-set, get_or-set_same, get_or-set_other, length-replicate}

@@ -1,4 +1,4 @@
-use Rattle.std.proofs.Common.{arith, refl, ◌+◌, ◌-◌, ◌/◌, ◌^◌, ◌≡◌}
+use Rattle.std.proofs.Common.{arith, refl, ◌-◌, ◌/◌, ◌^◌, ◌≡◌}
 use Rattle.std.proofs.lemmas.Nat.{and_mask}
 use Rattle.cm_bits.proofs.bytes.part.Goals as goal
 
