@@ -418,6 +418,7 @@ struct Plan<'a> {
     name: &'a str,
     turns: u32,
     timed: bool,
+    only: Option<&'a str>,
 }
 
 fn tell(plan: Plan, work: &str, start: Instant, amount: u64) {
@@ -429,6 +430,9 @@ fn tell(plan: Plan, work: &str, start: Instant, amount: u64) {
 
 fn run<C: Cells>(plan: Plan, n: u32, bound: u32) {
     let name = plan.name;
+    if plan.only.is_some_and(|only| only != name) {
+        return;
+    }
     let mut table = C::zeroed(n, bound);
     let start = Instant::now();
     write(&mut table, plan.turns);
@@ -463,6 +467,7 @@ fn small() {
         name,
         turns: 100_000,
         timed: false,
+        only: None,
     };
     run::<Bits>(plan("bits"), 100_001, 2);
     run::<Crumbs>(plan("crumbs"), 100_001, 4);
@@ -471,11 +476,12 @@ fn small() {
     run::<Plain>(plan("plain"), 100_001, 100_000);
 }
 
-fn large(turns: u32) {
+fn large(turns: u32, only: Option<&str>) {
     let plan = |name| Plan {
         name,
         turns,
         timed: true,
+        only,
     };
     run::<Bits>(plan("near bits"), 1_000_001, 2);
     run::<Crumbs>(plan("near crumbs"), 500_001, 4);
@@ -493,7 +499,10 @@ fn large(turns: u32) {
 
 fn main() {
     match env::args().nth(1) {
-        Some(word) => large(word.parse().expect("a number of turns")),
+        Some(word) => large(
+            word.parse().expect("a number of turns"),
+            env::args().nth(2).as_deref(),
+        ),
         None => small(),
     }
 }
