@@ -20,11 +20,6 @@ ends-requires g c =
     let is = order_at c.args.edges.now.edges c.order-order.result.now (c.edges.i - 1) (c.order-order.ensures ∙ c.requires.peeling.order) (omega (arith, c.edges-test.true, c.edges.invariant.within)) in
     (search rules, (search rules, is.place))
 
-pub bounds-tags-e : goal.bounds-tags-e
-bounds-tags-e g c =
-    let is = order_at c.args.edges.now.edges c.order-order.result.now (c.edges.i - 1) (c.order-order.ensures ∙ c.requires.peeling.order) (omega (arith, c.edges-test.true, c.edges.invariant.within)) in
-    omega (arith, is.place, c.requires.tags)
-
 pub filled-requires-clause-below : goal.filled-requires-clause-below
 filled-requires-clause-below g c =
     let bound : c.bound.result ≡ (g.S.Scheme.rule c.args.scheme.now).bound (length c.args.edges.now.edges) = c.bound.ensures.bound ∙ ap (λ (m : ℕ). (g.S.Scheme.rule c.args.scheme.now).bound m) c.len-m.ensures.count in
@@ -57,7 +52,7 @@ edges-preserved g c =
       modulus = c.edges.invariant.modulus;
       within = omega (arith, c.edges.invariant.within);
       cells = loop_step (plan_of (g.S.Scheme.rule c.args.scheme.now) c.args.edges.now.vertices edges c.args.tags.now) (g.S.Table.Cells.cells c.edges.table) _ c.order-order.result.now c.ends.result c.edges.i e c.pivot-position.result c.target.result c.modulus-modulus.result
-          c.edges.invariant.cells c.settle.ensures.cells c.ends.ensures.ends at (c.target.ensures.target ∙ ap (λ (p : ℕ). (g.S.Scheme.rule c.args.scheme.now).target e p (get_or c.args.tags.now e 0)) at) c.edges.invariant.modulus (search rules) c.edges-test.true c.edges.invariant.within;
+          c.edges.invariant.cells c.settle.ensures.cells c.ends.ensures.ends at (c.target.ensures.target ∙ (ap (λ (t : ℕ). (g.S.Scheme.rule c.args.scheme.now).target e c.pivot-position.result t) c.tag_at.ensures ∙ ap (λ (p : ℕ). (g.S.Scheme.rule c.args.scheme.now).target e p (get_or c.args.tags.now e 0)) at)) c.edges.invariant.modulus (search rules) c.edges-test.true c.edges.invariant.within;
     }
 
 pub returns-clause-cells : goal.returns-clause-cells
