@@ -1,5 +1,5 @@
 -- One seed, and the list of them.
-use Rattle.std.proofs.Common.{◌≡◌, ◌≢◌, ◌⊎◌, ℕ, zero, suc, ◌+◌, ◌-◌, ◌*◌, ◌<◌, ◌≤◌, Bool, true, false, List, [], ◌∷◌, length, map, get_or, Result, Ok, Err, sym, refl, ap, ◌∙◌, subst, inl, inr, arith, Option, Some, None, nat_eq}
+use Rattle.std.proofs.Common.{◌≡◌, ◌≢◌, ◌⊎◌, ℕ, zero, suc, ◌+◌, ◌*◌, ◌<◌, ◌≤◌, Bool, true, false, List, [], ◌∷◌, length, map, get_or, Err, sym, refl, ap, ◌∙◌, subst, inl, inr, arith, Some, None, nat_eq}
 use Rattle.std.specs.Prelude.{find}
 use Rattle.std.proofs.Math.Nat.{mul-add, mul-le-mul_left}
 use Rattle.std.proofs.lemmas.Bool.{cases_lt, ne_eqb}
@@ -9,11 +9,11 @@ use Rattle.cm_algo.specs.Builds.{IsGiven, IsLeft}
 use Rattle.cm_algo.specs.Fails.{IsToldFault}
 use Rattle.cm_algo.proofs.Tags.{SameTags, cells_agree}
 use Rattle.cm_outer.specs.Passes.{Told, GivesKey}
-use Rattle.cm_spec.specs.Built.{edge_of, tag_of, graph_of, cells_under, is_peeled, first_seed, IsFirst, AllCored}
+use Rattle.cm_spec.specs.Built.{edge_of, tag_of, graph_of, is_peeled, first_seed, IsFirst, AllCored}
 use Rattle.cm_peel.proofs.Core.{empty_core, empty_rest}
 use Rattle.cm_spec.specs.Cells.{plan_of, cells_of}
 use Rattle.cm_spec.specs.Rounds.{rest_of}
-use Rattle.cm_spec.specs.Rule.{Rule, IsSize, IsRule, IsCount, IsRatio}
+use Rattle.cm_spec.specs.Rule.{Rule}
 
 -- a fault that a pass gave
 pub told_fault : (told : Told) (before now line : ℕ) (key : List ℕ) (fault : KeyFault) → GivesKey told before now line key (Err fault) → IsToldFault told fault

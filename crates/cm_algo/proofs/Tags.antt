@@ -1,8 +1,8 @@
 -- Only the tag at each place counts, and a tag that is not there is 0.
-use Rattle.std.proofs.Common.{◌≡◌, ◌⊎◌, ℕ, zero, suc, ◌<◌, ◌≤◌, Bool, true, false, List, [], ◌∷◌, length, map, get_or, set, refl, sym, ap, ◌∙◌, inl, inr}
+use Rattle.std.proofs.Common.{◌≡◌, ◌⊎◌, ℕ, zero, suc, Bool, true, false, List, [], ◌∷◌, length, map, get_or, set, refl, sym, ap, ◌∙◌, inl, inr}
 use Rattle.std.proofs.lemmas.Bool.{cases_Bool}
 use Rattle.cm_spec.specs.Built.{tag_of}
-use Rattle.cm_spec.specs.Cells.{Plan, plan_of, pivot_vertex, sum_but, completing, value_at, at_once, cells_from, cells_of}
+use Rattle.cm_spec.specs.Cells.{plan_of, pivot_vertex, sum_but, completing, value_at, at_once, cells_from, cells_of}
 use Rattle.cm_spec.specs.Graph.{ends_at}
 use Rattle.cm_spec.specs.Lookup2.{words}
 use Rattle.cm_spec.specs.Rounds.{removed_after, pivot_of}

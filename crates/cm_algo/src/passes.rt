@@ -71,6 +71,7 @@ pub(crate) fn hash_all<S: Scheme<K>, P: KeyPass, const K: usize>(
     ensures cause { HasBuildCause (P.faults keys.old) (P.faults keys.new) result }
     ensures vertices { edges.new.vertices ≡ edges.old.vertices }
     ensures long { OnOk result (length edges.new.edges ≡ m) }
+    ensures tags_long { OnOk result (S.KEEPS_TAGS ≡ true → length tags.new.items ≡ m) }
     ensures edges { OnOk result (ForSome (P.told keys.old) (λ told. edges.new.edges ≡ map (edge_of (S.rule scheme.now) edges.old.vertices seed) told.keys)) }
     ensures tags { OnOk result (S.KEEPS_TAGS ≡ true → ForSome (P.told keys.old) (λ told. tags.new.items ≡ map (tag_of (S.rule scheme.now) seed) told.keys)) }
     ensures untagged { S.KEEPS_TAGS ≡ false → tags.new.items ≡ [] }

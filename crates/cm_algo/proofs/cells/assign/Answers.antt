@@ -1,13 +1,9 @@
-use Rattle.std.proofs.Common.{rules, arith, ◌≡◌, ℕ, ◌+◌, ◌-◌, ◌*◌, ◌/◌, ◌%◌, ◌^◌, ◌<◌, ◌≤◌, [], length, replicate, List, ◌∷◌, ◌++◌, get_or, drop, subst, sym, ap, ◌∙◌}
-use Rattle.std.proofs.lemmas.List.{length-replicate}
-use Rattle.cm_algo.proofs.OneByOne.{one_by_one}
-use Rattle.cm_peel.specs.Peeling.{IsPeelingOf}
-use Rattle.cm_spec.specs.Cells.{plan_of, pivot_vertex, value_at, sum_but, completing, cells_of, AreSolved, all_idle}
-use Rattle.cm_spec.specs.Graph.{AreEdges, ends_at}
-use Rattle.cm_spec.specs.Rounds.{rest_of, pivot_of}
-use Rattle.cm_spec.specs.Rule.{Rule, IsCount, IsRule}
-use Rattle.cm_algo.proofs.InPlace.{length-one_by_one}
-use Rattle.cm_algo.proofs.Solving.{long_at, IsRemoved, order_at, plan_solved, loop_step, loop_end}
+use Rattle.std.proofs.Common.{rules, arith, ◌≡◌, ℕ, ◌-◌, ◌<◌, ◌≤◌, [], length, List, get_or, drop, subst, sym, ap, ◌∙◌}
+use Rattle.cm_spec.specs.Cells.{plan_of, AreSolved}
+use Rattle.cm_spec.specs.Graph.{ends_at}
+use Rattle.cm_spec.specs.Rounds.{pivot_of}
+use Rattle.cm_spec.specs.Rule.{IsCount}
+use Rattle.cm_algo.proofs.Solving.{long_at, order_at, plan_solved, loop_step, loop_end}
 use Rattle.cm_algo.proofs.cells.assign.Goals as goal
 
 pub pivot-position-requires : goal.pivot-position-requires

@@ -1,8 +1,7 @@
-use Rattle.std.proofs.Common.{rules, arith, ◌≡◌, ◌≢◌, ℕ, ◌+◌, ◌*◌, ◌<◌, ◌≤◌, [], ◌∷◌, List, length, sym, subst, ap, ◌∙◌}
-use Rattle.cm_outer.specs.Passes.{Told}
+use Rattle.std.proofs.Common.{rules, arith, ◌≡◌, ◌≢◌, ℕ, ◌<◌, [], List, length, sym, ap, ◌∙◌}
 use Rattle.cm_spec.specs.Cells.{plan_of, cells_of}
 use Rattle.cm_spec.specs.Rounds.{rest_of}
-use Rattle.cm_spec.specs.Rule.{IsCount, IsRatio, IsSize}
+use Rattle.cm_spec.specs.Rule.{IsCount, IsSize}
 use Rattle.cm_algo.proofs.OneSeed.{IsHashed, hashed_from, given_from, left_from, not_nil, no_keys}
 use Rattle.cm_algo.proofs.Tags.{kept_or_zero}
 use Rattle.cm_algo.proofs.seeds.attempt.Goals as goal
