@@ -14,6 +14,8 @@ mod top;
 pub use crate::top::run;
 
 #[cfg(test)]
+mod build_tests;
+#[cfg(test)]
 mod query_tests;
 #[cfg(test)]
 mod tests;
