@@ -1,7 +1,7 @@
 // Numbers that look random and can be computed in any order.
 ghost use Rattle.std.specs.Prelude.{◌<◌};
 
-/// Number `turn` of a fixed sequence that looks random: the one of SplitMix64, its upper halves.
+/// Number `turn` of a fixed sequence that looks random: the upper halves of what SplitMix64 makes.
 #[inline]
 pub fn random(turn: u32) -> u32 {
     let x = (turn as u64).wrapping_mul(0x9e37_79b9_7f4a_7c15);
