@@ -3,9 +3,10 @@ use Rattle.std.specs.Prelude.{◌≡◌, ℕ, ◌≤◌, Bool, false, List, Opti
 use Rattle.std.specs.List.{position_or_len}
 use Rattle.cm_spec.specs.Graph.{touches}
 
--- how many vertices there are, and the ends of each edge
+-- how many vertices there are, how many edges have room, and the ends of each edge
 pub record Graph : Type 0 where
   pub vertices : ℕ
+  pub room : ℕ
   pub edges : List (List ℕ)
 
 -- edges have two or three ends

@@ -1,64 +1,71 @@
 //! A list of edges over vertices, each with `K` ends.
-ghost use Rattle.std.specs.Prelude.{◌≡◌, ℕ, ◌<◌, ◌≤◌, [], ◌∷◌, ◌++◌, length, IfOk, OnOk, OnErr, slice_get, Some};
+ghost use Rattle.std.specs.Prelude.{◌≡◌, ℕ, ◌<◌, ◌≤◌, [], ◌∷◌, ◌++◌, length, IfOk, IsOk, OnOk, OnErr, slice_get, Some};
 ghost use Rattle.cm_spec.specs.Graph.{IsEdge, AreEdges};
 ghost use Rattle.cm_graph.specs.Graph.{IsWidth};
 
 use std::alloc::{AllocError, Global};
 use std::marker::Model;
 
-/// A list of edges with two or three ends each. Clauses see the number of vertices, and the ends of each edge in order.
+/// A list of edges with two or three ends each. Clauses see the number of vertices, the ends of each edge in order, and how
+/// many edges have room in any case.
 #[derive(Drop)]
 pub struct Edges<const K: usize> {
     vertices: u32,
+    room: u32,
     ends: Vec<[u32; K]>,
 }
 
 impl<const K: usize> Model for Edges<K> {
-    ghost use Rattle.std.specs.Prelude.{ℕ, ◌≤◌, length};
+    ghost use Rattle.std.specs.Prelude.{ℕ, ◌≤◌, length, vec_capacity};
     ghost use Rattle.cm_spec.specs.Graph.{AreEdges};
     ghost use Rattle.cm_graph.specs.Graph.{Graph, IsWidth};
 
     ghost Value = { Graph };
 
-    ghost view = { λ g. record { vertices = g.vertices; edges = g.ends.items } };
+    ghost view = { λ g. record { vertices = g.vertices; room = g.room; edges = g.ends.items } };
 
-    ghost invariant = { λ g. IsWidth K × (g.vertices ≤ 671088645) × (length g.ends.items ≤ 67108864) × AreEdges K g.vertices g.ends.items };
+    ghost invariant = { λ g. IsWidth K × (g.vertices ≤ 671088645) × (length g.ends.items ≤ 67108864) × (g.room ≤ vec_capacity g.ends) × AreEdges K g.vertices g.ends.items };
 }
 
 impl<const K: usize> Edges<K> {
-    /// No edge yet, over `n` vertices.
+    /// No edge yet, over `n` vertices, and room for none.
     pub fn new(alloc: Global, n: u32) -> Self
         requires width { IsWidth K }
         requires few { n ≤ 671088645 }
         ensures vertices { result.vertices ≡ n }
+        ensures room { result.room ≡ 0 }
         ensures edges { result.edges ≡ [] }
     {
         Edges {
             vertices: n,
+            room: 0,
             ends: Vec::new(alloc),
         }
     }
 
-    /// No edge yet, over `n` vertices, with memory taken for `room` edges, which are then pushed without taking more.
+    /// No edge yet, over `n` vertices, and room for `room` edges: their memory is taken here, so that none of them is refused.
     pub fn with_capacity(alloc: Global, n: u32, room: u32) -> Result<Self, AllocError>
         requires width { IsWidth K }
         requires few { n ≤ 671088645 }
         requires room { room ≤ 67108864 }
         ensures vertices { IfOk result (λ made. made.vertices ≡ n) }
+        ensures room { IfOk result (λ made. made.room ≡ room) }
         ensures edges { IfOk result (λ made. made.edges ≡ []) }
     {
         Ok(Edges {
             vertices: n,
+            room,
             ends: Vec::with_capacity(alloc, room as usize)?,
         })
     }
 
-    /// One more edge. Where memory is wanting, nothing changes.
+    /// One more edge. Where memory is wanting, nothing changes; it isn't wanting while there is room.
     pub fn push(&mut self, ends: [u32; K]) -> Result<(), AllocError>
         requires room { length self.old.edges < 67108864 }
         requires edge { IsEdge self.old.vertices ends }
         ensures ok { OnOk result (self.new ≡ record self.old { edges = self.old.edges ++ ends.entry ∷ [] }) }
         ensures err { OnErr result (self.new ≡ self.old) }
+        ensures room { length self.old.edges < self.old.room → IsOk result }
     {
         self.ends.push(ends)?;
         Ok(())

@@ -159,6 +159,30 @@ fn triple(rt: HostRuntime) -> Result<(), Fail> {
     Ok(())
 }
 
+/// Whether a path of this many edges, numbered along it, is peeled from both ends at once, one edge at each in a round.
+fn is_path_peeled(peeled: &Peeled<2>, m: u32) -> bool
+    requires levels { length peeled.now.levels ≡ m }
+    requires pivots { length peeled.now.pivots ≡ m }
+{
+    for e in 0..m {
+        let back = m - 1 - e;
+        if peeled.level(e) != e.min(back) + 1 || peeled.pivot(e) != (e > back) as u32 {
+            return false;
+        }
+    }
+    let order = peeled.order();
+    if order.len() != m as usize || peeled.rest().len() != 0 {
+        return false;
+    }
+    for i in 0..m {
+        let e = if i % 2 == 0 { i / 2 } else { m - 1 - i / 2 };
+        if order[i as usize] != e {
+            return false;
+        }
+    }
+    true
+}
+
 /// A `peel` that looks at every edge in every round does not end here.
 #[test]
 fn long_path(rt: HostRuntime) -> Result<(), Fail> {
@@ -166,20 +190,11 @@ fn long_path(rt: HostRuntime) -> Result<(), Fail> {
     for e in 0..1_000_000u32 {
         assert!(rt; add(&mut edges, e, e + 1)?);
     }
+    let m = edges.len();
+    assert_eq!(rt; m, 1_000_000);
     let peeled = peeled_pairs(rt.alloc(), &edges)?;
-    let marks = marks(rt.alloc(), edges.len(), &peeled)?;
-    assert_eq!(rt; marks.len(), 1_000_000);
-    for e in 0..1_000_000u32 {
-        let level = (e + 1).min(1_000_000 - e);
-        let pivot = (e >= 500_000) as u32;
-        assert!(rt; marks[e as usize] == (level, pivot));
-    }
-    let order = peeled.order();
-    assert_eq!(rt; order.len(), 1_000_000);
-    for i in 0..500_000u32 {
-        assert_eq!(rt; order[2 * i as usize], i);
-        assert_eq!(rt; order[2 * i as usize + 1], 999_999 - i);
-    }
-    assert_eq!(rt; peeled.rest().len(), 0);
+    assert!(rt; is_path_peeled(&peeled, m));
+    let chained = chained_pairs(rt.alloc(), &edges)?;
+    assert!(rt; is_path_peeled(&chained, m));
     Ok(())
 }

@@ -1,0 +1,8 @@
+use Rattle.std.proofs.Common.{◌≡◌, length}
+use Rattle.bench_peel.proofs.made.pairs.Given as goal
+
+abbrev pub invariant-loop-e : goal.invariant-loop-e
+invariant-loop-e l = record {
+  vertices : l.edges.vertices ≡ l.n;
+  count : length l.edges.edges ≡ l.e;
+}
