@@ -12,6 +12,14 @@ enum ImageFault {
     BadPadding { byte: u64 },
 }
 
+// A list of zeros that are written here, as by the proved tables. `vec!` would take pages of zeros from the system one by
+// one, at the first write to each, within what is timed.
+fn zeros<T: Copy + Default>(n: usize) -> Vec<T> {
+    let mut items = Vec::with_capacity(n);
+    items.resize(n, T::default());
+    items
+}
+
 trait Cells: Sized {
     fn zeroed(n: u32, bound: u32) -> Self;
     fn len(&self) -> u32;
@@ -41,7 +49,7 @@ struct Bits {
 
 impl Cells for Bits {
     fn zeroed(n: u32, _bound: u32) -> Bits {
-        let bytes = vec![0; n.div_ceil(8) as usize];
+        let bytes = zeros(n.div_ceil(8) as usize);
         Bits { bytes, n }
     }
 
@@ -86,7 +94,7 @@ struct Crumbs {
 
 impl Cells for Crumbs {
     fn zeroed(n: u32, _bound: u32) -> Crumbs {
-        let bytes = vec![0; n.div_ceil(4) as usize];
+        let bytes = zeros(n.div_ceil(4) as usize);
         Crumbs { bytes, n }
     }
 
@@ -157,7 +165,7 @@ fn digit(byte: u8, i: u32) -> u32 {
 
 impl Cells for Trits {
     fn zeroed(n: u32, _bound: u32) -> Trits {
-        let bytes = vec![0; n.div_ceil(5) as usize];
+        let bytes = zeros(n.div_ceil(5) as usize);
         Trits { bytes, n }
     }
 
@@ -212,6 +220,7 @@ struct Fields {
     n: u32,
     bound: u32,
     width: u32,
+    mask: u32,
 }
 
 fn width(bound: u32) -> u32 {
@@ -222,21 +231,25 @@ fn window(bytes: &[u8], at: usize) -> u64 {
     u64::from_le_bytes(bytes[at..at + 8].try_into().unwrap())
 }
 
-fn cell(bytes: &[u8], i: u32, width: u32) -> u32 {
+fn ones(width: u32) -> u32 {
+    (1 << width) - 1
+}
+
+fn cell(bytes: &[u8], i: u32, width: u32, mask: u32) -> u32 {
     let bit = i as u64 * width as u64;
-    let mask = (1 << width) - 1;
-    ((window(bytes, (bit / 8) as usize) >> (bit % 8)) & mask) as u32
+    (window(bytes, (bit / 8) as usize) >> (bit % 8)) as u32 & mask
 }
 
 impl Cells for Fields {
     fn zeroed(n: u32, bound: u32) -> Fields {
         let width = width(bound);
-        let bytes = vec![0; (n as u64 * width as u64).div_ceil(8) as usize + 8];
+        let bytes = zeros((n as u64 * width as u64).div_ceil(8) as usize + 8);
         Fields {
             bytes,
             n,
             bound,
             width,
+            mask: ones(width),
         }
     }
 
@@ -249,13 +262,13 @@ impl Cells for Fields {
     }
 
     fn get(&self, i: u32) -> u32 {
-        cell(&self.bytes, i, self.width)
+        cell(&self.bytes, i, self.width, self.mask)
     }
 
     fn set(&mut self, i: u32, value: u32) {
         let bit = i as u64 * self.width as u64;
         let at = (bit / 8) as usize;
-        let mask = ((1 << self.width) - 1) << (bit % 8);
+        let mask = (self.mask as u64) << (bit % 8);
         let new = (window(&self.bytes, at) & !mask) | ((value as u64) << (bit % 8));
         self.bytes[at..at + 8].copy_from_slice(&new.to_le_bytes());
     }
@@ -270,6 +283,7 @@ impl Cells for Fields {
 
     fn from_image(n: u32, bound: u32, bytes: &[u8]) -> Result<Fields, ImageFault> {
         let width = width(bound);
+        let mask = ones(width);
         let mut held = Vec::with_capacity(bytes.len() + 8);
         held.extend_from_slice(bytes);
         held.extend_from_slice(&[0; 8]);
@@ -277,7 +291,7 @@ impl Cells for Fields {
             let zeros = held.iter().position(|byte| *byte != 0);
             let clear = 8 * zeros.unwrap_or(held.len()) as u64 / width as u64;
             for i in clear.min(n as u64) as u32..n {
-                if cell(&held, i, width) >= bound {
+                if cell(&held, i, width, mask) >= bound {
                     return Err(ImageFault::BadCell { cell: i });
                 }
             }
@@ -296,6 +310,7 @@ impl Cells for Fields {
             n,
             bound,
             width,
+            mask,
         })
     }
 }
@@ -307,7 +322,7 @@ struct Plain {
 
 impl Cells for Plain {
     fn zeroed(n: u32, bound: u32) -> Plain {
-        let items = vec![0; n as usize];
+        let items = zeros(n as usize);
         Plain { items, bound }
     }
 
@@ -403,6 +418,7 @@ struct Plan<'a> {
     name: &'a str,
     turns: u32,
     timed: bool,
+    only: Option<&'a str>,
 }
 
 fn tell(plan: Plan, work: &str, start: Instant, amount: u64) {
@@ -414,6 +430,9 @@ fn tell(plan: Plan, work: &str, start: Instant, amount: u64) {
 
 fn run<C: Cells>(plan: Plan, n: u32, bound: u32) {
     let name = plan.name;
+    if plan.only.is_some_and(|only| only != name) {
+        return;
+    }
     let mut table = C::zeroed(n, bound);
     let start = Instant::now();
     write(&mut table, plan.turns);
@@ -448,6 +467,7 @@ fn small() {
         name,
         turns: 100_000,
         timed: false,
+        only: None,
     };
     run::<Bits>(plan("bits"), 100_001, 2);
     run::<Crumbs>(plan("crumbs"), 100_001, 4);
@@ -456,11 +476,12 @@ fn small() {
     run::<Plain>(plan("plain"), 100_001, 100_000);
 }
 
-fn large(turns: u32) {
+fn large(turns: u32, only: Option<&str>) {
     let plan = |name| Plan {
         name,
         turns,
         timed: true,
+        only,
     };
     run::<Bits>(plan("near bits"), 1_000_001, 2);
     run::<Crumbs>(plan("near crumbs"), 500_001, 4);
@@ -478,7 +499,10 @@ fn large(turns: u32) {
 
 fn main() {
     match env::args().nth(1) {
-        Some(word) => large(word.parse().expect("a number of turns")),
+        Some(word) => large(
+            word.parse().expect("a number of turns"),
+            env::args().nth(2).as_deref(),
+        ),
         None => small(),
     }
 }

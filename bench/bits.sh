@@ -1,11 +1,11 @@
 #!/usr/bin/env bash
 # Measures the packed tables against the same in plain Rust, in one run, and prints a table of both.
 #   bench/bits.sh [TURNS [ROUNDS]]
-# TURNS random writes and reads for each table (100 million), each program ROUNDS times (3), in turns; the least time counts.
+# TURNS random writes and reads for each table (20 million), each program ROUNDS times (9), in turns; the least time counts.
 set -eu
 cd "$(dirname "$0")/.."
-turns=${1:-100000000}
-rounds=${2:-3}
+turns=${1:-20000000}
+rounds=${2:-9}
 out=bench/out
 mkdir -p "$out"
 
@@ -16,10 +16,12 @@ proved=crates/bench_bits/out/bench_bits
 "$out/bits" | diff - "$out/bits.proved" || { echo "the check sums differ" >&2; exit 1; }
 
 : >"$out/bits.times"
-for round in $(seq "$rounds"); do
-    "$proved" "$turns" | tee "$out/bits.sums.proved" | sed -n 's/^time/proved/p' >>"$out/bits.times"
-    "$out/bits" "$turns" | tee "$out/bits.sums.plain" | sed -n 's/^time/plain/p' >>"$out/bits.times"
-    diff <(grep -v ^time "$out/bits.sums.proved") <(grep -v ^time "$out/bits.sums.plain")
+for table in near\ {bits,crumbs,trits,fields,fields1,fields3,plain} far\ {bits,crumbs,trits,fields,plain}; do
+    for round in $(seq "$rounds"); do
+        "$proved" "$turns" "$table" | tee "$out/bits.sums.proved" | sed -n 's/^time/proved/p' >>"$out/bits.times"
+        "$out/bits" "$turns" "$table" | tee "$out/bits.sums.plain" | sed -n 's/^time/plain/p' >>"$out/bits.times"
+        diff <(grep -v ^time "$out/bits.sums.proved") <(grep -v ^time "$out/bits.sums.plain")
+    done
 done
 
 echo "| table | work | proved | plain Rust | ratio |"

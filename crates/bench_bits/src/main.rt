@@ -1,8 +1,9 @@
 //! Measures the packed tables: random writes and reads, the bytes of an image, and a table from its image.
 //!
 //! With no argument it works on small tables and prints check sums. With a number of turns it works on tables within the
-//! caches and past them, and prints for each work how many microseconds it took, and for how many turns or bytes. With the
-//! name of a type it only makes the largest of these tables, so that its memory can be told.
+//! caches and past them, or on the one that a second argument names, and prints for each work how many microseconds it took,
+//! and for how many turns or bytes. With the name of a type it only makes the largest of these tables, so that its memory can
+//! be told.
 #![tactic(auto)]
 
 ghost use Rattle.std.specs.Prelude.{◌≡◌, ◌<◌, ◌≤◌, length, IfOk};
@@ -25,6 +26,7 @@ struct Plan<'a> {
     name: &'a str,
     turns: u32,
     timed: bool,
+    skipped: bool,
 }
 
 impl<'a> Plan<'a> {
@@ -34,15 +36,29 @@ impl<'a> Plan<'a> {
             name,
             turns: 100_000,
             timed: false,
+            skipped: false,
         }
     }
+}
 
+// How many turns are timed, and of which table alone.
+#[derive(Clone, Copy)]
+struct Asked<'a> {
+    turns: u32,
+    only: Option<&'a str>,
+}
+
+impl<'a> Asked<'a> {
     // Check sums and times.
-    fn timed(name: &'a str, turns: u32) -> Plan<'a> {
+    fn plan(&self, name: &'a str) -> Plan<'a> {
         Plan {
             name,
-            turns,
+            turns: self.turns,
             timed: true,
+            skipped: match self.only {
+                Some(only) => only != name,
+                None => false,
+            },
         }
     }
 }
@@ -142,6 +158,9 @@ fn run<C: Cells + Drop>(
     requires positive { 0 < bound }
     requires fit { C.fits bound }
 {
+    if plan.skipped {
+        return Ok(());
+    }
     let table: C = random_work(rt, alloc, plan, n, bound)?;
     image_work(rt, alloc, plan, &table)
 }
@@ -156,41 +175,23 @@ fn small(rt: &(impl Print + Clock), alloc: Global) -> io::Result<()> {
 }
 
 // Tables whose images have about 128 KiB.
-fn near(rt: &(impl Print + Clock), alloc: Global, turns: u32) -> io::Result<()> {
-    run::<Bits>(rt, alloc, Plan::timed("near bits", turns), 1_000_001, 2)?;
-    run::<Crumbs>(rt, alloc, Plan::timed("near crumbs", turns), 500_001, 4)?;
-    run::<Trits>(rt, alloc, Plan::timed("near trits", turns), 600_001, 3)?;
-    run::<Fields>(
-        rt,
-        alloc,
-        Plan::timed("near fields", turns),
-        60_001,
-        100_000,
-    )?;
-    run::<Fields>(rt, alloc, Plan::timed("near fields1", turns), 1_000_001, 1)?;
-    run::<Fields>(rt, alloc, Plan::timed("near fields3", turns), 500_001, 3)?;
-    run::<Plain>(rt, alloc, Plan::timed("near plain", turns), 32_001, 100_000)
+fn near(rt: &(impl Print + Clock), alloc: Global, asked: Asked<'_>) -> io::Result<()> {
+    run::<Bits>(rt, alloc, asked.plan("near bits"), 1_000_001, 2)?;
+    run::<Crumbs>(rt, alloc, asked.plan("near crumbs"), 500_001, 4)?;
+    run::<Trits>(rt, alloc, asked.plan("near trits"), 600_001, 3)?;
+    run::<Fields>(rt, alloc, asked.plan("near fields"), 60_001, 100_000)?;
+    run::<Fields>(rt, alloc, asked.plan("near fields1"), 1_000_001, 1)?;
+    run::<Fields>(rt, alloc, asked.plan("near fields3"), 500_001, 3)?;
+    run::<Plain>(rt, alloc, asked.plan("near plain"), 32_001, 100_000)
 }
 
 // Tables that no cache holds: of bits, crumbs and trits as large as they can be.
-fn far(rt: &(impl Print + Clock), alloc: Global, turns: u32) -> io::Result<()> {
-    run::<Bits>(rt, alloc, Plan::timed("far bits", turns), MAX_CELLS, 2)?;
-    run::<Crumbs>(rt, alloc, Plan::timed("far crumbs", turns), MAX_CELLS, 4)?;
-    run::<Trits>(rt, alloc, Plan::timed("far trits", turns), MAX_CELLS, 3)?;
-    run::<Fields>(
-        rt,
-        alloc,
-        Plan::timed("far fields", turns),
-        200_000_001,
-        100_000,
-    )?;
-    run::<Plain>(
-        rt,
-        alloc,
-        Plan::timed("far plain", turns),
-        100_000_001,
-        100_000,
-    )
+fn far(rt: &(impl Print + Clock), alloc: Global, asked: Asked<'_>) -> io::Result<()> {
+    run::<Bits>(rt, alloc, asked.plan("far bits"), MAX_CELLS, 2)?;
+    run::<Crumbs>(rt, alloc, asked.plan("far crumbs"), MAX_CELLS, 4)?;
+    run::<Trits>(rt, alloc, asked.plan("far trits"), MAX_CELLS, 3)?;
+    run::<Fields>(rt, alloc, asked.plan("far fields"), 200_000_001, 100_000)?;
+    run::<Plain>(rt, alloc, asked.plan("far plain"), 100_000_001, 100_000)
 }
 
 // Makes a table of zeros, and tells the length of its image.
@@ -219,10 +220,16 @@ fn main(rt: HostRuntime) -> io::Result<()> {
     let Some(word) = env::args(&rt)?.nth(1) else {
         return small(&rt, alloc);
     };
+    let only = env::args(&rt)?.nth(2);
+    let only = match &only {
+        Some(name) => Some(name.as_str()),
+        None => None,
+    };
     match word.parse::<u32>() {
         Ok(turns) => {
-            near(&rt, alloc, turns)?;
-            far(&rt, alloc, turns)
+            let asked = Asked { turns, only };
+            near(&rt, alloc, asked)?;
+            far(&rt, alloc, asked)
         }
         Err(_) => hold_one(&rt, alloc, word.as_str()),
     }

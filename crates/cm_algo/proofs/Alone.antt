@@ -1,15 +1,15 @@
 -- A pivot's vertex is an end of no other edge of its round or of a later one.
-use Rattle.std.proofs.Common.{◌≡◌, ◌≢◌, ◌⊎◌, ℕ, zero, suc, ◌+◌, ◌-◌, ◌*◌, ◌<◌, ◌≤◌, Bool, true, false, cond, not, eqb, leb, ◌&&◌, ◌||◌, List, [], ◌∷◌, ◌++◌, length, get_or, sym, refl, ap, ◌∙◌, subst, inl, inr, arith}
-use Rattle.std.specs.List.{All, count_by, filter, list_any, list_all, position_or_len}
-use Rattle.std.proofs.lemmas.Bool.{both_ways, cases_Bool, cases_lt, cases_eq, eqb-true, eq-eqb, ne_eqb, and_parts, and_from, or_cases, or_left, or_right, false≢true}
+use Rattle.std.proofs.Common.{◌≡◌, ◌≢◌, ◌⊎◌, ℕ, zero, suc, ◌+◌, ◌-◌, ◌<◌, ◌≤◌, Bool, true, false, not, eqb, ◌&&◌, List, [], ◌∷◌, length, get_or, sym, refl, ap, ◌∙◌, subst, inl, inr, arith}
+use Rattle.std.specs.List.{list_all, position_or_len}
+use Rattle.std.proofs.lemmas.Bool.{both_ways, cases_Bool, eqb-true, eq-eqb, and_parts, or_cases, or_left, or_right, false≢true}
 use Rattle.std.proofs.lemmas.List.Sums.{passes_at_first}
-use Rattle.cm_spec.specs.Graph.{touches, places, ends_at, degree_in}
+use Rattle.cm_spec.specs.Graph.{touches, ends_at, degree_in}
 use Rattle.cm_spec.specs.Lists.{has}
-use Rattle.cm_spec.specs.Rounds.{is_left, is_held, left_after, removed_after, rest_of, level_of, pivot_of, order_upto, order_of}
-use Rattle.cm_peel.proofs.Sets.{count_by-cons, has-filter, Rises, rises_below}
-use Rattle.cm_peel.proofs.Core.{left_after-suc, length-numbers, progress, IsStable}
-use Rattle.cm_peel.proofs.RoundFacts.{has_removed, removed_rises, removed_is_left, is_left_from, has_left_from, not_held_end, degree_some, count_by_some, count_by_two, place_within}
-use Rattle.cm_peel.proofs.Advance.{level_is, length-order}
+use Rattle.cm_spec.specs.Rounds.{is_left, is_held, left_after, removed_after, level_of, pivot_of}
+use Rattle.cm_peel.proofs.Sets.{has-filter}
+use Rattle.cm_peel.proofs.Core.{left_after-suc, progress, IsStable}
+use Rattle.cm_peel.proofs.RoundFacts.{has_removed, removed_is_left, is_left_from, has_left_from, not_held_end, degree_some, count_by_some, count_by_two, place_within}
+use Rattle.cm_peel.proofs.Advance.{level_is}
 use Rattle.cm_spec.specs.Cells.{pivot_vertex}
 
 any_place : (p : ℕ → Bool) (xs : List ℕ) (v : ℕ) → has xs v ≡ true → p v ≡ true → position_or_len p xs < length xs

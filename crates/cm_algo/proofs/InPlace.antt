@@ -1,18 +1,18 @@
 -- One by one and at once give the same cells.
-use Rattle.std.proofs.Common.{◌≡◌, ◌≢◌, ◌⊎◌, ℕ, zero, suc, ◌+◌, ◌-◌, ◌*◌, ◌%◌, ◌<◌, ◌≤◌, Bool, true, false, cond, not, eqb, ◌&&◌, ◌||◌, List, [], ◌∷◌, ◌++◌, length, get_or, set, replicate, sym, refl, ap, ◌∙◌, subst, inl, inr, arith, append_assoc, append-nil}
-use Rattle.std.specs.List.{All, sum_by, filter, list_any}
+use Rattle.std.proofs.Common.{◌≡◌, ◌≢◌, ◌⊎◌, ℕ, zero, suc, ◌+◌, true, false, eqb, List, [], ◌∷◌, ◌++◌, length, get_or, set, sym, refl, ap, ◌∙◌, subst, inl, inr, arith, append_assoc, append-nil}
+use Rattle.std.specs.List.{sum_by}
 use Rattle.std.proofs.Math.ListN.{length-set}
-use Rattle.std.proofs.lemmas.Bool.{both_ways, cases_Bool, cases_lt, cases_eq, eqb-true, eq-eqb, ne_eqb, or_cases, or_left, or_right, false≢true}
+use Rattle.std.proofs.lemmas.Bool.{both_ways, cases_eq, eq-eqb, ne_eqb, or_left, or_right}
 use Rattle.std.proofs.lemmas.List.Sums.{sum_by-cons}
-use Rattle.std.proofs.lemmas.List.{get_or-set_same, get_or-set_other, get_or-replicate, length-replicate, get_or_past}
+use Rattle.std.proofs.lemmas.List.{get_or-set_other}
 use Rattle.cm_spec.specs.Graph.{ends_at}
 use Rattle.cm_spec.specs.Lists.{has}
-use Rattle.cm_spec.specs.Rounds.{left_after, removed_after, rest_of, order_upto, order_of, pivot_of}
+use Rattle.cm_spec.specs.Rounds.{removed_after, order_upto, order_of}
 use Rattle.cm_peel.proofs.Sets.{Rises, rises_below}
 use Rattle.cm_peel.proofs.RoundFacts.{removed_rises, removed_is_left}
 use Rattle.cm_algo.proofs.OneByOne.{one_by_one}
-use Rattle.cm_spec.specs.Cells.{Plan, pivot_vertex, cell_but, sum_but, completing, value_at, at_once, cells_from, cells_of, all_idle}
-use Rattle.cm_algo.proofs.Alone.{alone, left_before, removed_not_left, removed_place, pivot_at, IsPivot}
+use Rattle.cm_spec.specs.Cells.{Plan, pivot_vertex, cell_but, completing, value_at, at_once, cells_from, cells_of, all_idle}
+use Rattle.cm_algo.proofs.Alone.{alone}
 
 pub sum_by-agree : (f g : ℕ → ℕ) (xs : List ℕ) → ((u : ℕ) → has xs u ≡ true → f u ≡ g u) → sum_by f xs ≡ sum_by g xs
 sum_by-agree f g [] h = refl

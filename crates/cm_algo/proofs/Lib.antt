@@ -4,3 +4,4 @@ pub mod OneByOne
 pub mod OneSeed
 pub mod Solving
 pub mod Sums
+pub mod Tags

@@ -1,5 +1,5 @@
 -- One seed, and the list of them.
-use Rattle.std.proofs.Common.{◌≡◌, ◌≢◌, ◌⊎◌, ℕ, zero, suc, ◌+◌, ◌-◌, ◌*◌, ◌<◌, ◌≤◌, Bool, true, false, List, [], ◌∷◌, length, map, get_or, Result, Ok, Err, sym, refl, ap, ◌∙◌, subst, inl, inr, arith, Option, Some, None, nat_eq}
+use Rattle.std.proofs.Common.{◌≡◌, ◌≢◌, ◌⊎◌, ℕ, zero, suc, ◌+◌, ◌*◌, ◌<◌, ◌≤◌, Bool, true, false, List, [], ◌∷◌, length, map, get_or, Err, sym, refl, ap, ◌∙◌, subst, inl, inr, arith, Some, None, nat_eq}
 use Rattle.std.specs.Prelude.{find}
 use Rattle.std.proofs.Math.Nat.{mul-add, mul-le-mul_left}
 use Rattle.std.proofs.lemmas.Bool.{cases_lt, ne_eqb}
@@ -7,12 +7,13 @@ use Rattle.cm_outer.specs.declared.key_pass.KeyFault.{KeyFault}
 use Rattle.cm_outer.specs.declared.key_pass.KeyFault.TheVariants.{Read, TooLong, TooMany}
 use Rattle.cm_algo.specs.Builds.{IsGiven, IsLeft}
 use Rattle.cm_algo.specs.Fails.{IsToldFault}
+use Rattle.cm_algo.proofs.Tags.{SameTags, cells_agree}
 use Rattle.cm_outer.specs.Passes.{Told, GivesKey}
-use Rattle.cm_spec.specs.Built.{edge_of, tag_of, graph_of, cells_under, is_peeled, first_seed, IsFirst, AllCored}
+use Rattle.cm_spec.specs.Built.{edge_of, tag_of, graph_of, is_peeled, first_seed, IsFirst, AllCored}
 use Rattle.cm_peel.proofs.Core.{empty_core, empty_rest}
 use Rattle.cm_spec.specs.Cells.{plan_of, cells_of}
 use Rattle.cm_spec.specs.Rounds.{rest_of}
-use Rattle.cm_spec.specs.Rule.{Rule, IsSize, IsRule, IsCount, IsRatio}
+use Rattle.cm_spec.specs.Rule.{Rule}
 
 -- a fault that a pass gave
 pub told_fault : (told : Told) (before now line : ℕ) (key : List ℕ) (fault : KeyFault) → GivesKey told before now line key (Err fault) → IsToldFault told fault
@@ -28,9 +29,9 @@ length_map f (x ∷ xs) = ap suc (length_map f xs)
 pub record IsHashed (r : Rule) (keys : List (ℕ × List ℕ)) (m c seed : ℕ) (edges : List (List ℕ)) (tags : List ℕ) : Type 0 where
   pub many : m ≡ length keys
   pub edges_are : edges ≡ graph_of r keys c seed
-  pub tags_are : tags ≡ map (tag_of r seed) keys
+  pub tags_are : SameTags tags (map (tag_of r seed) keys)
 
-pub hashed_from : (r : Rule) (keys : List (ℕ × List ℕ)) (m c seed n : ℕ) (edges : List (List ℕ)) (tags : List ℕ) → n ≡ r.size m c → edges ≡ map (edge_of r n seed) keys → tags ≡ map (tag_of r seed) keys → length edges ≡ m → IsHashed r keys m c seed edges tags
+pub hashed_from : (r : Rule) (keys : List (ℕ × List ℕ)) (m c seed n : ℕ) (edges : List (List ℕ)) (tags : List ℕ) → n ≡ r.size m c → edges ≡ map (edge_of r n seed) keys → SameTags tags (map (tag_of r seed) keys) → length edges ≡ m → IsHashed r keys m c seed edges tags
 hashed_from r keys m c seed n edges tags size e t long =
     let many : m ≡ length keys = sym long ∙ (ap length e ∙ length_map (edge_of r n seed) keys) in
     record {
@@ -46,7 +47,7 @@ given_from r keys m c seed n edges tags cells size h none is = (
     ap rest_of (sym h.edges_are) ∙ none,
     is ∙ (ap (λ k. cells_of (plan_of r k edges tags)) (size ∙ ap (λ k. r.size k c) h.many)
         ∙ (ap (λ es. cells_of (plan_of r (r.size (length keys) c) es tags)) h.edges_are
-        ∙ ap (λ ts. cells_of (plan_of r (r.size (length keys) c) (graph_of r keys c seed) ts)) h.tags_are)),
+        ∙ cells_agree r (r.size (length keys) c) (graph_of r keys c seed) tags (map (tag_of r seed) keys) h.tags_are)),
   ),
 )
 
@@ -79,7 +80,7 @@ steps_end k m n s0 s i len a e l =
     let same : s ≤ s0 + 8 * (k * n) * i = subst (λ (x : ℕ). s ≤ s0 + 8 * (k * x) * i) e a in
     omega (arith, mul-le-mul_left (8 * (k * n)) l)
 
--- one more seed th-- one more seed that leaves a rest
+-- one more seed that leaves a rest
 pub left_more : (P : ℕ → Type 0) (i j : ℕ) → ((j : ℕ) → j < i → P j) → P i → j < i + 1 → P j
 left_more P i j h p l = go (cases_lt j i) where
   go : (j < i) ⊎ (i ≤ j) → P j

@@ -1,26 +1,25 @@
 -- What the cells solve, and the steps of the loop.
-use Rattle.std.proofs.Common.{◌≡◌, ◌≢◌, ◌⊎◌, ℕ, zero, suc, ◌+◌, ◌-◌, ◌*◌, ◌/◌, ◌%◌, ◌<◌, ◌≤◌, Bool, true, false, cond, not, eqb, ◌&&◌, ◌||◌, List, [], ◌∷◌, ◌++◌, length, get_or, set, take, drop, replicate, Option, Some, None, sym, refl, ap, ◌∙◌, subst, inl, inr, arith, append_assoc, append-nil, drop-cons}
-use Rattle.std.specs.List.{All, AllPairs, sum_by, count_by, filter, list_any, slice_get}
-use Rattle.std.proofs.Math.ListN.{length-set}
-use Rattle.std.proofs.lemmas.Bool.{both_ways, cases_Bool, cases_lt, cases_eq, eqb-true, eq-eqb, ne_eqb, or_cases, or_left, or_right, false≢true}
+use Rattle.std.proofs.Common.{◌≡◌, ◌≢◌, ◌⊎◌, ℕ, zero, suc, ◌+◌, ◌-◌, ◌*◌, ◌/◌, ◌%◌, ◌<◌, ◌≤◌, Bool, true, false, cond, not, eqb, ◌&&◌, ◌||◌, List, [], ◌∷◌, ◌++◌, length, get_or, set, drop, Some, sym, refl, ap, ◌∙◌, subst, inl, inr, arith}
+use Rattle.std.specs.List.{AllPairs, sum_by, count_by, slice_get}
+use Rattle.std.proofs.lemmas.Bool.{both_ways, cases_Bool, cases_eq, eqb-true, eq-eqb, ne_eqb, or_cases, or_left, or_right, false≢true}
 use Rattle.std.proofs.lemmas.List.Sums.{sum_by-cons, sum_by-set}
 use Rattle.std.proofs.lemmas.List.Folds.{list_any-append, Any-from_list_any, sum_by-replicate}
-use Rattle.std.proofs.lemmas.List.{get_or-set_same, get_or-set_other, get_or-replicate, length-replicate, get_or_past}
-use Rattle.std.proofs.lemmas.Option.{get_or_from_slice_get, slice_get_within}
+use Rattle.std.proofs.lemmas.List.{get_or-set_same, get_or-set_other, get_or-replicate, length-replicate}
+use Rattle.std.proofs.lemmas.Option.{get_or_from_slice_get}
 use Rattle.std.proofs.lemmas.Nat.{mod_below}
 use Rattle.std.proofs.Math.Nat.{mod-eq_of_lt, div-add-mod, add-mul-mod_self_left, mul-add}
-use Rattle.cm_spec.specs.Graph.{ends_at, places}
+use Rattle.cm_spec.specs.Graph.{ends_at}
 use Rattle.cm_spec.specs.Lists.{has}
-use Rattle.cm_spec.specs.Rounds.{left_after, removed_after, rest_of, order_upto, order_of, pivot_of, level_of, is_left, is_held}
+use Rattle.cm_spec.specs.Rounds.{left_after, removed_after, rest_of, order_upto, order_of, pivot_of, level_of, is_held}
 use Rattle.cm_peel.proofs.Sets.{Rises, rises_below, has-filter}
 use Rattle.cm_peel.proofs.Core.{left_after-zero, left_after-suc}
-use Rattle.cm_peel.proofs.RoundFacts.{removed_rises, removed_is_left, has_left_from, is_left_from, has_place, has_removed}
-use Rattle.cm_spec.specs.Graph.{AreEdges, IsEdge}
+use Rattle.cm_peel.proofs.RoundFacts.{removed_rises, removed_is_left, has_place, has_removed}
+use Rattle.cm_spec.specs.Graph.{AreEdges}
 use Rattle.cm_peel.proofs.Advance.{length-order}
 use Rattle.cm_algo.proofs.OneByOne.{one_by_one}
-use Rattle.cm_spec.specs.Cells.{plan_of, Plan, pivot_vertex, cell_but, sum_but, completing, value_at, at_once, cells_from, cells_of, all_idle, is_busy, AreSolved}
+use Rattle.cm_spec.specs.Cells.{plan_of, Plan, pivot_vertex, cell_but, sum_but, completing, value_at, cells_of, all_idle, is_busy, AreSolved}
 use Rattle.cm_spec.specs.Rule.{Rule, IsRule, IsCount}
-use Rattle.cm_algo.proofs.Alone.{alone, left_before, removed_not_left, removed_place, removed_level, pivot_at, IsPivot}
+use Rattle.cm_algo.proofs.Alone.{alone, left_before, removed_not_left, removed_place, removed_level, pivot_at}
 use Rattle.cm_algo.proofs.InPlace.{kept, length-one_by_one, rounds, rounds_are, sum_by-agree, cells_are}
 
 -- an edge that some round removes

@@ -1,9 +1,9 @@
 -- Sums of cells.
-use Rattle.std.proofs.Common.{◌≡◌, ◌≢◌, ◌⊎◌, ℕ, zero, suc, ◌+◌, ◌-◌, ◌*◌, ◌%◌, ◌<◌, ◌≤◌, Bool, true, false, cond, not, eqb, List, [], ◌∷◌, length, get_or, set, take, sym, refl, ap, ◌∙◌, subst, inl, inr, arith}
-use Rattle.std.specs.List.{All, sum_by}
-use Rattle.std.proofs.lemmas.Bool.{cases_eq, eq-eqb, ne_eqb}
-use Rattle.std.proofs.lemmas.List.Sums.{sum_by-cons, sum_by_more}
-use Rattle.cm_spec.specs.Cells.{Plan, pivot_vertex, cell_but, sum_but, completing, value_at}
+use Rattle.std.proofs.Common.{◌≡◌, ◌≢◌, ℕ, ◌+◌, ◌<◌, true, false, eqb, List, length, get_or, take, sym, refl, ap, ◌∙◌, arith}
+use Rattle.std.specs.List.{sum_by}
+use Rattle.std.proofs.lemmas.Bool.{eq-eqb, ne_eqb}
+use Rattle.std.proofs.lemmas.List.Sums.{sum_by_more}
+use Rattle.cm_spec.specs.Cells.{cell_but}
 
 pub more_same : (cells ends : List ℕ) (v i u : ℕ) → i < length ends → u ≡ get_or ends i 0 → u ≡ v → sum_by (cell_but cells v) (take i ends) ≡ sum_by (cell_but cells v) (take (i + 1) ends)
 more_same cells ends v i u h is same =

@@ -58,7 +58,15 @@ fn settle<C: Cells, const K: usize>(
     table.set(v, value);
 }
 
-/// The cells of a peeled graph of which nothing is left, with one tag for each edge. The number of edges is the number of keys.
+/// The tag of an edge: 0 where none is kept.
+fn tag_at(tags: &[u32], e: u32) -> u32
+    ensures { result ≡ slice_index tags.now e }
+{
+    tags.get(e as usize).copied().unwrap_or(0)
+}
+
+/// The cells of a peeled graph of which nothing is left. The tags are those of the edges, in order; an edge past the last of
+/// them has tag 0. The number of edges is the number of keys.
 pub fn assign<S: Scheme<K>, const K: usize>(
     alloc: Global,
     scheme: &S,
@@ -68,7 +76,6 @@ pub fn assign<S: Scheme<K>, const K: usize>(
 ) -> Result<S::Table, AllocError>
     requires peeling { IsPeelingOf edges.now.edges peeled.now }
     requires empty { rest_of edges.now.edges ≡ [] }
-    requires tags { length tags.now ≡ length edges.now.edges }
     requires many { IsCount (length edges.now.edges) }
     ensures bound { IfOk result (λ t. S.Table.bound_of t ≡ (S.rule scheme.now).bound (length edges.now.edges)) }
     ensures cells { IfOk result (λ t. S.Table.cells t ≡ cells_of (plan_of (S.rule scheme.now) edges.now.vertices edges.now.edges tags.now)) }
@@ -88,7 +95,7 @@ pub fn assign<S: Scheme<K>, const K: usize>(
             edges.ends(e),
             position,
             modulus,
-            scheme.target(e, position, tags[e as usize]),
+            scheme.target(e, position, tag_at(tags, e)),
         );
     }
     Ok(table)

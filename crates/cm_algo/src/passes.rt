@@ -1,5 +1,5 @@
 //! Passes over keys.
-ghost use Rattle.std.specs.Prelude.{◌≡◌, ◌≢◌, ℕ, ◌+◌, ◌*◌, ◌<◌, ◌≤◌, ◌^◌, [], ◌∷◌, List, length, map, drop, IfOk, IfErr, OnOk, ◌++◌, None, Some};
+ghost use Rattle.std.specs.Prelude.{◌≡◌, ◌≢◌, ℕ, ◌+◌, ◌*◌, ◌<◌, ◌≤◌, ◌^◌, [], ◌∷◌, List, length, map, drop, IfOk, IfErr, OnOk, ◌++◌, None, Some, true, false};
 ghost use Rattle.std.specs.Option.{ForSome};
 ghost use Rattle.cm_outer.specs.Passes.{Told, HasKeyCause};
 ghost use Rattle.cm_spec.specs.Built.{edge_of, tag_of};
@@ -31,7 +31,7 @@ pub(crate) fn count_all<P: KeyPass>(keys: &mut P) -> Result<u32, KeyFault>
     unreachable!()
 }
 
-/// Adds the edge and the tag of a key.
+/// Adds the edge of a key, and its tag where tags are kept.
 fn add_key<S: Scheme<K>, const K: usize>(
     scheme: &S,
     key: &[u8],
@@ -44,15 +44,18 @@ fn add_key<S: Scheme<K>, const K: usize>(
     ensures memory { IfErr result (λ e. e ≡ BuildFault.Memory) }
     ensures vertices { edges.new.vertices ≡ edges.old.vertices }
     ensures edges { OnOk result (edges.new.edges ≡ edges.old.edges ++ (S.rule scheme.now).edge (words_of key.now seed) edges.old.vertices ∷ []) }
-    ensures tags { OnOk result (tags.new.items ≡ tags.old.items ++ (S.rule scheme.now).tag (words_of key.now seed) ∷ []) }
+    ensures tags { OnOk result (S.KEEPS_TAGS ≡ true → tags.new.items ≡ tags.old.items ++ (S.rule scheme.now).tag (words_of key.now seed) ∷ []) }
+    ensures untagged { S.KEEPS_TAGS ≡ false → tags.new.items ≡ tags.old.items }
 {
     let hashed = words(key, seed);
     edges.push(scheme.edge(hashed, edges.vertices()))?;
-    tags.push(scheme.tag(hashed))?;
+    if S::KEEPS_TAGS {
+        tags.push(scheme.tag(hashed))?;
+    }
     Ok(())
 }
 
-/// The edges and the tags of the keys, which are to be `m`.
+/// The edges of the keys, which are to be `m`, and their tags where tags are kept.
 pub(crate) fn hash_all<S: Scheme<K>, P: KeyPass, const K: usize>(
     scheme: &S,
     keys: &mut P,
@@ -67,9 +70,11 @@ pub(crate) fn hash_all<S: Scheme<K>, P: KeyPass, const K: usize>(
     ensures told { P.told keys.new ≡ P.told keys.old }
     ensures cause { HasBuildCause (P.faults keys.old) (P.faults keys.new) result }
     ensures vertices { edges.new.vertices ≡ edges.old.vertices }
-    ensures long { OnOk result ((length edges.new.edges ≡ m) × (length tags.new.items ≡ m)) }
+    ensures long { OnOk result (length edges.new.edges ≡ m) }
+    ensures tags_long { OnOk result (S.KEEPS_TAGS ≡ true → length tags.new.items ≡ m) }
     ensures edges { OnOk result (ForSome (P.told keys.old) (λ told. edges.new.edges ≡ map (edge_of (S.rule scheme.now) edges.old.vertices seed) told.keys)) }
-    ensures tags { OnOk result (ForSome (P.told keys.old) (λ told. tags.new.items ≡ map (tag_of (S.rule scheme.now) seed) told.keys)) }
+    ensures tags { OnOk result (S.KEEPS_TAGS ≡ true → ForSome (P.told keys.old) (λ told. tags.new.items ≡ map (tag_of (S.rule scheme.now) seed) told.keys)) }
+    ensures untagged { S.KEEPS_TAGS ≡ false → tags.new.items ≡ [] }
     ensures changed { IfErr result (HasChanged m) }
     ensures fault { IfErr result (λ e. ForSome (P.told keys.old) (λ told. FailsPass told m e)) }
 {

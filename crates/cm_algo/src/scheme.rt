@@ -1,5 +1,5 @@
 //! What a scheme is.
-ghost use Rattle.std.specs.Prelude.{◌≡◌, ℕ, ◌+◌, ◌-◌, ◌*◌, ◌/◌, ◌%◌, ◌^◌, ◌<◌, ◌≤◌, List, length};
+ghost use Rattle.std.specs.Prelude.{◌≡◌, ℕ, ◌+◌, ◌-◌, ◌*◌, ◌/◌, ◌%◌, ◌^◌, ◌<◌, ◌≤◌, Bool, false, List, length};
 ghost use Rattle.cm_spec.specs.Rule.{Rule, IsRule, IsCount, IsRatio, IsSize};
 
 use cm_bits::Cells;
@@ -11,6 +11,11 @@ pub trait Scheme<const K: usize> {
 
     /// All that the methods compute.
     ghost rule: { Self → Rule };
+
+    ghost KEEPS_TAGS: { Bool };
+
+    /// Whether a build keeps the tag of each key, 4 bytes a key. Where it keeps none, every tag is 0.
+    const KEEPS_TAGS: bool;
 
     /// The number of vertices for `m` keys and the ratio `c` in millionths.
     fn size(&self, m: u32, c: u32) -> u32
@@ -47,6 +52,9 @@ pub trait Scheme<const K: usize> {
 
     // The rule keeps its laws, and the table serves its bound.
     ghost laws: { (s : Self) → IsRule K (rule s) };
+
+    // A tag that isn't kept is 0.
+    ghost untagged: { (s : Self) (words : List ℕ) → KEEPS_TAGS ≡ false → (rule s).tag words ≡ 0 };
 
     ghost bound_fits: { (s : Self) (m : ℕ) → IsCount m → Self.Table.fits ((rule s).bound m) };
 }

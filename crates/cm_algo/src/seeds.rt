@@ -51,7 +51,11 @@ fn attempt<S: Scheme<K>, I: Incidence<K> + Drop, P: KeyPass, const K: usize, L: 
     ensures steps { steps.new ≤ steps.old + 8 * (K * m) }
 {
     let mut edges = Edges::with_capacity(alloc, scheme.size(m, c), m)?;
-    let mut tags = Vec::with_capacity(alloc, m as usize)?;
+    let mut tags = if S::KEEPS_TAGS {
+        Vec::with_capacity(alloc, m as usize)?
+    } else {
+        Vec::new(alloc)
+    };
     hash_all(scheme, keys, m, seed, &mut edges, &mut tags)?;
     let peeled = peel::<K, I, L>(alloc, &edges, steps)?;
     if peeled.rest().is_empty() {

@@ -4,7 +4,7 @@ use Rattle.std.specs.List.{position_or_len, range_with_len}
 use Rattle.std.proofs.Common.{arith, ap, sym, ◌∙◌, lit<}
 use Rattle.std.proofs.Math.Nat.{zero-div, mul_comm, mul-sub, pow-le-pow_right, div-div-eq-div-mul, mod-eq_of_lt, one-le-pow, div-add-mod, mul-le-mul_left, zero-mod}
 use Rattle.std.proofs.Math.Pow.{mod-mod-pow}
-use Rattle.std.proofs.lemmas.Nat.{mod_below, div_below, field_of, pow_pos, one_shl}
+use Rattle.std.proofs.lemmas.Nat.{mod_below, div_below, field_of, pow_pos}
 use Rattle.std.proofs.lemmas.Nat.Bits.{and_high}
 use Rattle.std.proofs.lemmas.Bool.{lt-leb, le-leb}
 use Rattle.std.proofs.lemmas.List.{ext_get_or, length-set, get_or-set_same, get_or-set_other, length-replicate}
@@ -173,15 +173,15 @@ pub AllBelow-zero : (w n len b : ℕ) (bytes : List ℕ) → 0 < b → bytes ≡
 AllBelow-zero w n len b bytes h z = rw (field_cells-zero w n len bytes z) (λ k l. rw (cell_of_zeros n k) h)
 
 -- a mask of w bits from bit s on takes the part
-pub mask_is : (x s w : ℕ) → s < 8 → w ≤ 26 → bit_and x ((1 * 2 ^ w % 2 ^ 64 - 1) * 2 ^ s % 2 ^ 64) ≡ x / 2 ^ s % 2 ^ w * 2 ^ s
-mask_is x s w low short =
-    let narrow : w < 64 = omega arith in
+pub mask_is : (x s w m : ℕ) → s < 8 → w ≤ 26 → m + 1 ≡ 2 ^ w → bit_and x (m * 2 ^ s % 2 ^ 64) ≡ x / 2 ^ s % 2 ^ w * 2 ^ s
+mask_is x s w m low short e =
+    let ones : m ≡ 2 ^ w - 1 = omega arith in
     let some : 1 ≤ 2 ^ w = pow_pos w in
     let power : 2 ^ (w + s) ≡ 2 ^ w * 2 ^ s = pow_add 2 w s in
     let wide : 2 ^ (w + s) ≤ 2 ^ 34 = pow-le-pow_right (lit< tt) (let e : w + s ≤ 34 = omega arith in e) in
     let mask : (2 ^ w - 1) * 2 ^ s ≡ 2 ^ (w + s) - 2 ^ s = mul_comm (2 ^ w - 1) (2 ^ s) ∙ mul-sub (2 ^ s) (2 ^ w) 1 ∙ omega arith in
     let fits : (2 ^ w - 1) * 2 ^ s % 2 ^ 64 ≡ 2 ^ (w + s) - 2 ^ s = rw mask (mod-eq_of_lt (omega arith)) in
-    rw (one_shl w 64 narrow, fits) (and_high x w s)
+    rw (ones, fits) (and_high x w s)
 
 -- a value of w bits moved up by s bits fits
 pub shifted_is : (v s w : ℕ) → s < 8 → w ≤ 26 → v < 2 ^ w → v * 2 ^ s % 2 ^ 64 ≡ v * 2 ^ s

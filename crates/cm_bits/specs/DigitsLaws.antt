@@ -12,6 +12,7 @@ unfolding digits_sum
 digits_sum-first d f zero = rw (pow-zero d) (omega arith)
 digits_sum-first d f (suc n) = rw (pow-succ' d n) (omega (arith, digits_sum-first d f n))
 
+-- equal digits make equal numbers
 pub digits_sum-same : (d : ℕ) (f g : ℕ → ℕ) (n : ℕ) → ((i : ℕ) → i < n → f i ≡ g i) → digits_sum d f n ≡ digits_sum d g n
 unfolding digits_sum
 digits_sum-same d f g zero h = refl
@@ -83,6 +84,7 @@ pub same_from_digits : (d n a b : ℕ) → 0 < d → a < d ^ n → b < d ^ n →
 same_from_digits d n a b p h l e =
     sym (digits_sum-digits d n a p h) ∙ digits_sum-same d _ _ n e ∙ digits_sum-digits d n b p l
 
+-- a power of a sum
 pub pow_add : (b m k : ℕ) → b ^ (m + k) ≡ b ^ m * b ^ k
 pow_add b m zero = let none : m + 0 ≡ m = omega arith in rw (none, pow-zero b) (omega arith)
 pow_add b m (suc k) =

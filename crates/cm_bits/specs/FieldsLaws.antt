@@ -16,14 +16,17 @@ use Rattle.cm_bits.specs.DigitsLaws.{digits_sum-same, digits_sum-lt, digit-digit
 use Rattle.cm_bits.specs.FaultLaws.{no_fault}
 use Rattle.cm_bits.specs.declared.TheConstants.{MAX_CELLS, MAX_FIELD_BOUND}
 
+-- a number is read as n cells
 pub length-field_cells : (w n number : ℕ) → length (field_cells w n number) ≡ n
 unfolding field_cells
 length-field_cells w n number = length-map-range_with_len _ 0 n
 
+-- cell i is the w bits from bit w * i on
 pub field_cells-at : (w n number i : ℕ) → i < n → slice_index (field_cells w n number) i ≡ number / (2 ^ w) ^ i % 2 ^ w
 unfolding field_cells
 field_cells-at w n number i l = get_or-map-range_with_len _ 0 n i i 0 l (omega arith)
 
+-- fields are no more cells than a table may have
 pub field_room_for : (w n number : ℕ) → n ≤ MAX_CELLS → length (field_cells w n number) ≤ MAX_CELLS
 field_room_for w n number h = omega (arith, length-field_cells w n number)
 
@@ -35,6 +38,7 @@ field_cells-fields_number w n xs e b =
     field_cells-at w n _ k (omega (arith, length-field_cells w n (digits_sum (2 ^ w) (slice_index xs) (length xs))))
     ∙ digit-digits_sum (2 ^ w) (slice_index xs) (length xs) k (pow_pos w) b (omega (arith, length-field_cells w n (digits_sum (2 ^ w) (slice_index xs) (length xs)))))
 
+-- n cells of w bits make a number of n * w bits
 pub fields_number-lt : (w : ℕ) (xs : List ℕ) → AllBelow (2 ^ w) xs → fields_number w xs < (2 ^ w) ^ length xs
 unfolding fields_number
 fields_number-lt w xs b = digits_sum-lt (2 ^ w) _ (length xs) b
@@ -52,6 +56,7 @@ pub same_fields : (w : ℕ) (xs ys : List ℕ) → length xs ≡ length ys → A
 same_fields w xs ys n a b e =
     sym (field_cells-fields_number w (length xs) xs refl a) ∙ ap (field_cells w (length xs)) e ∙ field_cells-fields_number w (length xs) ys (sym n) b
 
+-- equal images of as many cells of w bits are of equal lists
 pub same_fields_image : (w : ℕ) (xs ys : List ℕ) → length xs ≡ length ys → AllBelow (2 ^ w) xs → AllBelow (2 ^ w) ys → ((q : ℕ) → q < fields_len w (length xs) → fields_byte w xs q ≡ fields_byte w ys q) → xs ≡ ys
 unfolding fields_byte
 same_fields_image w xs ys n a b e =
@@ -62,6 +67,7 @@ same_fields_image w xs ys n a b e =
     omega (arith, fields_number-lt w ys b, fields_fit w (length xs)))
     e)
 
+-- the width of a bound is from 1 to 26, and its numbers serve the bound
 pub width-fits : (b : ℕ) → b ≤ MAX_FIELD_BOUND → (1 ≤ width_of b) × (width_of b ≤ 26) × (b ≤ 2 ^ width_of b)
 unfolding width_of
 width-fits b h =
@@ -77,11 +83,13 @@ width-fits b h =
           absurd (omega (arith, leb-false b (2 ^ 26) last))
     ]
 
+-- equal images of as many fields of one bound are of equal lists
 pub same_fields_bound : (b : ℕ) (xs ys : List ℕ) → b ≤ MAX_FIELD_BOUND → length xs ≡ length ys → AllBelow b xs → AllBelow b ys → ((q : ℕ) → q < fields_len (width_of b) (length xs) → fields_byte (width_of b) xs q ≡ fields_byte (width_of b) ys q) → xs ≡ ys
 same_fields_bound b xs ys h n a l e =
     let w = width-fits b h in
     same_fields_image (width_of b) xs ys n (λ k m. omega (arith, a k m, w.2)) (λ k m. omega (arith, l k m, w.2)) e
 
+-- cells that are below the bound have no bad one among them
 pub all_fields : (w n bound number : ℕ) → ((k : ℕ) → k < n → number / (2 ^ w) ^ k % 2 ^ w < bound) → n ≤ position_or_len (λ c. nat_le bound c) (field_cells w n number)
 all_fields w n bound number h =
     let len : length (field_cells w n number) ≡ n = length-field_cells w n number in
@@ -91,6 +99,7 @@ all_fields w n bound number h =
     (λ m. absurd (omega arith)) in
     omega arith
 
+-- bytes whose cells are below the bound, with nothing past them, have no fault
 pub fields_fault-none : (w n bound : ℕ) (bytes : List ℕ) → ((k : ℕ) → k < n → bytes_number bytes / (2 ^ w) ^ k % 2 ^ w < bound) → bytes_number bytes / (2 ^ w) ^ n ≡ 0 → fields_fault w n bound bytes ≡ None
 unfolding fields_fault
 fields_fault-none w n bound bytes h l = no_fault n _ _ _ (all_fields w n bound (bytes_number bytes) h) l
@@ -104,6 +113,7 @@ bytes_number-image w xs b =
     (digits_sum-same 256 _ (λ q. fields_number w xs / 256 ^ q % 256) (fields_len w (length xs)) (λ i m. get_or-map-range_with_len (fields_byte w xs) 0 (fields_len w (length xs)) i i 0 m (omega arith))
     ∙ digits_sum-digits 256 (fields_len w (length xs)) (fields_number w xs) (lit< tt) (omega (arith, fields_number-lt w xs b, fields_fit w (length xs))))
 
+-- the image of fields below the bound has no fault
 pub fields_fault-image : (b : ℕ) (xs : List ℕ) → b ≤ MAX_FIELD_BOUND → AllBelow b xs → fields_fault (width_of b) (length xs) b (list_of (fields_byte (width_of b) xs) (fields_len (width_of b) (length xs))) ≡ None
 fields_fault-image b xs h l =
     let f = width-fits b h in

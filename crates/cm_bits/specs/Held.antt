@@ -24,6 +24,10 @@ pub record IsFields (w n : ℕ) (bytes : List ℕ) : Type 0 where
   pub fit : (k : ℕ) → slice_index bytes k < 256
   pub clear : bytes_number bytes < (2 ^ w) ^ n
 
+-- the lowest w bits are ones, for some w of at most 26, and no others are
+abbrev pub IsMask : ℕ → Type 0
+IsMask mask = (w : ℕ) × (w ≤ 26) × (mask + 1 ≡ 2 ^ w)
+
 -- the number that eight bytes from a place on make, the first the lowest
 unfoldable pub window_at : List ℕ → ℕ → ℕ
 window_at bytes at = digits_sum 256 (λ k. slice_index bytes (at + k)) 8

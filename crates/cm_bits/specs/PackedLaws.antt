@@ -15,24 +15,30 @@ use Rattle.cm_bits.specs.DigitsLaws.{digits_sum-lt, digit-digits_sum, digits_sum
 use Rattle.cm_bits.specs.FaultLaws.{no_fault, all_small}
 use Rattle.cm_bits.specs.declared.TheConstants.{MAX_CELLS}
 
+-- a base of at least 2 is not 0
 pub zero_lt : (d : ℕ) → 2 ≤ d → 0 < d
 zero_lt d h = omega arith
 
+-- cells below a bound that is the base are below the base
 pub at_base : (b d : ℕ) (xs : List ℕ) → b ≡ d → AllBelow b xs → AllBelow d xs
 at_base b d xs e h k l = omega (arith, h k l)
 
+-- packed bytes hold n cells
 pub length-packed_cells : (d p n : ℕ) (bs : List ℕ) → length (packed_cells d p n bs) ≡ n
 unfolding packed_cells
 length-packed_cells d p n bs = length-map-range_with_len _ 0 n
 
+-- cell i is digit i mod p of byte i / p
 pub packed_cells-at : (d p n : ℕ) (bs : List ℕ) (i : ℕ) → i < n → slice_index (packed_cells d p n bs) i ≡ slice_index bs (i / p) / d ^ (i % p) % d
 unfolding packed_cells
 packed_cells-at d p n bs i l = get_or-map-range_with_len _ 0 n i i 0 l (omega arith)
 
+-- the cells that packed bytes hold are below the base
 pub AllBelow-packed_cells : (d p n : ℕ) (bs : List ℕ) → 0 < d → AllBelow d (packed_cells d p n bs)
 AllBelow-packed_cells d p n bs h k l =
     rw (packed_cells-at d p n bs k (omega (arith, length-packed_cells d p n bs))) (mod_below _ d h)
 
+-- packed bytes hold no more cells than a table may have
 pub packed_room : (d p n : ℕ) (bs : List ℕ) → n ≤ MAX_CELLS → length (packed_cells d p n bs) ≤ MAX_CELLS
 packed_room d p n bs h = omega (arith, length-packed_cells d p n bs)
 
@@ -64,6 +70,7 @@ cell_is_digit d p xs k h q b =
     digit-digits_sum d (λ i. slice_index xs (p * (k / p) + i)) p (k % p) h (λ i l. cell_lt d xs h b _) (mod_below k p q)
     ∙ ap (slice_index xs) (div-add-mod k p)
 
+-- equal packed bytes of as many cells are of equal lists
 pub same_packed : (d p : ℕ) (xs ys : List ℕ) → 0 < d → 0 < p → length xs ≡ length ys → AllBelow d xs → AllBelow d ys → ((q : ℕ) → q < packed_len p (length xs) → packed_byte d p xs q ≡ packed_byte d p ys q) → xs ≡ ys
 same_packed d p xs ys h q n a b e =
     ext_get_or 0 xs ys n (λ k l.
@@ -71,6 +78,7 @@ same_packed d p xs ys h q n a b e =
     ∙ ap (λ x. x / d ^ (k % p) % d) (e (k / p) (place_lt p (length xs) k q l))
     ∙ cell_is_digit d p ys k h q b)
 
+-- a byte of packed cells is below the power of the base that fills it
 pub packed_byte-lt : (d p : ℕ) (xs : List ℕ) (q : ℕ) → 0 < d → AllBelow d xs → packed_byte d p xs q < d ^ p
 unfolding packed_byte
 packed_byte-lt d p xs q h b = digits_sum-lt d _ p (λ i l. cell_lt d xs h b _)
@@ -86,6 +94,7 @@ padding-image d p xs h q b =
     digits_sum-short d _ p (n % p) (omega arith) (λ i m l. get_or_past xs (p * (n / p) + i) 0 (omega arith)) in
     rw short (div-eq_of_lt (digits_sum-lt d _ (n % p) (λ i l. b (p * (n / p) + i) (omega arith))))
 
+-- packed bytes of cells below the base have no fault
 pub packed_fault-image : (d p : ℕ) (xs : List ℕ) → 0 < d → 0 < p → AllBelow d xs → packed_fault d p (length xs) (list_of (packed_byte d p xs) (packed_len p (length xs))) ≡ None
 unfolding packed_fault
 packed_fault-image d p xs h q b =

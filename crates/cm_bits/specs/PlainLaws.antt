@@ -13,6 +13,7 @@ use Rattle.cm_bits.specs.Fault.{plain_cell, plain_fault}
 use Rattle.cm_bits.specs.DigitsLaws.{digits_sum-same, digits_sum-digits, same_from_digits}
 use Rattle.cm_bits.specs.FaultLaws.{no_fault}
 
+-- equal plain bytes of as many numbers below 2 ^ 32 are of equal lists
 pub plain_image : (xs ys : List ℕ) → length xs ≡ length ys → ((k : ℕ) → k < length xs → slice_index xs k < 2 ^ 32) → ((k : ℕ) → k < length ys → slice_index ys k < 2 ^ 32) → ((q : ℕ) → q < 4 * length xs → plain_byte xs q ≡ plain_byte ys q) → xs ≡ ys
 unfolding plain_byte
 plain_image xs ys n a b h =
@@ -22,6 +23,7 @@ plain_image xs ys n a b h =
     let part : (4 * k + i) % 4 ≡ i = omega arith in
     rw (place, part) at (h (4 * k + i) (omega arith))))
 
+-- equal plain bytes of as many cells of one bound are of equal lists
 pub same_plain : (b : ℕ) (xs ys : List ℕ) → b < 2 ^ 32 → length xs ≡ length ys → AllBelow b xs → AllBelow b ys → ((q : ℕ) → q < 4 * length xs → plain_byte xs q ≡ plain_byte ys q) → xs ≡ ys
 same_plain b xs ys f n h l e =
     plain_image xs ys n (λ k m. omega (arith, h k m)) (λ k m. omega (arith, l k m)) e
@@ -45,16 +47,19 @@ all_sound bound n f h =
     (λ k l. rw (get_or-map-range_with_len f 0 n k k 0 l (omega arith)) (lt-leb bound (f k) (h k l)))
     (λ l. absurd (omega arith))
 
+-- plain bytes whose cells are below the bound have no fault
 pub plain_fault-none : (n bound : ℕ) (bytes : List ℕ) → ((k : ℕ) → k < n → plain_cell bytes k < bound) → plain_fault n bound bytes ≡ None
 unfolding plain_fault
 plain_fault-none n bound bytes h =
     let e : position_or_len (λ c. nat_le bound c) (list_of (plain_cell bytes) n) ≡ n = all_sound bound n (plain_cell bytes) h in
     no_fault n _ 0 0 (omega arith) refl
 
+-- plain bytes of cells below the bound have no fault
 pub plain_fault-image : (b : ℕ) (xs : List ℕ) → b < 2 ^ 32 → AllBelow b xs → plain_fault (length xs) b (list_of (plain_byte xs) (4 * length xs)) ≡ None
 plain_fault-image b xs f l =
     plain_fault-none (length xs) b _ (λ k m.
     rw (plain_cell-image xs k (λ j n. omega (arith, l j n)) m) (l k m))
 
+-- the first byte of a cell is one of the image
 pub plain_byte_lt : (n i : ℕ) → i < n → 4 * i < 4 * n
 plain_byte_lt n i l = omega arith

@@ -1,6 +1,6 @@
 // Searches in bytes, eight bytes as one number, and parts of such a number.
 ghost use Rattle.std.specs.Prelude.{◌≡◌, ◌+◌, ◌*◌, ◌/◌, ◌%◌, ◌^◌, ◌<◌, ◌≤◌, length, position, nat_le};
-ghost use Rattle.cm_bits.specs.Held.{PutsWindow, window_at};
+ghost use Rattle.cm_bits.specs.Held.{IsMask, PutsWindow, window_at};
 
 // The place of the first byte that is at least `low`.
 pub fn first_byte_from(bytes: &[u8], low: u32) -> Option<usize>
@@ -37,25 +37,33 @@ pub fn put_window(bytes: &mut Vec<u8>, at: usize, number: u64)
     bytes[at..at + 8].copy_from_slice(&number.to_le_bytes());
 }
 
-// The part of `width` bits from bit `shift` on.
+// The mask of the lowest `width` bits.
 #[inline]
-pub fn part(number: u64, shift: u64, width: u32) -> u32
-    requires shift { shift < 8 }
-    requires width { width ≤ 26 }
-    ensures { result ≡ number / 2 ^ shift % 2 ^ width }
+pub fn ones(width: u32) -> u32
+    requires { width ≤ 26 }
+    ensures { result + 1 ≡ 2 ^ width }
 {
-    let mask = (1 << width) - 1;
-    ((number >> shift) & mask) as u32
+    (1 << width) - 1
 }
 
-// The number with another part of `width` bits from bit `shift` on.
+// The part from bit `shift` on that a mask of the lowest bits leaves.
 #[inline]
-pub fn with_part(number: u64, shift: u64, width: u32, value: u32) -> u64
+pub fn part(number: u64, shift: u64, mask: u32) -> u32
     requires shift { shift < 8 }
-    requires width { width ≤ 26 }
-    requires value { value < 2 ^ width }
-    ensures { result + number / 2 ^ shift % 2 ^ width * 2 ^ shift ≡ number + value * 2 ^ shift }
+    requires ones { IsMask mask }
+    ensures { result ≡ number / 2 ^ shift % (mask + 1) }
 {
-    let mask = ((1 << width) - 1) << shift;
-    number - (number & mask) + ((value as u64) << shift)
+    ((number >> shift) & mask as u64) as u32
+}
+
+// The number with another such part.
+#[inline]
+pub fn with_part(number: u64, shift: u64, mask: u32, value: u32) -> u64
+    requires shift { shift < 8 }
+    requires ones { IsMask mask }
+    requires value { value ≤ mask }
+    ensures { result + number / 2 ^ shift % (mask + 1) * 2 ^ shift ≡ number + value * 2 ^ shift }
+{
+    let old = number & ((mask as u64) << shift);
+    number - old + ((value as u64) << shift)
 }

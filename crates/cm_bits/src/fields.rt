@@ -7,7 +7,7 @@ ghost use Rattle.cm_bits.specs.Held.{IsFields};
 ghost use Rattle.cm_spec.specs.Image.{width_of, fields_byte, fields_len};
 ghost use Rattle.cm_bits.specs.declared.TheConstants.{MAX_CELLS, MAX_FIELD_BOUND};
 
-use crate::bytes::{first_byte_from, part, put_window, window, with_part};
+use crate::bytes::{first_byte_from, ones, part, put_window, window, with_part};
 use crate::{Cells, ImageFault};
 use std::alloc::{AllocError, Global};
 
@@ -21,10 +21,13 @@ pub struct Fields {
     n: u32,
     bound: u32,
     width: u32,
+    // The lowest `width` bits: kept, since a shift for each access would cost more.
+    mask: u32,
     ghost in_room: { n ≤ MAX_CELLS },
     ghost positive: { 1 ≤ bound },
     ghost small: { bound ≤ MAX_FIELD_BOUND },
     ghost is_width: { width ≡ width_of bound },
+    ghost is_mask: { mask + 1 ≡ 2 ^ width },
     ghost is_fields: { IsFields width n bytes.items },
     ghost in_bound: { AllBelow bound (field_cells width n (bytes_number bytes.items)) },
 }
@@ -65,6 +68,7 @@ impl Cells for Fields {
             n,
             bound,
             width,
+            mask: ones(width),
         })
     }
 
@@ -77,14 +81,14 @@ impl Cells for Fields {
     }
 
     fn get(&self, i: u32) -> u32 {
-        cell(&self.bytes, i, self.width)
+        cell(&self.bytes, i, self.width, self.mask)
     }
 
     fn set(&mut self, i: u32, value: u32) {
         let bit = i as u64 * self.width as u64;
         let at = (bit / 8) as usize;
         let old = window(&self.bytes, at);
-        let new = with_part(old, bit % 8, self.width, value);
+        let new = with_part(old, bit % 8, self.mask, value);
         put_window(&mut self.bytes, at, new);
     }
 
@@ -113,6 +117,7 @@ impl Cells for Fields {
             n,
             bound,
             width,
+            mask: ones(width),
         })
     }
 }
@@ -138,14 +143,15 @@ fn with_spare(alloc: Global, bytes: &[u8]) -> Result<Vec<u8>, AllocError>
 
 // Cell i of bytes with spare ones after them.
 #[inline]
-fn cell(bytes: &[u8], i: u32, width: u32) -> u32
+fn cell(bytes: &[u8], i: u32, width: u32, mask: u32) -> u32
     requires width { width ≤ 26 }
+    requires mask { mask + 1 ≡ 2 ^ width }
     requires room { i * width / 8 + 8 ≤ length bytes.now }
     requires fit { (k : ℕ) → slice_index bytes.now k < 256 }
     ensures { result ≡ bytes_number bytes.now / (2 ^ width) ^ i % 2 ^ width }
 {
     let bit = i as u64 * width as u64;
-    part(window(bytes, (bit / 8) as usize), bit % 8, width)
+    part(window(bytes, (bit / 8) as usize), bit % 8, mask)
 }
 
 // How many cells of `width` bits lie whole in the zero bytes that bytes begin with.
@@ -175,9 +181,10 @@ fn bad_cell(held: &[u8], n: u32, width: u32, bound: u32) -> Option<u32>
     if bound == 1 << width {
         return None;
     }
+    let mask = ones(width);
     let clear = clear_cells(held, width).min(n as u64) as u32;
     for i in clear..n {
-        if cell(held, i, width) >= bound {
+        if cell(held, i, width, mask) >= bound {
             return Some(i);
         }
     }

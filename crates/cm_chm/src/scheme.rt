@@ -1,5 +1,5 @@
 //! CHM as a scheme.
-ghost use Rattle.std.specs.Prelude.{◌≡◌, ℕ, ◌+◌, ◌-◌, ◌*◌, ◌/◌, ◌%◌, ◌^◌, ◌<◌, ◌≤◌, List, length};
+ghost use Rattle.std.specs.Prelude.{◌≡◌, ℕ, ◌+◌, ◌-◌, ◌*◌, ◌/◌, ◌%◌, ◌^◌, ◌<◌, ◌≤◌, false, refl, List, length};
 ghost use Rattle.cm_spec.specs.Chm.{chm_rule};
 ghost use Rattle.cm_chm.specs.ChmLaws.{chm_is_rule};
 
@@ -15,9 +15,15 @@ impl Scheme<2> for ChmScheme {
 
     ghost rule = { λ _. chm_rule };
 
+    ghost KEEPS_TAGS = { false };
+
     ghost laws = { λ _. chm_is_rule };
 
+    ghost untagged = { λ _ _ _. refl };
+
     ghost bound_fits = { λ _ m many. many };
+
+    const KEEPS_TAGS: bool = false;
 
     fn size(&self, m: u32, c: u32) -> u32 {
         let n = (c as u64 * m as u64).div_ceil(1_000_000);

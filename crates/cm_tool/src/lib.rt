@@ -11,4 +11,6 @@ mod top;
 pub use crate::top::run;
 
 #[cfg(test)]
+mod build_tests;
+#[cfg(test)]
 mod tests;

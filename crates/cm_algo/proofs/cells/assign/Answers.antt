@@ -1,13 +1,9 @@
-use Rattle.std.proofs.Common.{rules, arith, ◌≡◌, ℕ, ◌+◌, ◌-◌, ◌*◌, ◌/◌, ◌%◌, ◌^◌, ◌<◌, ◌≤◌, [], length, replicate, List, ◌∷◌, ◌++◌, get_or, drop, subst, sym, ap, ◌∙◌}
-use Rattle.std.proofs.lemmas.List.{length-replicate}
-use Rattle.cm_algo.proofs.OneByOne.{one_by_one}
-use Rattle.cm_peel.specs.Peeling.{IsPeelingOf}
-use Rattle.cm_spec.specs.Cells.{plan_of, pivot_vertex, value_at, sum_but, completing, cells_of, AreSolved, all_idle}
-use Rattle.cm_spec.specs.Graph.{AreEdges, ends_at}
-use Rattle.cm_spec.specs.Rounds.{rest_of, pivot_of}
-use Rattle.cm_spec.specs.Rule.{Rule, IsCount, IsRule}
-use Rattle.cm_algo.proofs.InPlace.{length-one_by_one}
-use Rattle.cm_algo.proofs.Solving.{long_at, IsRemoved, order_at, plan_solved, loop_step, loop_end}
+use Rattle.std.proofs.Common.{rules, arith, ◌≡◌, ℕ, ◌-◌, ◌<◌, ◌≤◌, [], length, List, get_or, drop, subst, sym, ap, ◌∙◌}
+use Rattle.cm_spec.specs.Cells.{plan_of, AreSolved}
+use Rattle.cm_spec.specs.Graph.{ends_at}
+use Rattle.cm_spec.specs.Rounds.{pivot_of}
+use Rattle.cm_spec.specs.Rule.{IsCount}
+use Rattle.cm_algo.proofs.Solving.{long_at, order_at, plan_solved, loop_step, loop_end}
 use Rattle.cm_algo.proofs.cells.assign.Goals as goal
 
 pub pivot-position-requires : goal.pivot-position-requires
@@ -19,11 +15,6 @@ pub ends-requires : goal.ends-requires
 ends-requires g c =
     let is = order_at c.args.edges.now.edges c.order-order.result.now (c.edges.i - 1) (c.order-order.ensures ∙ c.requires.peeling.order) (omega (arith, c.edges-test.true, c.edges.invariant.within)) in
     (search rules, (search rules, is.place))
-
-pub bounds-tags-e : goal.bounds-tags-e
-bounds-tags-e g c =
-    let is = order_at c.args.edges.now.edges c.order-order.result.now (c.edges.i - 1) (c.order-order.ensures ∙ c.requires.peeling.order) (omega (arith, c.edges-test.true, c.edges.invariant.within)) in
-    omega (arith, is.place, c.requires.tags)
 
 pub filled-requires-clause-below : goal.filled-requires-clause-below
 filled-requires-clause-below g c =
@@ -57,7 +48,7 @@ edges-preserved g c =
       modulus = c.edges.invariant.modulus;
       within = omega (arith, c.edges.invariant.within);
       cells = loop_step (plan_of (g.S.Scheme.rule c.args.scheme.now) c.args.edges.now.vertices edges c.args.tags.now) (g.S.Table.Cells.cells c.edges.table) _ c.order-order.result.now c.ends.result c.edges.i e c.pivot-position.result c.target.result c.modulus-modulus.result
-          c.edges.invariant.cells c.settle.ensures.cells c.ends.ensures.ends at (c.target.ensures.target ∙ ap (λ (p : ℕ). (g.S.Scheme.rule c.args.scheme.now).target e p (get_or c.args.tags.now e 0)) at) c.edges.invariant.modulus (search rules) c.edges-test.true c.edges.invariant.within;
+          c.edges.invariant.cells c.settle.ensures.cells c.ends.ensures.ends at (c.target.ensures.target ∙ (ap (λ (t : ℕ). (g.S.Scheme.rule c.args.scheme.now).target e c.pivot-position.result t) c.tag_at.ensures ∙ ap (λ (p : ℕ). (g.S.Scheme.rule c.args.scheme.now).target e p (get_or c.args.tags.now e 0)) at)) c.edges.invariant.modulus (search rules) c.edges-test.true c.edges.invariant.within;
     }
 
 pub returns-clause-cells : goal.returns-clause-cells

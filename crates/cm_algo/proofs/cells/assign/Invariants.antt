@@ -1,4 +1,4 @@
-use Rattle.std.proofs.Common.{◌≡◌, ℕ, ◌+◌, ◌*◌, ◌<◌, ◌≤◌, drop, length}
+use Rattle.std.proofs.Common.{◌≡◌, ◌≤◌, drop, length}
 use Rattle.cm_algo.proofs.OneByOne.{one_by_one}
 use Rattle.cm_spec.specs.Cells.{plan_of, all_idle}
 use Rattle.cm_algo.proofs.cells.assign.Given as goal

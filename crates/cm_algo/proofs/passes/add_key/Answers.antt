@@ -1,4 +1,4 @@
-use Rattle.std.proofs.Common.{rules, arith, ◌≡◌, ℕ, ◌+◌, ◌<◌, ◌≤◌, List, length, sym, subst, ap, ◌∙◌}
+use Rattle.std.proofs.Common.{arith, ◌≡◌, ℕ, List, sym, subst, ap, ◌∙◌}
 use Rattle.cm_spec.specs.Graph.{IsEdge}
 use Rattle.cm_spec.specs.Rule.{IsSize}
 use Rattle.cm_algo.proofs.passes.add_key.Goals as goal

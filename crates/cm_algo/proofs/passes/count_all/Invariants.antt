@@ -1,4 +1,4 @@
-use Rattle.std.proofs.Common.{◌≡◌, ◌+◌, ◌<◌, ◌≤◌, true}
+use Rattle.std.proofs.Common.{◌≡◌, ◌<◌, ◌≤◌, true}
 use Rattle.cm_algo.proofs.passes.count_all.Given as goal
 
 abbrev pub invariant-loop-count : goal.invariant-loop-count

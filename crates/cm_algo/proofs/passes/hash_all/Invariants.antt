@@ -1,4 +1,4 @@
-use Rattle.std.proofs.Common.{◌≡◌, ◌+◌, ◌<◌, ◌≤◌, true, ◌++◌, map, drop, length, []}
+use Rattle.std.proofs.Common.{◌≡◌, ◌≤◌, true, false, ◌++◌, map, drop, length, []}
 use Rattle.std.specs.Option.{ForSome}
 use Rattle.cm_spec.specs.Built.{edge_of, tag_of}
 use Rattle.cm_algo.proofs.passes.hash_all.Given as goal
@@ -14,7 +14,8 @@ invariant-loop-count g l =
       at : P.place l.keys ≡ l.count;
       vertices : l.edges.vertices ≡ l.fn.edges.vertices;
       edges_long : length l.edges.edges ≡ l.count;
-      tags_long : length l.tags.items ≡ l.count;
       edges : ForSome (P.told l.fn.keys) (λ told. l.edges.edges ++ map (edge_of (g.S.Scheme.rule l.scheme) l.fn.edges.vertices l.seed) (drop (P.place l.keys) told.keys) ≡ map (edge_of (g.S.Scheme.rule l.scheme) l.fn.edges.vertices l.seed) told.keys);
-      tags : ForSome (P.told l.fn.keys) (λ told. l.tags.items ++ map (tag_of (g.S.Scheme.rule l.scheme) l.seed) (drop (P.place l.keys) told.keys) ≡ map (tag_of (g.S.Scheme.rule l.scheme) l.seed) told.keys);
+      tags_long : g.S.Scheme.KEEPS_TAGS ≡ true → length l.tags.items ≡ l.count;
+      untagged : g.S.Scheme.KEEPS_TAGS ≡ false → l.tags.items ≡ [];
+      tags : g.S.Scheme.KEEPS_TAGS ≡ true → ForSome (P.told l.fn.keys) (λ told. l.tags.items ++ map (tag_of (g.S.Scheme.rule l.scheme) l.seed) (drop (P.place l.keys) told.keys) ≡ map (tag_of (g.S.Scheme.rule l.scheme) l.seed) told.keys);
     }

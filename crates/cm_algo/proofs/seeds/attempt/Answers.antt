@@ -1,9 +1,9 @@
-use Rattle.std.proofs.Common.{rules, arith, ◌≡◌, ◌≢◌, ℕ, ◌+◌, ◌*◌, ◌<◌, ◌≤◌, [], ◌∷◌, List, length, sym, subst, ap, ◌∙◌}
-use Rattle.cm_outer.specs.Passes.{Told}
+use Rattle.std.proofs.Common.{rules, arith, ◌≡◌, ◌≢◌, ℕ, ◌<◌, [], List, length, sym, ap, ◌∙◌}
 use Rattle.cm_spec.specs.Cells.{plan_of, cells_of}
 use Rattle.cm_spec.specs.Rounds.{rest_of}
-use Rattle.cm_spec.specs.Rule.{IsCount, IsRatio, IsSize}
+use Rattle.cm_spec.specs.Rule.{IsCount, IsSize}
 use Rattle.cm_algo.proofs.OneSeed.{IsHashed, hashed_from, given_from, left_from, not_nil, no_keys}
+use Rattle.cm_algo.proofs.Tags.{kept_or_zero}
 use Rattle.cm_algo.proofs.seeds.attempt.Goals as goal
 
 pub with_capacity-requires : goal.with_capacity-requires
@@ -16,9 +16,9 @@ pub assign-requires : goal.assign-requires
 assign-requires g c =
     let nil : c.rest.result.now ≡ [] = no_keys c.rest.result.now (search rules) in
     let none : rest_of c.hash_all.new.edges.edges ≡ [] = sym c.in_ok-peeled.ensures.peeling.rest ∙ (sym c.rest.ensures ∙ nil) in
-    let many : IsCount (length c.hash_all.new.edges.edges) = (omega (arith, c.in_ok-hash_all.ensures.long.0, c.requires.many), omega (arith, c.in_ok-hash_all.ensures.long.0, c.requires.many)) in
+    let many : IsCount (length c.hash_all.new.edges.edges) = (omega (arith, c.in_ok-hash_all.ensures.long, c.requires.many), omega (arith, c.in_ok-hash_all.ensures.long, c.requires.many)) in
     let law = g.met.S.Scheme.laws c.args.scheme.now in
-    (omega (arith, law.two_or_three.1), (omega (arith, law.two_or_three.1), (c.in_ok-peeled.ensures.peeling, (none, (ap length c.deref.ensures.value ∙ c.in_ok-hash_all.ensures.long.1 ∙ sym c.in_ok-hash_all.ensures.long.0, many)))))
+    (omega (arith, law.two_or_three.1), (omega (arith, law.two_or_three.1), (c.in_ok-peeled.ensures.peeling, (none, many))))
 
 pub returns-then-is_empty-clause-made : goal.returns-then-is_empty-clause-made
 returns-then-is_empty-clause-made g c = λ told is.
@@ -27,7 +27,7 @@ returns-then-is_empty-clause-made g c = λ told is.
     let size : c.in_ok-edges.edges.vertices ≡ (g.S.Scheme.rule c.args.scheme.now).size c.args.m c.args.c = c.in_ok-edges.ensures.vertices ∙ c.size.ensures.size in
     let h : IsHashed (g.S.Scheme.rule c.args.scheme.now) told.keys c.args.m c.args.c c.args.seed c.hash_all.new.edges.edges c.hash_all.new.tags.items =
     hashed_from (g.S.Scheme.rule c.args.scheme.now) told.keys c.args.m c.args.c c.args.seed c.in_ok-edges.edges.vertices c.hash_all.new.edges.edges c.hash_all.new.tags.items
-    size (c.in_ok-hash_all.ensures.edges told is) (c.in_ok-hash_all.ensures.tags told is) c.in_ok-hash_all.ensures.long.0 in
+    size (c.in_ok-hash_all.ensures.edges told is) (kept_or_zero (g.S.Scheme.rule c.args.scheme.now) c.args.seed told.keys g.S.Scheme.KEEPS_TAGS c.hash_all.new.tags.items (λ b. c.in_ok-hash_all.ensures.tags b told is) c.in_ok-hash_all.ensures.untagged (g.met.S.Scheme.untagged c.args.scheme.now)) c.in_ok-hash_all.ensures.long in
     given_from (g.S.Scheme.rule c.args.scheme.now) told.keys c.args.m c.args.c c.args.seed c.hash_all.new.edges.vertices c.hash_all.new.edges.edges c.hash_all.new.tags.items (g.S.Table.Cells.cells c.in_ok-table.table)
     (c.hash_all.ensures.vertices ∙ size) h none
     (c.in_ok-table.ensures.cells ∙ ap (λ (ts : List ℕ). cells_of (plan_of (g.S.Scheme.rule c.args.scheme.now) c.hash_all.new.edges.vertices c.hash_all.new.edges.edges ts)) c.deref.ensures.value)
@@ -39,5 +39,5 @@ returns-clause-left g c = λ told is.
     let size : c.in_ok-edges.edges.vertices ≡ (g.S.Scheme.rule c.args.scheme.now).size c.args.m c.args.c = c.in_ok-edges.ensures.vertices ∙ c.size.ensures.size in
     let h : IsHashed (g.S.Scheme.rule c.args.scheme.now) told.keys c.args.m c.args.c c.args.seed c.hash_all.new.edges.edges c.hash_all.new.tags.items =
     hashed_from (g.S.Scheme.rule c.args.scheme.now) told.keys c.args.m c.args.c c.args.seed c.in_ok-edges.edges.vertices c.hash_all.new.edges.edges c.hash_all.new.tags.items
-    size (c.in_ok-hash_all.ensures.edges told is) (c.in_ok-hash_all.ensures.tags told is) c.in_ok-hash_all.ensures.long.0 in
+    size (c.in_ok-hash_all.ensures.edges told is) (kept_or_zero (g.S.Scheme.rule c.args.scheme.now) c.args.seed told.keys g.S.Scheme.KEEPS_TAGS c.hash_all.new.tags.items (λ b. c.in_ok-hash_all.ensures.tags b told is) c.in_ok-hash_all.ensures.untagged (g.met.S.Scheme.untagged c.args.scheme.now)) c.in_ok-hash_all.ensures.long in
     left_from (g.S.Scheme.rule c.args.scheme.now) told.keys c.args.m c.args.c c.args.seed c.hash_all.new.edges.edges c.hash_all.new.tags.items h some

@@ -1,9 +1,7 @@
-use Rattle.std.proofs.Common.{rules, arith, ◌≡◌, ◌≢◌, ℕ, ◌+◌, ◌*◌, ◌<◌, ◌≤◌, [], ◌∷◌, List, length, sym, subst, refl, ap, ◌∙◌, Some, get_or}
-use Rattle.cm_outer.specs.Passes.{Told}
-use Rattle.cm_spec.specs.Built.{graph_of, cells_under, IsFirst}
+use Rattle.std.proofs.Common.{arith, ◌≢◌, ℕ, ◌<◌, [], length, sym, refl, ◌∙◌, get_or}
+use Rattle.cm_spec.specs.Built.{graph_of}
 use Rattle.cm_spec.specs.Rounds.{rest_of}
-use Rattle.cm_algo.specs.Builds.{IsGiven, IsLeft, IsBuilt}
-use Rattle.cm_algo.proofs.OneSeed.{no_keys, steps_more, steps_err, steps_end, left_more, chosen_at, none_chosen, first_at, all_cored}
+use Rattle.cm_algo.proofs.OneSeed.{no_keys, steps_more, chosen_at, none_chosen, first_at, all_cored}
 use Rattle.cm_algo.proofs.seeds.build.Goals as goal
 
 pub returns-then-m-eq0-clause-fault : goal.returns-then-m-eq0-clause-fault

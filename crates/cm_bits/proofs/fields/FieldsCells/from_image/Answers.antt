@@ -14,6 +14,9 @@ fault_in-requires-clause-some c = (width-at c.args.bound c.width-width.result c.
 pub fault_in-requires-clause-bound : goal.fault_in-requires-clause-bound
 fault_in-requires-clause-bound c = (width-at c.args.bound c.width-width.result c.requires.fit.1 c.width-width.ensures).1
 
+pub ones-requires : goal.ones-requires
+ones-requires c = (width-at c.args.bound c.width-width.result c.requires.fit.1 c.width-width.ensures).0
+
 pub invariant_of-result-clause-is_fields : goal.invariant_of-result-clause-is_fields
 invariant_of-result-clause-is_fields c =
     let small : (i : ℕ) → slice_index c.args.bytes.now i < 256 = λ i. (let f : Fits w8 (get_or c.args.bytes.now i 0) = c.type_inv.bytes i in omega (arith, f)) in

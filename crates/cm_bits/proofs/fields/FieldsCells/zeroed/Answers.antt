@@ -1,6 +1,9 @@
 use Rattle.std.proofs.Common.{ap, ◌+◌}
-use Rattle.cm_bits.proofs.FieldsLemmas.{IsFields-zero, AllBelow-zero, field_cells-zero}
+use Rattle.cm_bits.proofs.FieldsLemmas.{width-at, IsFields-zero, AllBelow-zero, field_cells-zero}
 use Rattle.cm_bits.proofs.fields.FieldsCells.zeroed.Goals as goal
+
+pub ones-requires : goal.ones-requires
+ones-requires c = (width-at c.args.bound c.width-width.result c.requires.fit.1 c.width-width.ensures).0
 
 pub invariant_of-result-clause-is_fields : goal.invariant_of-result-clause-is_fields
 invariant_of-result-clause-is_fields c =

@@ -1,0 +1,91 @@
+//! Ranks by samples.
+ghost use Rattle.std.specs.Prelude.{◌≡◌, ℕ, List, ◌+◌, ◌*◌, ◌^◌, ◌<◌, ◌≤◌, length, slice_index, IfOk};
+ghost use Rattle.std.specs.Int.{div_ceil};
+ghost use Rattle.cm_rank.specs.Ranks.{rank_of, StandsFor};
+
+use cm_bits::Cells;
+use std::alloc::{AllocError, Global};
+use std::marker::Model;
+
+/// The ranks of every `2^b`-th cell of a table, 4 bytes each. It stands for the cells that it was built over, and doesn't
+/// hold them: a call that counts takes them again.
+#[derive(Drop)]
+pub struct RankTable {
+    ranks: Vec<u32>,
+    idle: u32,
+    b: u8,
+}
+
+impl Model for RankTable {
+    ghost use Rattle.std.specs.Prelude.{◌≤◌, length};
+    ghost use Rattle.cm_rank.specs.Ranks.{Samples};
+
+    ghost Value = { Samples };
+
+    ghost view = { λ t. record { idle = t.idle; shift = t.b; ranks = t.ranks.items } };
+
+    ghost invariant = { λ t. (t.b ≤ 10) × (length t.ranks.items ≤ 671088645) };
+}
+
+impl RankTable {
+    /// The ranks of the cells that are not idle, of every `2^b`-th cell, with b from 3 to 10. Refused only for want of memory.
+    pub fn build<C: Cells>(
+        alloc: Global,
+        cells: &C,
+        idle: u32,
+        b: u8,
+    ) -> Result<RankTable, AllocError>
+        requires low { 3 ≤ b }
+        requires high { b ≤ 10 }
+        ensures idle { IfOk result (λ t. t.idle ≡ idle) }
+        ensures shift { IfOk result (λ t. t.shift ≡ b) }
+        ensures stands { IfOk result (λ t. StandsFor t (C.cells cells.now)) }
+    {
+        let step = 1 << b;
+        let mut ranks = Vec::with_capacity(alloc, cells.len().div_ceil(step) as usize)?;
+        let mut rank = 0;
+        for i in 0..cells.len() {
+            if i % step == 0 {
+                ranks.push(rank)?;
+            }
+            if cells.get(i) != idle {
+                rank += 1;
+            }
+        }
+        Ok(RankTable { ranks, idle, b })
+    }
+
+    /// How many of the first i cells are not idle. Fewer than `2^b` cells are looked at.
+    pub fn rank<C: Cells>(&self, cells: &C, i: u32) -> u32
+        requires stands { StandsFor self.now (C.cells cells.now) }
+        requires index { i < length (C.cells cells.now) }
+        ensures rank { result ≡ rank_of self.now.idle (C.cells cells.now) i }
+    {
+        let step = 1 << self.b;
+        let place = i / step;
+        let mut rank = self.ranks[place as usize];
+        for j in place * step..i {
+            if cells.get(j) != self.idle {
+                rank += 1;
+            }
+        }
+        rank
+    }
+
+    /// How many ranks there are: one for each `2^b` cells, and one for what is left of them.
+    pub fn entries(&self) -> u32
+        ensures entries { result ≡ length self.now.ranks }
+        ensures cells { (cells : List ℕ) → StandsFor self.now cells → result ≡ div_ceil (length cells) (2 ^ self.now.shift) }
+    {
+        self.ranks.len() as u32
+    }
+
+    /// Rank i, that of cell `i * 2^b`.
+    pub fn entry(&self, i: u32) -> u32
+        requires inside { i < length self.now.ranks }
+        ensures entry { result ≡ slice_index self.now.ranks i }
+        ensures cells { (cells : List ℕ) → StandsFor self.now cells → result ≡ rank_of self.now.idle cells (i * 2 ^ self.now.shift) }
+    {
+        self.ranks[i as usize]
+    }
+}

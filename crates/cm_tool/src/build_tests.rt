@@ -1,0 +1,204 @@
+ghost use Rattle.std.specs.Prelude.{◌≡◌, ◌<◌, ◌≤◌, None, length};
+
+use cm_algo::{BuildFault, Built, assign, build};
+use cm_bits::{Cells, Fields};
+use cm_chm::ChmScheme;
+use cm_graph::{Edges, Steps, Xored};
+use cm_outer::{KeyBuf, KeyFault, KeyPass, MAX_KEYS};
+use cm_peel::peel;
+use std::alloc::{AllocError, Global};
+use std::marker::Brand;
+use std::sync::ledger::{Blank, Ledger};
+use std::test::Fail;
+
+/// Keys that change from pass to pass, after a number of rewinds that are refused. It tells nothing of them. After its last
+/// pass it gives none.
+#[derive(Drop)]
+struct Changing<'a> {
+    refusals: usize,
+    passes: &'a [&'a [&'a [u8]]],
+    pass: usize,
+    given: u32,
+    usable: bool,
+    faults: u64,
+    ghost few: { given ≤ 16777216 },
+}
+
+fn keys_of<'a>(refusals: usize, passes: &'a [&'a [&'a [u8]]]) -> Changing<'a> {
+    Changing {
+        refusals,
+        passes,
+        pass: 0,
+        given: 0,
+        usable: false,
+        faults: 0,
+    }
+}
+
+/// The key at a place of a pass, both counted from 0.
+fn key_at<'a>(passes: &'a [&'a [&'a [u8]]], pass: usize, place: usize) -> Option<&'a [u8]> {
+    passes.get(pass)?.get(place).copied()
+}
+
+impl KeyPass for Changing<'_> {
+    ghost told = { λ _. None };
+
+    ghost place = { λ p. p.given };
+
+    ghost last = { λ p. p.given };
+
+    ghost usable = { λ p. p.usable };
+
+    ghost faults = { λ p. p.faults };
+
+    fn usable(&self) -> bool {
+        self.usable
+    }
+
+    fn next(&mut self, key: &mut KeyBuf) -> Result<bool, KeyFault> {
+        if self.given == MAX_KEYS {
+            return Ok(false);
+        }
+        match key_at(self.passes, self.pass, self.given as usize) {
+            Some(bytes) => {
+                key.clear();
+                let _ = key.try_extend_from_slice(bytes);
+                self.given += 1;
+                Ok(true)
+            }
+            None => Ok(false),
+        }
+    }
+
+    fn rewind(&mut self) -> Result<(), KeyFault> {
+        if self.refusals > 0 {
+            self.refusals -= 1;
+            self.usable = false;
+            self.faults = self.faults.saturating_add(1);
+            return Err(KeyFault::Read);
+        }
+        if self.given > 0 {
+            self.pass = self.pass.saturating_add(1);
+        }
+        self.given = 0;
+        self.usable = true;
+        Ok(())
+    }
+
+    fn line(&self) -> u32 {
+        self.given
+    }
+}
+
+/// Builds CHM's cells with 1.5 vertices a key, with steps that nobody reads.
+fn build_pairs<L: Ledger>(
+    alloc: Global,
+    keys: &mut Changing,
+    seeds: &[u32],
+    blank: Blank,
+) -> Result<Built<Fields>, BuildFault>
+    requires name { blank.name ≡ L.name }
+    requires parts { blank.parts ≡ L.parts }
+    requires some { 0 < blank.parts }
+    requires seeds { 0 < length seeds.now }
+{
+    let mut steps = Steps::<L>::new(blank);
+    build::<ChmScheme, Xored<2>, Changing, 2, L>(
+        alloc,
+        &ChmScheme {},
+        keys,
+        1_500_000,
+        seeds,
+        &mut steps,
+    )
+}
+
+fn built(alloc: Global, keys: &mut Changing) -> Result<Built<Fields>, BuildFault> {
+    build_pairs::<Brand>(alloc, keys, &[0, 1], Blank::new(1))
+}
+
+fn listed(alloc: Global, cells: &Fields) -> Result<Vec<u32>, AllocError> {
+    let mut listed = Vec::new(alloc);
+    for v in 0..cells.len() {
+        listed.push(cells.get(v))?;
+    }
+    Ok(listed)
+}
+
+/// Adds an edge, unless it isn't one over the vertices.
+fn add(edges: &mut Edges<2>, first: u32, second: u32) -> Result<bool, AllocError> {
+    let n = edges.vertices();
+    if first < n && second < n && first != second && edges.len() < 67108864 {
+        edges.push([first, second])?;
+        Ok(true)
+    } else {
+        Ok(false)
+    }
+}
+
+/// CHM's cells of a graph, or none where it has no edge, or where peeling leaves one.
+fn assign_pairs<L: Ledger>(
+    alloc: Global,
+    edges: &Edges<2>,
+    blank: Blank,
+) -> Result<Option<Fields>, AllocError>
+    requires name { blank.name ≡ L.name }
+    requires parts { blank.parts ≡ L.parts }
+    requires some { 0 < blank.parts }
+{
+    let mut steps = Steps::<L>::new(blank);
+    let peeled = peel::<2, Xored<2>, L>(alloc, edges, &mut steps)?;
+    if edges.len() == 0 {
+        return Ok(None);
+    }
+    if !peeled.rest().is_empty() {
+        return Ok(None);
+    }
+    let cells = assign(alloc, &ChmScheme {}, edges, &peeled, &[])?;
+    Ok(Some(cells))
+}
+
+fn assigned(alloc: Global, edges: &Edges<2>) -> Result<Option<Fields>, AllocError> {
+    assign_pairs::<Brand>(alloc, edges, Blank::new(1))
+}
+
+const PAIR: &[&[u8]] = &[b"a", b"b"];
+
+const TRIPLE: &[&[u8]] = &[b"a", b"b", b"c"];
+
+#[test]
+fn keys_that_change(rt: HostRuntime) -> Result<(), Fail> {
+    let mut more = keys_of(0, &[PAIR, TRIPLE]);
+    let fault = built(rt.alloc(), &mut more).err();
+    assert_eq!(rt; fault, Some(BuildFault::Changed { first: 2, now: 3 }));
+    let mut fewer = keys_of(0, &[TRIPLE, PAIR]);
+    let fault = built(rt.alloc(), &mut fewer).err();
+    assert_eq!(rt; fault, Some(BuildFault::Changed { first: 3, now: 2 }));
+    Ok(())
+}
+
+#[test]
+fn built_again_after_a_refusal(rt: HostRuntime) -> Result<(), Fail> {
+    let mut keys = keys_of(1, &[PAIR, PAIR, PAIR]);
+    let fault = built(rt.alloc(), &mut keys).err();
+    assert_eq!(rt; fault, Some(BuildFault::Key(KeyFault::Read)));
+    let function = built(rt.alloc(), &mut keys)?;
+    assert_eq!(rt; (function.m, function.c, function.seed), (2, 1_500_000, 1));
+    let cells = listed(rt.alloc(), &function.cells)?;
+    assert_eq!(rt; cells.as_slice(), [1, 0, 0].as_slice());
+    Ok(())
+}
+
+#[test]
+fn cells_of_a_path(rt: HostRuntime) -> Result<(), Fail> {
+    let mut edges = Edges::<2>::new(rt.alloc(), 4);
+    for v in 0..3u32 {
+        assert!(rt; add(&mut edges, v, v + 1)?);
+    }
+    let Some(cells) = assigned(rt.alloc(), &edges)? else {
+        return Err(Fail::new("no cells"));
+    };
+    let cells = listed(rt.alloc(), &cells)?;
+    assert_eq!(rt; cells.as_slice(), [2, 1, 0, 2].as_slice());
+    Ok(())
+}

@@ -1,0 +1,11 @@
+-- The names of the algorithms.
+use Rattle.std.specs.Prelude.{ℕ, List, codes}
+use Rattle.cm_witness.specs.declared.algorithm.Algorithm.{Algorithm}
+use Rattle.cm_witness.specs.declared.algorithm.Algorithm.TheVariants.{Chm, Bdz, BdzPh, Brz}
+
+-- the word for an algorithm, on the command line and in reports
+abbrev pub name_of : Algorithm → List ℕ
+name_of Chm = codes "chm"
+name_of Bdz = codes "bdz"
+name_of BdzPh = codes "bdz_ph"
+name_of Brz = codes "brz"

@@ -1,0 +1,22 @@
+use crate::Algorithm;
+use std::test::Fail;
+
+/// The four words, each with its algorithm.
+const NAMES: [(&str, Algorithm); 4] = [
+    ("chm", Algorithm::Chm),
+    ("bdz", Algorithm::Bdz),
+    ("bdz_ph", Algorithm::BdzPh),
+    ("brz", Algorithm::Brz),
+];
+
+#[test]
+fn names(rt: HostRuntime) -> Result<(), Fail> {
+    for (name, algorithm) in NAMES {
+        assert_eq!(rt; algorithm.name(), name);
+        assert_eq!(rt; Algorithm::from_name(name), Some(algorithm));
+    }
+    for other in ["", "CHM", "bdz_", "bdz-ph", "chm ", "brzz"] {
+        assert_eq!(rt; Algorithm::from_name(other), None);
+    }
+    Ok(())
+}
