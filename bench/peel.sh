@@ -20,11 +20,14 @@ proved=crates/bench_peel/out/bench_peel
 "$out/peel" | diff - "$out/peel.proved" || { echo "the check sums differ" >&2; exit 1; }
 
 : >"$out/peel.times"
-# Runs a program on a graph: adds its times and its memory in KiB, and leaves its check sums.
+# Runs a program on a graph: adds its times, its processor time in seconds and its memory in KiB, and leaves its check sums.
 measure() {
-    "$timer" -o "$out/peel.memory" -f %M "$2" "$3" "$4" >"$out/peel.said"
+    local user system memory
+    "$timer" -o "$out/peel.used" -f '%U %S %M' "$2" "$3" "$4" >"$out/peel.said"
+    read -r user system memory <"$out/peel.used"
     sed -n "s/^time/$3 $4 $1/p" "$out/peel.said" >>"$out/peel.times"
-    echo "$3 $4 $1 memory $(cat "$out/peel.memory")" >>"$out/peel.times"
+    echo "$3 $4 $1 processor $(awk -v a="$user" -v b="$system" 'BEGIN { print a + b }')" >>"$out/peel.times"
+    echo "$3 $4 $1 memory $memory" >>"$out/peel.times"
     grep -v ^time "$out/peel.said" >"$out/peel.sums.$1"
 }
 for round in $(seq "$rounds"); do
@@ -37,10 +40,10 @@ for round in $(seq "$rounds"); do
     done
 done
 
-echo "Nanoseconds for an edge; the ratio is that of all of a program's work."
+echo "Nanoseconds for an edge; the ratio is that of all of this work. The last one is that of the programs' processor time, check sums included."
 echo
-echo "| ends | edges | proved: filling | peeling, with the order | plain Rust: filling | peeling | order | ratio |"
-echo "|---|---|---|---|---|---|---|---|"
+echo "| ends | edges | proved: filling | peeling, with the order | plain Rust: filling | peeling | order | ratio | of processor time |"
+echo "|---|---|---|---|---|---|---|---|---|"
 awk '
     { key = $1 " | " $2; if ($2 > 1 && !(key in edges)) { edges[key] = $2; order[++count] = key } }
     { if (!(($3, $4, key) in best) || $5 < best[$3, $4, key]) best[$3, $4, key] = $5 }
@@ -50,9 +53,10 @@ awk '
             key = order[i]
             ours = each("proved", "fill", key) + each("proved", "peel", key)
             theirs = each("plain", "fill", key) + each("plain", "peel", key) + each("plain", "order", key)
-            printf "| %s | %.0f | %.0f | %.0f | %.0f | %.0f | %.2f |\n", key, \
+            printf "| %s | %.0f | %.0f | %.0f | %.0f | %.0f | %.2f | %.2f |\n", key, \
                 each("proved", "fill", key), each("proved", "peel", key), \
-                each("plain", "fill", key), each("plain", "peel", key), each("plain", "order", key), ours / theirs
+                each("plain", "fill", key), each("plain", "peel", key), each("plain", "order", key), \
+                ours / theirs, best["proved", "processor", key] / best["plain", "processor", key]
         }
     }' "$out/peel.times"
 
