@@ -1,5 +1,9 @@
-//! What is written to one of std's writers. It doesn't tell what it holds.
-ghost use Rattle.std.specs.Prelude.{◌≡◌, None};
+//! What is written to one of std's writers. It doesn't tell what it holds; where the writer does, each piece that is taken is there
+//! in order.
+ghost use Rattle.std.specs.Prelude.{◌≡◌, [], None, true, OnOk};
+ghost use Rattle.std.specs.Io.KnownBytes.{Appends, append_known};
+ghost use Rattle.cm_outer.specs.Causes.{HasCause};
+ghost use Rattle.cm_outer.specs.Writing.{Writes};
 
 use arrayvec::ArrayVec;
 use cm_outer::{Failed, Sink};
@@ -57,6 +61,8 @@ impl<W: Write> StdSink<W> {
     /// Sends on what waits.
     fn send_on(&mut self) -> bool
         ensures faults { self.new.faults ≡ self.old.faults }
+        ensures sent { result ≡ true → self.new.waiting.items ≡ [] }
+        ensures taken { result ≡ true → Appends (append_known (W.contents self.old.writer) self.old.waiting.items) (append_known (W.contents self.new.writer) self.new.waiting.items) [] }
     {
         if self.writer.write_all(self.waiting.as_slice()).is_err() {
             return false;
@@ -68,6 +74,7 @@ impl<W: Write> StdSink<W> {
     /// Lets a piece wait, where it fits the buffer once what waits there was sent on; a larger one is sent on itself.
     fn take(&mut self, piece: &[u8]) -> bool
         ensures faults { self.new.faults ≡ self.old.faults }
+        ensures taken { result ≡ true → Appends (append_known (W.contents self.old.writer) self.old.waiting.items) (append_known (W.contents self.new.writer) self.new.waiting.items) piece.now }
     {
         if self.waiting.try_extend_from_slice(piece).is_ok() {
             return true;
@@ -80,6 +87,8 @@ impl<W: Write> StdSink<W> {
     /// Takes a piece. At a piece that ends a line where that is asked for, and at an empty one, nothing goes on waiting.
     fn pass_on(&mut self, piece: &[u8]) -> bool
         ensures faults { self.new.faults ≡ self.old.faults }
+        ensures sent { result ≡ true → piece.now ≡ [] → self.new.waiting.items ≡ [] }
+        ensures taken { result ≡ true → Appends (append_known (W.contents self.old.writer) self.old.waiting.items) (append_known (W.contents self.new.writer) self.new.waiting.items) piece.now }
     {
         let ends_line = self.by_lines && piece.last() == Some(&b'\n');
         if !self.take(piece) {
@@ -97,7 +106,12 @@ impl<W: Write> Sink for StdSink<W> {
 
     ghost faults = { λ s. s.faults };
 
-    fn write(&mut self, piece: &[u8]) -> Result<(), Failed> {
+    fn write(&mut self, piece: &[u8]) -> Result<(), Failed>
+        ensures bytes { Writes None None piece.now result }
+        ensures cause { HasCause self.old.faults self.new.faults result }
+        ensures sent { OnOk result (piece.now ≡ [] → self.new.waiting.items ≡ []) }
+        ensures taken { OnOk result (Appends (append_known (W.contents self.old.writer) self.old.waiting.items) (append_known (W.contents self.new.writer) self.new.waiting.items) piece.now) }
+    {
         if self.pass_on(piece) {
             Ok(())
         } else {
