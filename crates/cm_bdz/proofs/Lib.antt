@@ -1,0 +1,3 @@
+mod Pivots
+mod Ranking
+mod NumberingLemmas

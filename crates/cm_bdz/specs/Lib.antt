@@ -1,0 +1,3 @@
+pub mod BdzLaws
+pub mod Functions
+pub mod Numbering

@@ -1,0 +1,46 @@
+//! What functions by BDZ and BDZ_PH answer.
+ghost use Rattle.std.specs.Prelude.{ℕ, List, Option, Some, length};
+ghost use Rattle.cm_bdz.specs.Functions.{bdz_answer, bdz_ph_answer};
+
+use crate::bdz::Bdz;
+use crate::bdz_ph::BdzPh;
+use crate::choice::chosen;
+use cm_algo::Answers;
+use cm_bits::Cells;
+
+/// A key that the function was built over gets a number below the number of keys, and no other of these keys the same. Another
+/// key gets any number, or none.
+impl Answers for Bdz {
+    ghost span_of = { λ f. f.keys };
+
+    ghost answer_of = { λ f key. bdz_answer f key };
+
+    fn span(&self) -> u32 {
+        self.keys()
+    }
+
+    fn answer(&self, key: &[u8]) -> Option<u32> {
+        let cells = self.cells();
+        let v = chosen(cells, key, self.seed());
+        if cells.get(v) == 3 {
+            None
+        } else {
+            Some(self.ranks().rank(cells, v))
+        }
+    }
+}
+
+/// Every key gets a vertex: a key that the function was built over one that no other of these keys gets.
+impl Answers for BdzPh {
+    ghost span_of = { λ f. length f.cells };
+
+    ghost answer_of = { λ f key. Some (bdz_ph_answer f key) };
+
+    fn span(&self) -> u32 {
+        self.cells().len()
+    }
+
+    fn answer(&self, key: &[u8]) -> Option<u32> {
+        Some(chosen(self.cells(), key, self.seed()))
+    }
+}

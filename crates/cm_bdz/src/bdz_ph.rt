@@ -1,0 +1,79 @@
+//! Functions by BDZ_PH.
+ghost use Rattle.std.specs.Prelude.{◌≡◌, ℕ, ◌≤◌, length};
+ghost use Rattle.cm_bdz.specs.Functions.{IsThirds};
+ghost use Rattle.cm_bits.specs.declared.TheConstants.{MAX_CELLS};
+ghost use Rattle.cm_spec.specs.Bdz.{bdz_size};
+ghost use Rattle.cm_spec.specs.Rule.{IsRatio};
+
+use cm_algo::Built;
+use cm_bits::{Cells, Trits};
+use std::marker::Model;
+
+/// A function from keys to vertices. Clauses see its number of keys, its ratio in millionths, its seed and its cells.
+#[derive(Drop)]
+pub struct BdzPh {
+    built: Built<Trits>,
+}
+
+impl Model for BdzPh {
+    ghost use Rattle.std.specs.Prelude.{◌≡◌, ◌≤◌, length};
+    ghost use Rattle.cm_bdz.specs.Functions.{BdzPh};
+    ghost use Rattle.cm_spec.specs.Bdz.{bdz_size};
+    ghost use Rattle.cm_spec.specs.Rule.{IsRatio};
+
+    ghost Value = { BdzPh };
+
+    ghost view = { λ f. record { keys = f.built.m; ratio = f.built.c; seed = f.built.seed; cells = ⟦<Trits as Cells>⟧.cells f.built.cells } };
+
+    ghost invariant = { λ f. (1 ≤ f.built.m) × (f.built.m ≤ 16777216) × IsRatio f.built.c × (length (⟦<Trits as Cells>⟧.cells f.built.cells) ≡ bdz_size f.built.m f.built.c) };
+}
+
+impl BdzPh {
+    /// The function of what a build gave: from 1 to 16,777,216 keys, a ratio from 1,000,000 to 10,000,000 millionths, and as
+    /// many cells as the graph has vertices.
+    pub fn from_built(built: Built<Trits>) -> BdzPh
+        requires keys { (1 ≤ built.m) × (built.m ≤ 16777216) }
+        requires ratio { IsRatio built.c }
+        requires size { length (⟦<Trits as Cells>⟧.cells built.cells) ≡ bdz_size built.m built.c }
+        ensures keys { result.keys ≡ built.m }
+        ensures ratio { result.ratio ≡ built.c }
+        ensures seed { result.seed ≡ built.seed }
+        ensures cells { result.cells ≡ ⟦<Trits as Cells>⟧.cells built.cells }
+    {
+        BdzPh { built }
+    }
+
+    /// How many keys the function was built over.
+    pub fn keys(&self) -> u32
+        ensures keys { result ≡ self.now.keys }
+        ensures within { (1 ≤ result) × (result ≤ 16777216) }
+    {
+        self.built.m
+    }
+
+    /// The ratio of vertices to keys, in millionths.
+    pub fn c(&self) -> u32
+        ensures ratio { result ≡ self.now.ratio }
+        ensures within { IsRatio result }
+    {
+        self.built.c
+    }
+
+    /// The seed of its hash.
+    pub fn seed(&self) -> u32
+        ensures seed { result ≡ self.now.seed }
+    {
+        self.built.seed
+    }
+
+    /// The cells of its vertices.
+    #[tactic(auto, using(crate::specs::BdzLaws::few_cells))]
+    pub fn cells(&self) -> &Trits
+        ensures cells { ⟦<Trits as Cells>⟧.cells result.now ≡ self.now.cells }
+        ensures size { length self.now.cells ≡ bdz_size self.now.keys self.now.ratio }
+        ensures thirds { IsThirds (length self.now.cells) }
+        ensures few { length self.now.cells ≤ MAX_CELLS }
+    {
+        &self.built.cells
+    }
+}

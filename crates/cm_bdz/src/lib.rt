@@ -1,0 +1,17 @@
+//! BDZ and BDZ_PH (Botelho, Pagh, Ziviani 2007): three vertices a key, of which the cells choose one, and no two keys the same.
+#![tactic(auto)]
+
+mod answers;
+mod bdz;
+mod bdz_ph;
+mod choice;
+mod laws;
+mod scheme;
+#[cfg(test)]
+mod tests;
+
+pub use crate::bdz::{Bdz, PartsFault};
+pub use crate::bdz_ph::BdzPh;
+pub use crate::choice::chosen;
+pub use crate::laws::answers_apart;
+pub use crate::scheme::{BdzPhScheme, BdzScheme};

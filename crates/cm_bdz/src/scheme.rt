@@ -1,0 +1,131 @@
+//! BDZ and BDZ_PH as schemes.
+ghost use Rattle.std.specs.Prelude.{◌≡◌, ℕ, ◌+◌, ◌-◌, ◌*◌, ◌/◌, ◌%◌, ◌^◌, ◌<◌, ◌≤◌, false, refl, List, length};
+ghost use Rattle.cm_bdz.specs.BdzLaws.{bdz_is_rule, bdz_ph_is_rule};
+ghost use Rattle.cm_spec.specs.Bdz.{bdz_edge, bdz_rule, bdz_ph_rule, bdz_size};
+ghost use Rattle.cm_spec.specs.Rule.{IsCount, IsRatio, IsSize};
+
+use cm_algo::Scheme;
+use cm_bits::{Crumbs, Trits};
+
+/// The number of vertices for `m` keys and the ratio `c` in millionths: three thirds, each an odd number of at least 3 for one
+/// that would be 1.
+fn vertices(m: u32, c: u32) -> u32
+    requires many { IsCount m }
+    requires ratio { IsRatio c }
+    ensures size { result ≡ bdz_size m c }
+{
+    let least = (c as u64 * m as u64).div_ceil(3_000_000);
+    let odd = if least % 2 == 0 { least + 1 } else { least };
+    let third = if odd == 1 { 3 } else { odd };
+    3 * third as u32
+}
+
+/// The ends for the words of a key over three thirds of `third` vertices: one in each.
+pub(crate) fn triple(words: [u32; 3], third: u32) -> [u32; 3]
+    requires some { 0 < third }
+    requires room { 3 * third < 2 ^ 32 }
+    ensures edge { result ≡ bdz_edge words (3 * third) }
+{
+    [
+        words[0] % third,
+        third + words[1] % third,
+        2 * third + words[2] % third,
+    ]
+}
+
+/// Edges of three ends, and cells of two bits, in which 3 is an untouched one. The others add up to the position of the key's
+/// own vertex, modulo 3.
+#[derive(Clone, Copy, Drop)]
+pub struct BdzScheme {}
+
+impl Scheme<3> for BdzScheme {
+    type Table = Crumbs;
+
+    ghost rule = { λ _. bdz_rule };
+
+    ghost KEEPS_TAGS = { false };
+
+    ghost laws = { λ _. bdz_is_rule };
+
+    ghost untagged = { λ _ _ _. refl };
+
+    ghost bound_fits = { λ _ m many. refl };
+
+    const KEEPS_TAGS: bool = false;
+
+    fn size(&self, m: u32, c: u32) -> u32 {
+        vertices(m, c)
+    }
+
+    fn edge(&self, words: [u32; 3], n: u32) -> [u32; 3] {
+        triple(words, n / 3)
+    }
+
+    fn tag(&self, _words: [u32; 3]) -> u32 {
+        0
+    }
+
+    fn modulus(&self, _m: u32) -> u32 {
+        3
+    }
+
+    fn bound(&self, _m: u32) -> u32 {
+        4
+    }
+
+    fn idle(&self) -> u32 {
+        3
+    }
+
+    fn target(&self, _number: u32, position: u32, _tag: u32) -> u32 {
+        position
+    }
+}
+
+/// The same without ranks: an untouched cell is 0, and cells are digits in base 3.
+#[derive(Clone, Copy, Drop)]
+pub struct BdzPhScheme {}
+
+impl Scheme<3> for BdzPhScheme {
+    type Table = Trits;
+
+    ghost rule = { λ _. bdz_ph_rule };
+
+    ghost KEEPS_TAGS = { false };
+
+    ghost laws = { λ _. bdz_ph_is_rule };
+
+    ghost untagged = { λ _ _ _. refl };
+
+    ghost bound_fits = { λ _ m many. refl };
+
+    const KEEPS_TAGS: bool = false;
+
+    fn size(&self, m: u32, c: u32) -> u32 {
+        vertices(m, c)
+    }
+
+    fn edge(&self, words: [u32; 3], n: u32) -> [u32; 3] {
+        triple(words, n / 3)
+    }
+
+    fn tag(&self, _words: [u32; 3]) -> u32 {
+        0
+    }
+
+    fn modulus(&self, _m: u32) -> u32 {
+        3
+    }
+
+    fn bound(&self, _m: u32) -> u32 {
+        3
+    }
+
+    fn idle(&self) -> u32 {
+        0
+    }
+
+    fn target(&self, _number: u32, position: u32, _tag: u32) -> u32 {
+        position
+    }
+}

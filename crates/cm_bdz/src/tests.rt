@@ -1,0 +1,93 @@
+ghost use Rattle.std.specs.Prelude.{◌≡◌, ◌≤◌, length, IfOk};
+ghost use Rattle.cm_spec.specs.Bdz.{bdz_size};
+ghost use Rattle.cm_spec.specs.Rule.{IsRatio};
+
+use crate::{Bdz, BdzPh, PartsFault, answers_apart, chosen};
+use cm_algo::{Answers, Built};
+use cm_bits::{Cells, Crumbs, Trits};
+use std::alloc::{AllocError, Global};
+use std::test::Fail;
+
+/// A function of m keys over nine cells, all of them 3 but for those of these vertices, which are 0.
+fn function(alloc: Global, m: u32, zeros: &[u32]) -> Result<Result<Bdz, PartsFault>, AllocError>
+    requires keys { (1 ≤ m) × (m ≤ 2) }
+{
+    let mut cells = Crumbs::zeroed(alloc, 9, 4)?;
+    for v in 0..9u32 {
+        let is_zero = zeros.contains(&v);
+        if !is_zero && v < cells.len() && 3 < cells.bound() {
+            cells.set(v, 3);
+        }
+    }
+    if cells.len() != 9 {
+        return Err(AllocError);
+    }
+    let built = Built {
+        m,
+        c: 1_230_000,
+        seed: 0,
+        cells,
+    };
+    Ok(Bdz::from_built(alloc, built, 7))
+}
+
+fn answer<A: Answers>(function: &A, key: &[u8]) -> Option<u32> {
+    function.answer(key)
+}
+
+fn span<A: Answers>(function: &A) -> u32 {
+    function.span()
+}
+
+#[test]
+fn ranked_answers(rt: HostRuntime) -> Result<(), Fail> {
+    answers_apart();
+    let two = function(rt.alloc(), 2, &[1, 2])?;
+    match two {
+        Ok(two) => {
+            assert_eq!(rt; span(&two), 2);
+            assert_eq!(rt; answer(&two, b""), Some(0));
+            assert_eq!(rt; answer(&two, b"a"), Some(1));
+            assert_eq!(rt;
+                (two.keys(), two.c(), two.seed(), two.b()),
+                (2, 1_230_000, 0, 7)
+            );
+            assert_eq!(rt; two.ranks().entries(), 1);
+        }
+        Err(_) => assert!(rt; false),
+    }
+    let one = function(rt.alloc(), 1, &[1])?;
+    match one {
+        Ok(one) => {
+            assert_eq!(rt; answer(&one, b""), Some(0));
+            // The vertex that is chosen for this key is idle.
+            assert_eq!(rt; answer(&one, b"a"), None);
+        }
+        Err(_) => assert!(rt; false),
+    }
+    let other = function(rt.alloc(), 1, &[0, 1])?;
+    assert!(rt; matches!(other, Err(PartsFault::BadCount)));
+    Ok(())
+}
+
+/// A function over nine cells, which are 0.
+fn unranked(alloc: Global) -> Result<BdzPh, AllocError> {
+    let cells = Trits::zeroed(alloc, 9, 3)?;
+    Ok(BdzPh::from_built(Built {
+        m: 2,
+        c: 1_230_000,
+        seed: 0,
+        cells,
+    }))
+}
+
+#[test]
+fn unranked_answers(rt: HostRuntime) -> Result<(), Fail> {
+    let two = unranked(rt.alloc())?;
+    assert_eq!(rt; span(&two), 9);
+    assert_eq!(rt; answer(&two, b""), Some(1));
+    assert_eq!(rt; answer(&two, b"a"), Some(2));
+    assert_eq!(rt; chosen(two.cells(), b"a", 0), 2);
+    assert_eq!(rt; (two.keys(), two.c(), two.seed()), (2, 1_230_000, 0));
+    Ok(())
+}
