@@ -1,5 +1,9 @@
-//! Real files. Nothing here tells contents. A call that was interrupted is made again.
-ghost use Rattle.std.specs.Prelude.{◌≡◌, ◌≤◌, None, IfSome, length};
+//! Real files. Nothing here tells contents; where a file does, what is read of it is what comes next there. A call that was
+//! interrupted is made again.
+ghost use Rattle.std.specs.Prelude.{◌≡◌, ◌<◌, ◌≤◌, None, IfOk, IfSome, length, take};
+ghost use Rattle.std.specs.Io.KnownBytes.{Consumes, IsAtEnd};
+ghost use Rattle.std.specs.Io.Seek.{MovesTo};
+ghost use Rattle.cm_outer.specs.Causes.{HasCause};
 
 use crate::std_sink::StdSink;
 use cm_outer::{Disk, DiskFault, Failed, Sink, Source};
@@ -15,11 +19,13 @@ pub struct FileReader<F> {
     faults: u64,
 }
 
-/// Reads, and answers how many bytes came.
+/// Reads, and answers how many bytes came: none only at the end, or where there is no room.
 fn read_some<F: Read>(file: &mut F, buf: &mut [u8]) -> Option<usize>
     ensures bound { IfSome result (λ n. n ≤ length buf.old) }
+    ensures bytes { IfSome result (λ n. Consumes (F.remaining file.old) (F.remaining file.new) (take n buf.new)) }
+    ensures end { IfSome result (λ n. n ≡ 0 → 0 < length buf.old → IsAtEnd (F.remaining file.new)) }
 {
-    for _ in 0..u64::MAX {
+    'tries: for _ in 0..u64::MAX {
         match file.read(buf) {
             Ok(count) => return Some(count),
             Err(error) => {
@@ -39,7 +45,12 @@ impl<F: Read + Seek> Source for FileReader<F> {
 
     ghost faults = { λ s. s.faults };
 
-    fn read(&mut self, buf: &mut [u8]) -> Result<usize, Failed> {
+    fn read(&mut self, buf: &mut [u8]) -> Result<usize, Failed>
+        ensures bound { IfOk result (λ n. n ≤ length buf.old) }
+        ensures cause { HasCause self.old.faults self.new.faults result }
+        ensures bytes { IfOk result (λ n. Consumes (F.remaining self.old.file) (F.remaining self.new.file) (take n buf.new)) }
+        ensures end { IfOk result (λ n. n ≡ 0 → 0 < length buf.old → IsAtEnd (F.remaining self.new.file)) }
+    {
         match read_some(&mut self.file, buf) {
             Some(count) => Ok(count),
             None => {
@@ -49,7 +60,10 @@ impl<F: Read + Seek> Source for FileReader<F> {
         }
     }
 
-    fn rewind(&mut self) -> Result<(), Failed> {
+    fn rewind(&mut self) -> Result<(), Failed>
+        ensures cause { HasCause self.old.faults self.new.faults result }
+        ensures start { MovesTo (F.stream_position self.old.file) (F.stream_position self.new.file) 0 result }
+    {
         match self.file.seek(SeekFrom::Start(0)) {
             Ok(_) => Ok(()),
             Err(_) => {
