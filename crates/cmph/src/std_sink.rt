@@ -61,6 +61,7 @@ impl<W: Write> StdSink<W> {
     /// Sends on what waits.
     fn send_on(&mut self) -> bool
         ensures faults { self.new.faults ≡ self.old.faults }
+        ensures lines { self.new.by_lines ≡ self.old.by_lines }
         ensures sent { result ≡ true → self.new.waiting.items ≡ [] }
         ensures taken { result ≡ true → Appends (append_known (W.contents self.old.writer) self.old.waiting.items) (append_known (W.contents self.new.writer) self.new.waiting.items) [] }
     {
@@ -74,6 +75,7 @@ impl<W: Write> StdSink<W> {
     /// Lets a piece wait, where it fits the buffer once what waits there was sent on; a larger one is sent on itself.
     fn take(&mut self, piece: &[u8]) -> bool
         ensures faults { self.new.faults ≡ self.old.faults }
+        ensures lines { self.new.by_lines ≡ self.old.by_lines }
         ensures taken { result ≡ true → Appends (append_known (W.contents self.old.writer) self.old.waiting.items) (append_known (W.contents self.new.writer) self.new.waiting.items) piece.now }
     {
         if self.waiting.try_extend_from_slice(piece).is_ok() {
@@ -87,6 +89,7 @@ impl<W: Write> StdSink<W> {
     /// Takes a piece. At a piece that ends a line where that is asked for, and at an empty one, nothing goes on waiting.
     fn pass_on(&mut self, piece: &[u8]) -> bool
         ensures faults { self.new.faults ≡ self.old.faults }
+        ensures lines { self.new.by_lines ≡ self.old.by_lines }
         ensures sent { result ≡ true → piece.now ≡ [] → self.new.waiting.items ≡ [] }
         ensures taken { result ≡ true → Appends (append_known (W.contents self.old.writer) self.old.waiting.items) (append_known (W.contents self.new.writer) self.new.waiting.items) piece.now }
     {
@@ -109,6 +112,7 @@ impl<W: Write> Sink for StdSink<W> {
     fn write(&mut self, piece: &[u8]) -> Result<(), Failed>
         ensures bytes { Writes None None piece.now result }
         ensures cause { HasCause self.old.faults self.new.faults result }
+        ensures lines { self.new.by_lines ≡ self.old.by_lines }
         ensures sent { OnOk result (piece.now ≡ [] → self.new.waiting.items ≡ []) }
         ensures taken { OnOk result (Appends (append_known (W.contents self.old.writer) self.old.waiting.items) (append_known (W.contents self.new.writer) self.new.waiting.items) piece.now) }
     {
