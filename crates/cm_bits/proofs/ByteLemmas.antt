@@ -5,11 +5,11 @@ use Rattle.std.proofs.lemmas.Bool.{cases_eq, eqb-true, ltb-true, and_parts}
 use Rattle.cm_bits.specs.declared.packings.TheConstants.{DIGITS}
 
 -- whether each number below n passes a test
-all_below : (ℕ → Bool) → ℕ → Bool
+unfoldable pub all_below : (ℕ → Bool) → ℕ → Bool
 all_below f zero = true
 all_below f (suc n) = f n && all_below f n
 
-passes : (f : ℕ → Bool) (n k : ℕ) → all_below f n ≡ true → k < n → f k ≡ true
+pub passes : (f : ℕ → Bool) (n k : ℕ) → all_below f n ≡ true → k < n → f k ≡ true
 unfolding all_below
 passes f zero k e l = absurd (omega arith)
 passes f (suc n) k e l =

@@ -43,7 +43,7 @@ pub packed_room : (d p n : ℕ) (bs : List ℕ) → n ≤ MAX_CELLS → length (
 packed_room d p n bs h = omega (arith, length-packed_cells d p n bs)
 
 -- a place past the cells is 0, so each place is below d
-cell_lt : (d : ℕ) (xs : List ℕ) → 0 < d → AllBelow d xs → (k : ℕ) → slice_index xs k < d
+pub cell_lt : (d : ℕ) (xs : List ℕ) → 0 < d → AllBelow d xs → (k : ℕ) → slice_index xs k < d
 cell_lt d xs p h k = elim (cases_lt k (length xs)) [
   | inl l ↦ h k l
   | inr l ↦ rw (get_or_past xs k 0 l) p

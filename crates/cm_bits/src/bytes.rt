@@ -9,7 +9,7 @@ pub fn first_byte_from(bytes: &[u8], low: u32) -> Option<usize>
     bytes.iter().position(|b| *b as u32 >= low)
 }
 
-// The number that eight bytes from a place on make.
+/// The number that the eight bytes from place `at` on make, the first the lowest.
 #[inline]
 #[tactic(auto, unfolding(crate::specs::Held::window_at, cm_spec::specs::Image::digits_sum))]
 pub fn window(bytes: &[u8], at: usize) -> u64

@@ -18,6 +18,7 @@ pub mod packed;
 pub mod packings;
 pub mod plain;
 
+pub use bytes::window;
 pub use fault::ImageFault;
 pub use fields::Fields;
 pub use fill::filled;

@@ -5,6 +5,7 @@ ghost use Rattle.cm_bits.specs.Fault.{packed_fault};
 ghost use Rattle.cm_bits.specs.Held.{IsPacked, packed_cells};
 ghost use Rattle.cm_bits.specs.PackedLaws.{AllBelow-packed_cells, same_packed, zero_lt, at_base, packed_room, place_lt, packed_fault-image};
 ghost use Rattle.cm_spec.specs.Image.{packed_byte, packed_len};
+ghost use Rattle.cm_spec.specs.Lists.{list_of};
 ghost use Rattle.cm_bits.specs.declared.TheConstants.{MAX_CELLS};
 
 use crate::bytes::first_byte_from;
@@ -61,6 +62,15 @@ pub struct Packed<B: Packing> {
     packing: PhantomData<B>,
     ghost in_room: { n ≤ MAX_CELLS },
     ghost is_packed: { IsPacked B.BASE B.PER_BYTE n bytes.items },
+}
+
+impl<B: Packing> Packed<B> {
+    /// The bytes of the table's image, the first cell in the lowest bits or digit of the first byte.
+    pub fn image(&self) -> &[u8]
+        ensures image { result.now ≡ list_of (packed_byte B.BASE B.PER_BYTE (⟦<Packed<B> as Cells>⟧.cells self.now)) (packed_len B.PER_BYTE (length (⟦<Packed<B> as Cells>⟧.cells self.now))) }
+    {
+        &self.bytes
+    }
 }
 
 impl<B: Packing> Cells for Packed<B> {

@@ -224,3 +224,13 @@ fn filled_tables(rt: HostRuntime) -> Result<(), Fail> {
     has_filled_image::<Fields>(&rt, alloc, 5, 4, &[0x24, 0x49])?;
     has_filled_image::<Plain>(&rt, alloc, 2, 0, &[0; 20])
 }
+
+#[test]
+fn lent_images(rt: HostRuntime) -> Result<(), Fail> {
+    let alloc = rt.alloc();
+    let trits: Trits = filled(alloc, 7, 3, 1)?;
+    assert_eq!(rt; trits.image(), [0x79, 0x04].as_slice());
+    let none = Crumbs::zeroed(alloc, 0, 4)?;
+    assert_eq!(rt; none.image().len(), 0);
+    Ok(())
+}

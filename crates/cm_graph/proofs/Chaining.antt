@@ -148,9 +148,9 @@ chained_less k e j ends less more chains next next' x first n a within is same c
     (λ u ne. sym (count_other n u ne))
     (λ u p ne. sym (place_other n u p ne))
 
--- the chain of the place's vertex has it
-pub degree_some : {k e j : ℕ} {ends : List ℕ} {less more : List (Option (List ℕ))} {chains : List Chain} {next : List ℕ} (x : Chain) → AreNext k e j ends less more → AreChained k chains next more → get_or ends j 0 < length chains → x ≡ get_or chains (get_or ends j 0) x → x.degree ≡ suc (x.degree - 1)
-degree_some {j = j} {ends = ends} x n a within is = omega (arith, degree_is a (get_or ends j 0) x within is, count_here n)
+-- the chain of the place's vertex has it, so it is not empty
+pub degree_is_suc : {k e j : ℕ} {ends : List ℕ} {less more : List (Option (List ℕ))} {chains : List Chain} {next : List ℕ} (x : Chain) → AreNext k e j ends less more → AreChained k chains next more → get_or ends j 0 < length chains → x ≡ get_or chains (get_or ends j 0) x → x.degree ≡ suc (x.degree - 1)
+degree_is_suc {j = j} {ends = ends} x n a within is = omega (arith, degree_is a (get_or ends j 0) x within is, count_here n)
 
 -- taken out where it is the first of its chain
 chained_less_first : (k e j : ℕ) (ends : List ℕ) (less more : List (Option (List ℕ))) (chains : List Chain) (next : List ℕ) (x : Chain)
@@ -163,7 +163,7 @@ chained_less_first k e j ends less more chains next x n a within is here =
     q = e * k + j
 
     chain : chain_from next x ≡ q ∷ chain_of next (get_or next q 0) (x.degree - 1)
-    chain = ap (chain_of next x.first) (degree_some x n a within is) ∙ ap (λ i. chain_of next i (suc (x.degree - 1))) here
+    chain = ap (chain_of next x.first) (degree_is_suc x n a within is) ∙ ap (λ i. chain_of next i (suc (x.degree - 1))) here
 
     old : (p : ℕ) → times p (chain_from next x) ≡ cond (eqb q p) 1 0 + times p (chain_of next (get_or next q 0) (x.degree - 1))
     old p = ap (times p) chain ∙ times-cons p q (chain_of next (get_or next q 0) (x.degree - 1))
@@ -188,7 +188,7 @@ chained_less_later k e j ends less more chains next x n a within is other =
     m = x.degree - 1
 
     chain : chain_from next x ≡ chain_of next x.first (suc m)
-    chain = ap (chain_of next x.first) (degree_some x n a within is)
+    chain = ap (chain_of next x.first) (degree_is_suc x n a within is)
 
     same : (p : ℕ) → times p (chain_from next x) ≡ times p (chain_of next x.first (suc m))
     same p = ap (times p) chain
@@ -204,7 +204,7 @@ chained_less_later k e j ends less more chains next x n a within is other =
     kept : (u : ℕ) (w : Chain) → u ≢ v → u < length chains → chain_from (set next at (get_or next q 0)) (get_or chains u w) ≡ chain_from next (get_or chains u w)
     kept u w ne h = go (cases_Bool (is_place k more u at)) where
       go : (is_place k more u at ≡ true) ⊎ (is_place k more u at ≡ false) → chain_from (set next at (get_or next q 0)) (get_or chains u w) ≡ chain_from next (get_or chains u w)
-      go (inl one) = absurd (ne (stands_same u v _ _ one (there_is_place a v x within is at (before_there a v x within is q (omega (arith, degree_some x n a within is))))))
+      go (inl one) = absurd (ne (stands_same u v _ _ one (there_is_place a v x within is at (before_there a v x within is q (omega (arith, degree_is_suc x n a within is))))))
       go (inr none) = chain_kept next (get_or chains u w).first (get_or chains u w).degree at (get_or next q 0) (a.places u at w h ∙ cond-false _ _ _ none)
 
 pub chained_cut : (k e j : ℕ) (ends : List ℕ) (less more : List (Option (List ℕ))) (chains : List Chain) (next : List ℕ) (x : Chain)

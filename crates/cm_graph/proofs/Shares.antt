@@ -125,8 +125,8 @@ kept-unlink vertices vertices' ss e ends k long there changed = record {
   edges_changed false x = sym (xor_zero_r x.edges)
 
 -- an end of a linked edge has a degree
-pub degree_some : (v : ℕ) (ss : List (Option (List ℕ))) (e : ℕ) (ends : List ℕ) → slice_get ss e ≡ Some (Some ends) → cond (touches v ends) 1 0 ≤ count_by (slot_touches v) ss
-degree_some v ss e ends h =
+pub end_has_degree : (v : ℕ) (ss : List (Option (List ℕ))) (e : ℕ) (ends : List ℕ) → slice_get ss e ≡ Some (Some ends) → cond (touches v ends) 1 0 ≤ count_by (slot_touches v) ss
+end_has_degree v ss e ends h =
     let d : count_by (slot_touches v) (set ss e None) + cond (touches v ends) 1 0 ≡ count_by (slot_touches v) ss = degree-unlink v ss e ends h in
     omega arith
 

@@ -1,1 +1,2 @@
 mod RankLemmas
+mod WordLemmas

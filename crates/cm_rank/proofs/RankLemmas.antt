@@ -1,82 +1,82 @@
--- Ranks of one cell more, and the samples of so many cells.
-use Rattle.std.proofs.Common.{◌≡◌, ◌≢◌, ◌∙◌, ℕ, ◌+◌, ◌*◌, ◌/◌, ◌%◌, ◌^◌, ◌<◌, ◌≤◌, List, [], ◌∷◌, ◌++◌, length, inl, inr, refl, ap, sym, arith}
-use Rattle.std.specs.Prelude.{not, slice_index}
+-- Ranks of some cells more, and the samples of so many blocks.
+use Rattle.std.proofs.Common.{◌≡◌, ◌∙◌, ℕ, zero, suc, cond, take, ◌+◌, ◌*◌, ◌/◌, ◌%◌, ◌^◌, ◌<◌, ◌≤◌, List, [], ◌∷◌, ◌++◌, length, inl, inr, refl, ap, sym, arith}
+use Rattle.std.specs.Prelude.{min, slice_index, count_by}
 use Rattle.std.specs.Int.{div_ceil}
-use Rattle.std.proofs.Math.Nat.{div-add-mod, le-mul_of_pos_right}
-use Rattle.std.proofs.lemmas.Bool.{cases_lt, eq-eqb, ne_eqb}
-use Rattle.std.proofs.lemmas.List.FromFn.{get_or-map-range_with_len, length-map-range_with_len, map-range_with_len_more}
-use Rattle.std.proofs.lemmas.List.Sums.{count_by_more_no, count_by_more_yes}
-use Rattle.std.proofs.lemmas.Nat.{div-mul-add, mod-mul-add, mod_below, pow_pos}
+use Rattle.std.proofs.Math.Nat.{div-add-mod, le-mul_of_pos_right, mul-le-mul_left}
+use Rattle.std.proofs.Math.Seq.{take-length}
+use Rattle.std.proofs.lemmas.List.{length-take, take_all}
+use Rattle.std.proofs.lemmas.Bool.{cases_lt}
+use Rattle.std.proofs.lemmas.List.FromFn.{get_or-map-range_with_len, length-map-range_with_len, map-range_with_len_more, sum_by-map-range_with_len_more}
+use Rattle.std.proofs.lemmas.List.Sums.{count_by-le-length, sum_by_more}
+use Rattle.std.proofs.lemmas.Nat.{pow_pos}
 use Rattle.cm_bits.specs.PackedLaws.{place_lt}
 use Rattle.cm_rank.specs.Ranks.{Samples, StandsFor, rank_of, sampled}
 use Rattle.cm_spec.specs.Cells.{is_busy}
 use Rattle.cm_spec.specs.Lists.{list_of}
 
--- past a cell that is not idle, and past one that is
-pub rank_busy : (idle : ℕ) (cells : List ℕ) (i x : ℕ) → i < length cells → x ≡ slice_index cells i → x ≢ idle → rank_of idle cells (i + 1) ≡ rank_of idle cells i + 1
-rank_busy idle cells i x inside is busy = count_by_more_yes (is_busy idle) cells i 0 inside (ap not (ne_eqb (slice_index cells i) idle (λ same. busy (is ∙ same))))
+-- past a cell more
+pub rank_more : (idle : ℕ) (cells : List ℕ) (i : ℕ) → i < length cells → rank_of idle cells (i + 1) ≡ rank_of idle cells i + cond (is_busy idle (slice_index cells i)) 1 0
+rank_more idle cells i inside = sum_by_more (λ x. cond {A = ℕ} (is_busy idle x) 1 0) cells i 0 inside
 
-pub rank_idle : (idle : ℕ) (cells : List ℕ) (i x : ℕ) → i < length cells → x ≡ slice_index cells i → x ≡ idle → rank_of idle cells (i + 1) ≡ rank_of idle cells i
-rank_idle idle cells i x inside is same = count_by_more_no (is_busy idle) cells i 0 inside (ap not (eq-eqb (slice_index cells i) idle (sym is ∙ same)))
+-- past n cells more
+pub rank_run : (idle : ℕ) (cells : List ℕ) (at n : ℕ) → at + n ≤ length cells → rank_of idle cells at + count_by (is_busy idle) (list_of (λ i. slice_index cells (at + i)) n) ≡ rank_of idle cells (at + n)
+rank_run idle cells at zero inside = let none : at + 0 ≡ at = omega arith in rw none (omega arith)
+rank_run idle cells at (suc n) inside =
+    let f = λ (i : ℕ). slice_index cells (at + i) in
+    let next : suc n ≡ n + 1 = omega arith in
+    let rank : rank_of idle cells (at + suc n) ≡ rank_of idle cells (at + n + 1) = ap (rank_of idle cells) (omega arith) in
+    let count : count_by (is_busy idle) (list_of f (suc n)) ≡ count_by (is_busy idle) (list_of f n) + cond (is_busy idle (slice_index cells (at + n))) 1 0 =
+    ap (λ k. count_by (is_busy idle) (list_of f k)) next ∙ sum_by-map-range_with_len_more (λ x. cond {A = ℕ} (is_busy idle x) 1 0) f 0 n n (omega arith) in
+    omega (arith, rank, count, rank_run idle cells at n (omega arith), rank_more idle cells (at + n) (omega arith))
 
--- the samples of the first i cells, step apart
+-- a rank is no higher than its place
+pub rank_le : (idle : ℕ) (cells : List ℕ) (i : ℕ) → rank_of idle cells i ≤ i
+rank_le idle cells i = omega (arith, count_by-le-length (is_busy idle) (take i cells), length-take i cells)
+
+-- nor than the number of cells
+pub rank_le_all : (idle : ℕ) (cells : List ℕ) (i : ℕ) → rank_of idle cells i ≤ length cells
+rank_le_all idle cells i = omega (arith, count_by-le-length (is_busy idle) (take i cells), length-take i cells)
+
+-- past the last cell ranks rise no more
+pub rank_past_all : (idle : ℕ) (cells : List ℕ) (i : ℕ) → length cells ≤ i → rank_of idle cells i ≡ rank_of idle cells (length cells)
+rank_past_all idle cells i past = ap (count_by (is_busy idle)) (take_all i cells past ∙ sym (take-length cells))
+
+-- the first k samples, step apart
 abbrev pub samples_to : ℕ → List ℕ → ℕ → ℕ → List ℕ
-samples_to idle cells step i = list_of (λ k. rank_of idle cells (k * step)) (div_ceil i step)
+samples_to idle cells step k = list_of (λ j. rank_of idle cells (j * step)) k
 
--- a cell more makes a sample more at each multiple of the step
-ceil_more : (step i : ℕ) → 0 < step → i % step ≡ 0 → div_ceil (i + 1) step ≡ div_ceil i step + 1
-ceil_more step i some whole =
-    let parts : step * (i / step) + i % step ≡ i = div-add-mod i step in
-    elim (cases_lt 1 step) [
-      | inl l ↦
-          let next : i + 1 ≡ i / step * step + 1 = omega arith in
-          let quotient : (i + 1) / step ≡ i / step = ap (λ x. x / step) next ∙ div-mul-add (i / step) step 1 l in
-          let rest : (i + 1) % step ≡ 1 = ap (λ x. x % step) next ∙ mod-mul-add (i / step) step 1 l in
-          rw (quotient, rest, whole) (omega arith)
-      | inr l ↦ let one : step ≡ 1 = omega arith in rw one (omega arith)
+pub samples_more : (step idle k : ℕ) (cells ranks new : List ℕ) (rank : ℕ) → rank ≡ rank_of idle cells (k * step) → ranks ≡ samples_to idle cells step k → new ≡ ranks ++ rank ∷ [] → new ≡ samples_to idle cells step (k + 1)
+samples_more step idle k cells ranks new rank is so_far pushed = rw (pushed, so_far, is) (sym (map-range_with_len_more (λ j. rank_of idle cells (j * step)) 0 k k (omega arith)))
+
+-- a block starts at a cell
+pub block_within : (step len k : ℕ) → 0 < step → k < div_ceil len step → k * step < len
+block_within step len k some l =
+    let parts : step * (len / step) + len % step ≡ len = div-add-mod len step in
+    elim (cases_lt k (len / step)) [
+      | inl m ↦ let below : step * (k + 1) ≤ step * (len / step) = mul-le-mul_left step (omega arith) in omega (arith, below, parts)
+      | inr m ↦ let last : k ≡ len / step = omega arith in let part : 0 < len % step = omega arith in rw last (omega (arith, parts, part))
     ]
 
--- and none elsewhere
-ceil_same : (step i : ℕ) → 0 < step → i % step ≢ 0 → div_ceil (i + 1) step ≡ div_ceil i step
-ceil_same step i some part =
-    let parts : step * (i / step) + i % step ≡ i = div-add-mod i step in
-    let below : i % step < step = mod_below i step some in
-    elim (cases_lt (i % step + 1) step) [
-      | inl l ↦
-          let next : i + 1 ≡ i / step * step + (i % step + 1) = omega arith in
-          let quotient : (i + 1) / step ≡ i / step = ap (λ x. x / step) next ∙ div-mul-add (i / step) step (i % step + 1) l in
-          let rest : (i + 1) % step ≡ i % step + 1 = ap (λ x. x % step) next ∙ mod-mul-add (i / step) step (i % step + 1) l in
-          rw (quotient, rest) (omega arith)
-      | inr l ↦
-          let next : i + 1 ≡ (i / step + 1) * step + 0 = omega arith in
-          let quotient : (i + 1) / step ≡ i / step + 1 = ap (λ x. x / step) next ∙ div-mul-add (i / step + 1) step 0 some in
-          let rest : (i + 1) % step ≡ 0 = ap (λ x. x % step) next ∙ mod-mul-add (i / step + 1) step 0 some in
-          rw (quotient, rest) (omega arith)
+-- and ends at the next, or at the last cell
+pub block_end : (idle step k : ℕ) (cells : List ℕ) → rank_of idle cells (min (length cells) (k * step + step)) ≡ rank_of idle cells ((k + 1) * step)
+block_end idle step k cells =
+    let next : (k + 1) * step ≡ k * step + step = omega arith in
+    elim (cases_lt (k * step + step) (length cells)) [
+      | inl l ↦ let least : min (length cells) (k * step + step) ≡ k * step + step = omega arith in rw (least, next) refl
+      | inr l ↦ let least : min (length cells) (k * step + step) ≡ length cells = omega arith in rw (least, next) (sym (rank_past_all idle cells (k * step + step) l))
     ]
 
-pub samples_more : (step idle i : ℕ) (cells ranks new : List ℕ) (rank : ℕ) → 0 < step → i % step ≡ 0 → rank ≡ rank_of idle cells i → ranks ≡ samples_to idle cells step i → new ≡ ranks ++ rank ∷ [] → new ≡ samples_to idle cells step (i + 1)
-samples_more step idle i cells ranks new rank some whole is so_far pushed =
-    let parts : step * (i / step) + i % step ≡ i = div-add-mod i step in
-    let at : div_ceil i step * step ≡ i = rw whole (omega arith) in
-    let f = λ (k : ℕ). rank_of idle cells (k * step) in
-    rw (ceil_more step i some whole, pushed, so_far, is)
-    (sym (map-range_with_len_more f 0 (div_ceil i step) (div_ceil i step) (omega arith) ∙ ap (λ (x : ℕ). list_of f (div_ceil i step) ++ rank_of idle cells x ∷ []) at))
-
-pub samples_same : (step idle i : ℕ) (cells ranks : List ℕ) → 0 < step → i % step ≢ 0 → ranks ≡ samples_to idle cells step i → ranks ≡ samples_to idle cells step (i + 1)
-samples_same step idle i cells ranks some part so_far = rw (ceil_same step i some part) so_far
-
--- there are no more samples than cells
-pub few_samples : (step idle i : ℕ) (cells ranks : List ℕ) → 0 < step → ranks ≡ samples_to idle cells step i → length ranks ≤ i
-few_samples step idle i cells ranks some is =
-    let parts : step * (i / step) + i % step ≡ i = div-add-mod i step in
-    let less : i / step ≤ i / step * step = le-mul_of_pos_right (i / step) some in
-    let many : length ranks ≡ div_ceil i step = ap length is ∙ length-map-range_with_len _ 0 _ in
+-- there are no more blocks than cells
+pub few_blocks : (step len : ℕ) → 0 < step → div_ceil len step ≤ len
+few_blocks step len some =
+    let parts : step * (len / step) + len % step ≡ len = div-add-mod len step in
+    let less : len / step ≤ len / step * step = le-mul_of_pos_right (len / step) some in
     omega arith
 
--- the samples of all cells are what a table of ranks has
-pub stands_for : (step idle shift i : ℕ) (cells ranks : List ℕ) → i ≡ length cells → step ≡ 2 ^ shift → ranks ≡ samples_to idle cells step i → ranks ≡ sampled idle shift cells
+-- the samples of all blocks are what a table of ranks has
+pub stands_for : (step idle shift k : ℕ) (cells ranks : List ℕ) → k ≡ div_ceil (length cells) step → step ≡ 2 ^ shift → ranks ≡ samples_to idle cells step k → ranks ≡ sampled idle shift cells
 unfolding sampled
-stands_for step idle shift i cells ranks all step_is is = rw (is, all, step_is) refl
+stands_for step idle shift k cells ranks all step_is is = rw (is, all, step_is) refl
 
 pub length-samples : (t : Samples) (cells : List ℕ) → StandsFor t cells → length t.ranks ≡ div_ceil (length cells) (2 ^ t.shift)
 unfolding sampled

@@ -1,5 +1,5 @@
 -- How many cells before a place are not idle.
-use Rattle.std.specs.Prelude.{◌≡◌, ℕ, ◌*◌, ◌^◌, List, length, take, count_by}
+use Rattle.std.specs.Prelude.{◌≡◌, ℕ, ◌*◌, ◌/◌, ◌%◌, ◌^◌, List, length, take, count_by}
 use Rattle.std.specs.Int.{div_ceil}
 use Rattle.cm_spec.specs.Cells.{is_busy}
 use Rattle.cm_spec.specs.Lists.{list_of}
@@ -21,3 +21,7 @@ sampled idle shift cells = list_of (λ k. rank_of idle cells (k * 2 ^ shift)) (d
 -- the ranks are those of these cells
 abbrev pub StandsFor : Samples → List ℕ → Type 0
 StandsFor t cells = t.ranks ≡ sampled t.idle t.shift cells
+
+-- the lowest n pairs of bits of a number
+abbrev pub crumbs_of : ℕ → ℕ → List ℕ
+crumbs_of word n = list_of (λ i. word / 4 ^ i % 4) n

@@ -3,6 +3,7 @@ ghost use Rattle.std.specs.Prelude.{◌≡◌, ℕ, List, ◌+◌, ◌*◌, ◌^
 ghost use Rattle.std.specs.Int.{div_ceil};
 ghost use Rattle.cm_rank.specs.Ranks.{rank_of, StandsFor};
 
+use crate::counted::Counted;
 use cm_bits::Cells;
 use std::alloc::{AllocError, Global};
 use std::marker::Model;
@@ -29,7 +30,7 @@ impl Model for RankTable {
 
 impl RankTable {
     /// The ranks of the cells that are not idle, of every `2^b`-th cell, with b from 3 to 10. Refused only for want of memory.
-    pub fn build<C: Cells>(
+    pub fn build<C: Counted>(
         alloc: Global,
         cells: &C,
         idle: u32,
@@ -42,34 +43,27 @@ impl RankTable {
         ensures stands { IfOk result (λ t. StandsFor t (C.cells cells.now)) }
     {
         let step = 1 << b;
-        let mut ranks = Vec::with_capacity(alloc, cells.len().div_ceil(step) as usize)?;
+        let len = cells.len();
+        let blocks = len.div_ceil(step);
+        let mut ranks = Vec::with_capacity(alloc, blocks as usize)?;
         let mut rank = 0;
-        for i in 0..cells.len() {
-            if i % step == 0 {
-                ranks.push(rank)?;
-            }
-            if cells.get(i) != idle {
-                rank += 1;
-            }
+        for k in 0..blocks {
+            ranks.push(rank)?;
+            let from = k * step;
+            rank += cells.count_busy(idle, from, len.min(from + step));
         }
         Ok(RankTable { ranks, idle, b })
     }
 
     /// How many of the first i cells are not idle. Fewer than `2^b` cells are looked at.
-    pub fn rank<C: Cells>(&self, cells: &C, i: u32) -> u32
+    pub fn rank<C: Counted>(&self, cells: &C, i: u32) -> u32
         requires stands { StandsFor self.now (C.cells cells.now) }
         requires index { i < length (C.cells cells.now) }
         ensures rank { result ≡ rank_of self.now.idle (C.cells cells.now) i }
     {
         let step = 1 << self.b;
-        let place = i / step;
-        let mut rank = self.ranks[place as usize];
-        for j in place * step..i {
-            if cells.get(j) != self.idle {
-                rank += 1;
-            }
-        }
-        rank
+        let block = i / step;
+        self.ranks[block as usize] + cells.count_busy(self.idle, block * step, i)
     }
 
     /// How many ranks there are: one for each `2^b` cells, and one for what is left of them.

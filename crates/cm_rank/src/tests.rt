@@ -1,14 +1,14 @@
 ghost use Rattle.std.specs.Prelude.{◌≤◌, length};
 ghost use Rattle.cm_rank.specs.Ranks.{StandsFor};
 
-use crate::RankTable;
+use crate::{Counted, RankTable};
 use cm_bits::{Bits, Cells, Crumbs, Plain};
 use std::alloc::{AllocError, Global};
 use std::process::Abort;
 use std::test::Fail;
 
 /// Whether the rank of each cell from `from` on is the one before it, and one more past a cell that is not idle.
-fn counts_on<C: Cells>(cells: &C, table: &RankTable, idle: u32, from: u32) -> bool
+fn counts_on<C: Counted>(cells: &C, table: &RankTable, idle: u32, from: u32) -> bool
     requires stands { StandsFor table.now (C.cells cells.now) }
 {
     let len = cells.len();
@@ -43,7 +43,7 @@ fn table_of<C: Cells>(alloc: Global, values: &[u32], bound: u32) -> Result<C, Al
 }
 
 /// Checks the ranks of a table of these cells, and that there are so many entries.
-fn check<C: Cells + Drop>(
+fn check<C: Counted + Drop>(
     rt: &impl Abort,
     alloc: Global,
     values: &[u32],
@@ -81,7 +81,7 @@ fn last_entry(table: &RankTable) -> Option<u32> {
 }
 
 /// The rank of the last cell.
-fn last_rank<C: Cells>(cells: &C, table: &RankTable) -> Option<u32>
+fn last_rank<C: Counted>(cells: &C, table: &RankTable) -> Option<u32>
     requires stands { StandsFor table.now (C.cells cells.now) }
 {
     let len = cells.len();
@@ -106,5 +106,68 @@ fn long_table(rt: HostRuntime) -> Result<(), Fail> {
     let cells = Crumbs::zeroed(rt.alloc(), 8_000_000, 4)?;
     let table = RankTable::build(rt.alloc(), &cells, 3, 7)?;
     assert!(rt; counts_on(&cells, &table, 3, 7_000_000));
+    Ok(())
+}
+
+/// A table of n cells of all values that a mask of the lowest bits leaves, in no order.
+fn scattered<C: Cells>(alloc: Global, n: u32, bound: u32, mask: u32) -> Result<C, AllocError>
+    requires room { n ≤ 1000 }
+    requires fit { C.fits bound }
+{
+    let mut cells = C::zeroed(alloc, n, bound)?;
+    for i in 0..n {
+        let value = (i.wrapping_mul(2_654_435_761) >> 20) & mask;
+        if i < cells.len() && value < cells.bound() {
+            cells.set(i, value);
+        }
+    }
+    Ok(cells)
+}
+
+/// Whether the counts from a place to each later one are those of a plain loop.
+fn counts_from<C: Counted>(cells: &C, idle: u32, from: u32) -> bool {
+    let len = cells.len();
+    let mut count = 0u32;
+    for until in from..len {
+        if cells.count_busy(idle, from, until) != count {
+            return false;
+        }
+        if cells.get(until) != idle {
+            count = count.wrapping_add(1);
+        }
+    }
+    from > len || cells.count_busy(idle, from, len) == count
+}
+
+/// Whether the counts from each place to each later one are.
+fn counts_between<C: Counted>(cells: &C, idle: u32) -> bool {
+    for from in 0..cells.len() + 1 {
+        if !counts_from(cells, idle, from) {
+            return false;
+        }
+    }
+    true
+}
+
+/// Images of 64 bytes and more end within a word, and at the end of one.
+#[test]
+fn counts_by_words(rt: HostRuntime) -> Result<(), Fail> {
+    for n in 250..290u32 {
+        let cells: Crumbs = scattered(rt.alloc(), n, 4, 3)?;
+        assert!(rt; counts_between(&cells, 3));
+    }
+    Ok(())
+}
+
+#[test]
+fn counts_by_cells(rt: HostRuntime) -> Result<(), Fail> {
+    let crumbs: Crumbs = scattered(rt.alloc(), 140, 4, 3)?;
+    assert!(rt; counts_between(&crumbs, 0));
+    assert!(rt; counts_between(&crumbs, 2));
+    assert!(rt; counts_between(&crumbs, 7));
+    let bits: Bits = scattered(rt.alloc(), 140, 2, 1)?;
+    assert!(rt; counts_between(&bits, 1));
+    let plain: Plain = scattered(rt.alloc(), 140, 1000, 511)?;
+    assert!(rt; counts_between(&plain, 300));
     Ok(())
 }

@@ -1,11 +1,15 @@
 -- What a build over numbered keys gives: each key with the number of its line, in order.
-use Rattle.std.specs.Prelude.{◌≡◌, ℕ, ◌<◌, Bool, nat_eq, List, length, map, find, slice_index, Option}
+use Rattle.std.specs.Prelude.{◌≡◌, ℕ, ◌<◌, Bool, nat_eq, List, [], length, map, find, slice_index, slice_index_or, Option}
 use Rattle.cm_spec.specs.Lookup2.{words}
 use Rattle.cm_spec.specs.Rounds.{rest_of}
 use Rattle.cm_spec.specs.Core.{HasEmptyCore}
 use Rattle.cm_spec.specs.Rule.{Rule}
 use Rattle.cm_spec.specs.Cells.{plan_of, cells_of}
 use Rattle.cm_spec.specs.Chm.{Chm, chm_rule}
+
+-- the bytes of key number i, counted from 0
+abbrev pub key_at : List (ℕ × List ℕ) → ℕ → List ℕ
+key_at keys i = (slice_index_or keys i (0, [])).1
 
 -- the ends of a numbered key over n vertices
 abbrev pub edge_of : Rule → ℕ → ℕ → ℕ × List ℕ → List ℕ

@@ -7,7 +7,7 @@ use Rattle.cm_graph.specs.Chained.{chain_without, next_without}
 use Rattle.cm_graph.specs.declared.linked.Chain.{Chain}
 use Rattle.cm_graph.proofs.Changes.{written_back}
 use Rattle.cm_graph.proofs.Places.{AreNext, next_taken}
-use Rattle.cm_graph.proofs.Chaining.{chained_cut, degree_some, chain_all_within, place_fits}
+use Rattle.cm_graph.proofs.Chaining.{chained_cut, degree_is_suc, chain_all_within, place_fits}
 use Rattle.cm_graph.proofs.linked.Linked.take_out.Goals as goal
 
 -- the place is linked, and its vertex has a chain
@@ -22,7 +22,7 @@ facts k e j ends l chains slots is h wide edge linked =
 pub cut-requires-clause-some : goal.cut-requires-clause-some
 cut-requires-clause-some g c =
     let f = facts g.row.K c.args.e c.args.j c.args.ends c.args.self.now c.self.inside.chains.items c.self.inside.slots.each c.self.view_is c.requires.position (search rules) c.requires.edge c.requires.linked in
-    omega (arith, degree_some c.index-chain.result.now f.0 c.self.invariant f.1 c.index-chain.ensures)
+    omega (arith, degree_is_suc c.index-chain.result.now f.0 c.self.invariant f.1 c.index-chain.ensures)
 
 pub cut-requires-clause-place : goal.cut-requires-clause-place
 cut-requires-clause-place g c =

@@ -5,7 +5,7 @@ use Rattle.cm_graph.specs.Graph.{Links, slot_touches}
 use Rattle.cm_graph.specs.Kept.{AreKept, AreChanged, without_edge}
 use Rattle.cm_graph.specs.declared.xored.Vertex.{Vertex}
 use Rattle.cm_graph.proofs.Changes.{written_back}
-use Rattle.cm_graph.proofs.Shares.{kept-unlink, links_eq, degree_some}
+use Rattle.cm_graph.proofs.Shares.{kept-unlink, links_eq, end_has_degree}
 use Rattle.cm_graph.proofs.xored.XoredIncidence.unlink.Goals as goal
 
 -- each end of a linked edge has a degree
@@ -14,7 +14,7 @@ some vertices now slots e ends k there is v x h =
     let same : (get_or now v x).degree ≡ (get_or vertices v x).degree = ap (λ (xs : List Vertex). (get_or xs v x).degree) is in
     let within : v < length vertices = omega (arith, ap length is) in
     let degree : (get_or vertices v x).degree ≡ count_by (slot_touches v) slots = k.degree v x within in
-    omega (arith, degree_some v slots e ends there)
+    omega (arith, end_has_degree v slots e ends there)
 
 pub lower-requires : goal.lower-requires
 lower-requires g c =

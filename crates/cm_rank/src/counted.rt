@@ -1,0 +1,53 @@
+//! Counts of the cells between two places that are not idle.
+ghost use Rattle.std.specs.Prelude.{◌≡◌, ◌+◌, ◌≤◌, length};
+ghost use Rattle.cm_rank.specs.Ranks.{rank_of};
+
+use crate::words::busy_crumbs;
+use cm_bits::{Bits, Cells, Crumbs, Plain};
+
+/// A table whose cells that are not idle can be counted from any place to another.
+pub trait Counted: Cells {
+    /// How many of the cells from `from` on and before `until` are not idle. Cells are counted from 0.
+    fn count_busy(&self, idle: u32, from: u32, until: u32) -> u32
+        requires order { from ≤ until }
+        requires inside { until ≤ length (Self.cells self.now) }
+        ensures busy { rank_of idle (Self.cells self.now) from + result ≡ rank_of idle (Self.cells self.now) until };
+}
+
+/// By words of 32 cells where the value of an idle cell is 3.
+impl Counted for Crumbs {
+    fn count_busy(&self, idle: u32, from: u32, until: u32) -> u32 {
+        if idle == 3 && from % 4 == 0 {
+            busy_crumbs(self, from, until)
+        } else {
+            count_each(self, idle, from, until)
+        }
+    }
+}
+
+impl Counted for Bits {
+    fn count_busy(&self, idle: u32, from: u32, until: u32) -> u32 {
+        count_each(self, idle, from, until)
+    }
+}
+
+impl Counted for Plain {
+    fn count_busy(&self, idle: u32, from: u32, until: u32) -> u32 {
+        count_each(self, idle, from, until)
+    }
+}
+
+// The same count, cell by cell.
+pub fn count_each<C: Cells>(cells: &C, idle: u32, from: u32, until: u32) -> u32
+    requires order { from ≤ until }
+    requires inside { until ≤ length (C.cells cells.now) }
+    ensures busy { rank_of idle (C.cells cells.now) from + result ≡ rank_of idle (C.cells cells.now) until }
+{
+    let mut count = 0;
+    for i in from..until {
+        if cells.get(i) != idle {
+            count += 1;
+        }
+    }
+    count
+}

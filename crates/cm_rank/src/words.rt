@@ -1,0 +1,59 @@
+//! Counts of pairs of bits that are not 3, a word of 32 of them at once.
+ghost use Rattle.std.specs.Prelude.{◌≡◌, ◌+◌, ◌%◌, ◌<◌, ◌≤◌, length, count_by};
+ghost use Rattle.cm_bits.specs.Held.{packed_cells};
+ghost use Rattle.cm_rank.specs.Ranks.{crumbs_of, rank_of};
+ghost use Rattle.cm_spec.specs.Cells.{is_busy};
+
+use crate::counted::count_each;
+use cm_bits::{Cells, Crumbs, window};
+
+// How many pairs of bits a word has.
+const PAIRS: u32 = 32;
+
+// The lower bit of each pair.
+const LOWER_BITS: u64 = 0x5555_5555_5555_5555;
+
+// How many of the lowest `many` pairs of bits of a word are not 3.
+#[inline]
+pub fn busy_pairs(word: u64, many: u32) -> u32
+    requires some { 1 ≤ many }
+    requires fit { many ≤ 32 }
+    ensures { result ≡ count_by (is_busy 3) (crumbs_of word many) }
+{
+    let lower = LOWER_BITS >> (2 * (PAIRS - many));
+    many - (word & (word >> 1) & lower).count_ones()
+}
+
+// How many of the cells from `from` on and before `until` are not 3: by words, and the rest of less than a word.
+pub fn busy_crumbs(cells: &Crumbs, from: u32, until: u32) -> u32
+    requires order { from ≤ until }
+    requires inside { until ≤ length (⟦<Crumbs as Cells>⟧.cells cells.now) }
+    requires whole { from % 4 ≡ 0 }
+    ensures busy { rank_of 3 (⟦<Crumbs as Cells>⟧.cells cells.now) from + result ≡ rank_of 3 (⟦<Crumbs as Cells>⟧.cells cells.now) until }
+{
+    let bytes = cells.image();
+    let words = (until - from) / PAIRS;
+    let mut count = 0;
+    for k in 0..words {
+        let at = from / 4 + 8 * k;
+        count += busy_pairs(window(bytes, at as usize), PAIRS);
+    }
+    count + busy_rest(cells, from + PAIRS * words, until)
+}
+
+// The same of less than a word: cell by cell where the image ends before eight bytes.
+#[inline]
+fn busy_rest(cells: &Crumbs, from: u32, until: u32) -> u32
+    requires order { from ≤ until }
+    requires short { until < from + 32 }
+    requires inside { until ≤ length (⟦<Crumbs as Cells>⟧.cells cells.now) }
+    requires whole { from % 4 ≡ 0 }
+    ensures busy { rank_of 3 (⟦<Crumbs as Cells>⟧.cells cells.now) from + result ≡ rank_of 3 (⟦<Crumbs as Cells>⟧.cells cells.now) until }
+{
+    let bytes = cells.image();
+    let at = (from / 4) as usize;
+    if from < until && at + 8 <= bytes.len() {
+        return busy_pairs(window(bytes, at), until - from);
+    }
+    count_each(cells, 3, from, until)
+}
