@@ -3,10 +3,17 @@ ghost use Rattle.std.specs.Prelude.{◌≡◌, ◌<◌, ◌≤◌, ℕ, List, Op
 
 use cm_bits::MAX_CELLS;
 
-/// A function from keys to numbers below its span. No call takes memory.
+/// The vertices where a function looks for the number of a key, counted from 0: two or three, and 0 in what is over.
+pub type Place = [u32; 3];
+
+/// A function from keys to numbers below its span, in two steps: from a key to its place, and from the place to the number. With
+/// the places of many keys taken first, the looks into cells wait side by side. No call takes memory.
 pub trait Answers {
     /// What the numbers are below.
     ghost span_of: { Self → ℕ };
+
+    /// The place for the bytes of a key.
+    ghost place_of: { Self → List ℕ → List ℕ };
 
     /// The number for the bytes of a key. A key that the function was not built over gets any number, or none.
     ghost answer_of: { Self → List ℕ → Option ℕ };
@@ -16,8 +23,22 @@ pub trait Answers {
         ensures span { result ≡ span_of self.now }
         ensures few { result ≤ MAX_CELLS };
 
-    /// The number of a key. There is none only for keys that the function was not built over.
-    fn answer(&self, key: &[u8]) -> Option<u32>
-        ensures answer { result ≡ answer_of self.now key.now }
+    /// The place of a key.
+    fn place(&self, key: &[u8]) -> Place
+        ensures place { result ≡ place_of self.now key.now };
+
+    /// The number of each key of this place. There is none only for keys that the function was not built over.
+    fn answer_at(&self, place: &Place) -> Option<u32>
+        requires place { (key : List ℕ) × (place.now ≡ place_of self.now key) }
+        ensures answer { (key : List ℕ) → place.now ≡ place_of self.now key → result ≡ answer_of self.now key }
         ensures inside { IfSome result (λ number. number < span_of self.now) };
+}
+
+/// The number of a key. There is none only for keys that the function was not built over.
+pub fn answer<A: Answers>(function: &A, key: &[u8]) -> Option<u32>
+    ensures answer { result ≡ A.answer_of function.now key.now }
+    ensures inside { IfSome result (λ number. number < A.span_of function.now) }
+{
+    let place = function.place(key);
+    function.answer_at(&place)
 }

@@ -8,7 +8,7 @@ mod passes;
 mod scheme;
 mod seeds;
 
-pub use crate::answers::Answers;
+pub use crate::answers::{Answers, Place, answer};
 pub use crate::cells::assign;
 pub use crate::fault::BuildFault;
 pub use crate::scheme::Scheme;

@@ -53,8 +53,8 @@ pub trait Scheme<const K: usize> {
     // The rule keeps its laws, and the table serves its bound.
     ghost laws: { (s : Self) → IsRule K (rule s) };
 
+    ghost bound_fits: { (s : Self) (m : ℕ) → IsCount m → Self.Table.fits ((rule s).bound m) };
+
     // A tag that isn't kept is 0.
     ghost untagged: { (s : Self) (words : List ℕ) → KEEPS_TAGS ≡ false → (rule s).tag words ≡ 0 };
-
-    ghost bound_fits: { (s : Self) (m : ℕ) → IsCount m → Self.Table.fits ((rule s).bound m) };
 }

@@ -1,3 +1,3 @@
 mod Pivots
 mod Ranking
-mod NumberingLemmas
+pub mod NumberingLemmas

@@ -1,12 +1,8 @@
 -- What functions over numbered keys are for.
-use Rattle.std.specs.Prelude.{◌≡◌, ◌<◌, ℕ, List, [], length, slice_index_or, Option, Some}
+use Rattle.std.specs.Prelude.{◌≡◌, ◌<◌, ℕ, List, length, Option, Some}
 use Rattle.cm_bdz.specs.Functions.{Bdz, BdzPh}
 use Rattle.cm_spec.specs.Bdz.{bdz_rule, bdz_ph_rule}
-use Rattle.cm_spec.specs.Built.{cells_under}
-
--- the bytes of key number i, counted from 0
-abbrev pub key_at : List (ℕ × List ℕ) → ℕ → List ℕ
-key_at keys i = (slice_index_or keys i (0, [])).1
+use Rattle.cm_spec.specs.Built.{cells_under, key_at}
 
 -- each key has an answer below the bound, and no two keys have the same
 pub record AnswersApart (keys : List (ℕ × List ℕ)) (answer : List ℕ → Option ℕ) (bound : ℕ) : Type 0 where

@@ -1,11 +1,13 @@
 //! What functions by BDZ and BDZ_PH answer.
 ghost use Rattle.std.specs.Prelude.{ℕ, List, Option, Some, length};
 ghost use Rattle.cm_bdz.specs.Functions.{bdz_answer, bdz_ph_answer};
+ghost use Rattle.cm_spec.specs.Bdz.{bdz_edge};
+ghost use Rattle.cm_spec.specs.Lookup2.{words};
 
 use crate::bdz::Bdz;
 use crate::bdz_ph::BdzPh;
-use crate::choice::chosen;
-use cm_algo::Answers;
+use crate::choice::{chosen_among, ends_of};
+use cm_algo::{Answers, Place};
 use cm_bits::Cells;
 
 /// A key that the function was built over gets a number below the number of keys, and no other of these keys the same. Another
@@ -13,15 +15,21 @@ use cm_bits::Cells;
 impl Answers for Bdz {
     ghost span_of = { λ f. f.keys };
 
+    ghost place_of = { λ f key. bdz_edge (words key f.seed) (length f.cells) };
+
     ghost answer_of = { λ f key. bdz_answer f key };
 
     fn span(&self) -> u32 {
         self.keys()
     }
 
-    fn answer(&self, key: &[u8]) -> Option<u32> {
+    fn place(&self, key: &[u8]) -> Place {
+        ends_of(self.cells(), key, self.seed())
+    }
+
+    fn answer_at(&self, place: &Place) -> Option<u32> {
         let cells = self.cells();
-        let v = chosen(cells, key, self.seed());
+        let v = chosen_among(cells, place);
         if cells.get(v) == 3 {
             None
         } else {
@@ -34,13 +42,19 @@ impl Answers for Bdz {
 impl Answers for BdzPh {
     ghost span_of = { λ f. length f.cells };
 
+    ghost place_of = { λ f key. bdz_edge (words key f.seed) (length f.cells) };
+
     ghost answer_of = { λ f key. Some (bdz_ph_answer f key) };
 
     fn span(&self) -> u32 {
         self.cells().len()
     }
 
-    fn answer(&self, key: &[u8]) -> Option<u32> {
-        Some(chosen(self.cells(), key, self.seed()))
+    fn place(&self, key: &[u8]) -> Place {
+        ends_of(self.cells(), key, self.seed())
+    }
+
+    fn answer_at(&self, place: &Place) -> Option<u32> {
+        Some(chosen_among(self.cells(), place))
     }
 }

@@ -9,7 +9,7 @@ ghost use Rattle.cm_bdz.specs.declared.bdz.PartsFault.{PartsFault};
 
 use cm_algo::Built;
 use cm_bits::{Cells, Crumbs};
-use cm_rank::RankTable;
+use cm_rank::{Counted, RankTable};
 use std::alloc::Global;
 use std::marker::Model;
 
@@ -59,13 +59,7 @@ impl Model for Bdz {
 fn count_busy(cells: &Crumbs) -> u32
     ensures count { result ≡ count_by (is_busy 3) (⟦<Crumbs as Cells>⟧.cells cells.now) }
 {
-    let mut count = 0;
-    for i in 0..cells.len() {
-        if cells.get(i) != 3 {
-            count += 1;
-        }
-    }
-    count
+    cells.count_busy(3, 0, cells.len())
 }
 
 impl Bdz {

@@ -3,7 +3,7 @@ ghost use Rattle.cm_spec.specs.Bdz.{bdz_size};
 ghost use Rattle.cm_spec.specs.Rule.{IsRatio};
 
 use crate::{Bdz, BdzPh, PartsFault, answers_apart, chosen};
-use cm_algo::{Answers, Built};
+use cm_algo::{Answers, Built, answer};
 use cm_bits::{Cells, Crumbs, Trits};
 use std::alloc::{AllocError, Global};
 use std::test::Fail;
@@ -29,10 +29,6 @@ fn function(alloc: Global, m: u32, zeros: &[u32]) -> Result<Result<Bdz, PartsFau
         cells,
     };
     Ok(Bdz::from_built(alloc, built, 7))
-}
-
-fn answer<A: Answers>(function: &A, key: &[u8]) -> Option<u32> {
-    function.answer(key)
 }
 
 fn span<A: Answers>(function: &A) -> u32 {

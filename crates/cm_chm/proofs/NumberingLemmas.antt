@@ -4,8 +4,8 @@ use Rattle.std.specs.List.{sum_by}
 use Rattle.std.proofs.lemmas.List.{length-map, get_or-map}
 use Rattle.cm_algo.proofs.Solving.{plan_solved}
 use Rattle.cm_chm.specs.ChmLaws.{chm_is_rule}
-use Rattle.cm_chm.specs.Numbering.{AnswersNumbers, key_at}
-use Rattle.cm_spec.specs.Built.{edge_of, tag_of, graph_of, cells_under, chm_under}
+use Rattle.cm_chm.specs.Numbering.{AnswersNumbers}
+use Rattle.cm_spec.specs.Built.{edge_of, tag_of, graph_of, cells_under, chm_under, key_at}
 use Rattle.cm_spec.specs.Cells.{AreSolved, plan_of}
 use Rattle.cm_spec.specs.Chm.{chm_rule, chm_size}
 use Rattle.cm_spec.specs.Graph.{AreEdges, IsEdge, ends_at}

@@ -1,2 +1,3 @@
 pub mod ChmLaws
 pub mod Numbering
+pub mod Places

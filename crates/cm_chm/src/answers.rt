@@ -1,10 +1,11 @@
 //! What a CHM function answers.
 ghost use Rattle.std.specs.Prelude.{ℕ, List, Option, Some};
+ghost use Rattle.cm_chm.specs.Places.{chm_place};
 ghost use Rattle.cm_spec.specs.Chm.{chm_answer};
 
 use crate::chm::Chm;
 use crate::scheme::ChmScheme;
-use cm_algo::{Answers, Scheme};
+use cm_algo::{Answers, Place, Scheme};
 use cm_bits::Cells;
 use cm_lookup2::words;
 
@@ -12,16 +13,22 @@ use cm_lookup2::words;
 impl Answers for Chm {
     ghost span_of = { λ f. f.keys };
 
+    ghost place_of = { λ f key. chm_place f key };
+
     ghost answer_of = { λ f key. Some (chm_answer f key) };
 
     fn span(&self) -> u32 {
         self.keys()
     }
 
-    fn answer(&self, key: &[u8]) -> Option<u32> {
+    fn place(&self, key: &[u8]) -> Place {
+        let ends = ChmScheme {}.edge(words(key, self.seed()), self.cells().len());
+        [ends[0], ends[1], 0]
+    }
+
+    fn answer_at(&self, place: &Place) -> Option<u32> {
         let cells = self.cells();
-        let ends = ChmScheme {}.edge(words(key, self.seed()), cells.len());
-        let sum = cells.get(ends[0]) + cells.get(ends[1]);
+        let sum = cells.get(place[0]) + cells.get(place[1]);
         Some(sum % self.keys())
     }
 }

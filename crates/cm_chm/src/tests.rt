@@ -4,7 +4,7 @@ ghost use Rattle.cm_spec.specs.Chm.{chm_size};
 ghost use Rattle.cm_spec.specs.Rule.{IsRatio};
 
 use crate::{Chm, answers_numbers};
-use cm_algo::{Answers, Built};
+use cm_algo::{Answers, Built, answer};
 use cm_bits::{Cells, Fields};
 use std::alloc::{AllocError, Global};
 use std::test::Fail;
@@ -29,10 +29,6 @@ fn function(
         cells.set(v, 1);
     }
     Ok(Chm::from_built(Built { m, c, seed, cells }))
-}
-
-fn answer<A: Answers>(function: &A, key: &[u8]) -> Option<u32> {
-    function.answer(key)
 }
 
 fn span<A: Answers>(function: &A) -> u32 {

@@ -172,6 +172,26 @@ impl<S: Source> Buffered<S> {
         }
         unreachable!()
     }
+
+    /// Reads a line that waits whole with its end into the key, without its end. Where none does, nothing changes.
+    pub fn ready_line(&mut self, end: u8, key: &mut KeyBuf) -> bool
+        ensures source { self.new.source ≡ self.old.source }
+        ensures ended { self.new.ended ≡ self.old.ended }
+        ensures line { result ≡ true → TakesPart MAX_KEY_LEN end (ready_in self.old.buf self.old.start self.old.until)
+            (ready_in self.new.buf self.new.start self.new.until) [] key.new.items Part.Whole }
+        ensures none { result ≡ false → (self.new ≡ self.old) × (key.new ≡ key.old) }
+    {
+        let ready = &self.buf[self.start..self.until];
+        let Some(n) = memchr(end, ready) else {
+            return false;
+        };
+        key.clear();
+        if !put(key, &ready[..n]) {
+            unreachable!();
+        }
+        self.start += n + 1;
+        true
+    }
 }
 
 /// Appends to a key, if there is room.

@@ -162,6 +162,33 @@ impl<S: Source> KeyPass for Keys<S> {
         }
     }
 
+    fn next_ready(&mut self, key: &mut KeyBuf) -> bool
+        requires usable { IsTrue self.old.usable }
+        ensures told { keys_of MAX_KEYS MAX_KEY_LEN LINE_END self.new ≡ keys_of MAX_KEYS MAX_KEY_LEN LINE_END self.old }
+        ensures gives { result ≡ true → ForSome (keys_of MAX_KEYS MAX_KEY_LEN LINE_END self.old) (λ told.
+            GivesKey told self.old.given self.new.given self.new.given key.new.items (Ok true)) }
+        ensures cause { self.new.faults ≡ self.old.faults }
+        ensures counts { self.new.given ≡ self.old.given + (if result then 1 else 0) }
+        ensures few { self.new.given ≤ MAX_KEYS }
+        ensures rises { result ≡ true → self.old.given < self.new.given }
+        ensures usable { self.new.usable ≡ true }
+        ensures unchanged { result ≡ false → (self.new ≡ self.old) × (key.new ≡ key.old) }
+
+        // The source goes on telling the same, the lines that are looked at stay as many, and the end is not looked for.
+        ensures bytes { self.new.bytes ≡ self.old.bytes }
+        ensures first { self.new.first ≡ self.old.first }
+        ensures ended { self.new.ended ≡ self.old.ended }
+    {
+        if !is_open(self.first, self.given) || self.given == MAX_KEYS {
+            return false;
+        }
+        if !self.bytes.ready_line(LINE_END, key) {
+            return false;
+        }
+        self.given += 1;
+        true
+    }
+
     fn rewind(&mut self) -> Result<(), KeyFault>
         ensures told { keys_of MAX_KEYS MAX_KEY_LEN LINE_END self.new ≡ keys_of MAX_KEYS MAX_KEY_LEN LINE_END self.old }
         ensures start { OnOk result (self.new.given ≡ 0) }

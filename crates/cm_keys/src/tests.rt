@@ -37,6 +37,24 @@ fn count<P: KeyPass>(keys: &mut P, key: &mut KeyBuf) -> Result<u32, KeyFault> {
     unreachable!()
 }
 
+/// Whether a key was at hand.
+fn ready<P: KeyPass>(keys: &mut P, key: &mut KeyBuf) -> bool {
+    if !keys.usable() {
+        return false;
+    }
+    keys.next_ready(key)
+}
+
+/// How many keys were at hand, one after another.
+fn count_ready<P: KeyPass>(keys: &mut P, key: &mut KeyBuf) -> u32 {
+    for count in 0..MAX_KEYS {
+        if !ready(keys, key) {
+            return count;
+        }
+    }
+    MAX_KEYS
+}
+
 fn lines<S: Source>(source: S, first: Option<u32>) -> Keys<S>
     requires start { ForSome (S.told source) (λ _. S.place source ≡ 0) }
 {
@@ -94,6 +112,50 @@ fn first_lines_alone(rt: HostRuntime) -> Result<(), Fail> {
     let _source = source_of(keys);
     let mut keys = lines(plain(alloc, b"a\n")?, Some(0));
     assert_eq!(rt; step(&mut keys, &mut key), Answer::End);
+    let _source = source_of(keys);
+    Ok(())
+}
+
+#[test]
+fn lines_at_hand(rt: HostRuntime) -> Result<(), Fail> {
+    let alloc = rt.alloc();
+    let mut key = KeyBuf::new();
+    let mut keys = lines(plain(alloc, b"a\nbc\n\nd")?, None);
+    assert!(rt; !ready(&mut keys, &mut key));
+    assert_eq!(rt; step(&mut keys, &mut key), Answer::Key(1));
+    assert!(rt; ready(&mut keys, &mut key));
+    assert_eq!(rt; key.as_slice(), b"bc".as_slice());
+    assert!(rt; ready(&mut keys, &mut key));
+    assert!(rt; key.is_empty());
+    assert!(rt; !ready(&mut keys, &mut key));
+    assert_eq!(rt; step(&mut keys, &mut key), Answer::Key(4));
+    assert_eq!(rt; key.as_slice(), b"d".as_slice());
+    assert!(rt; !ready(&mut keys, &mut key));
+    assert_eq!(rt; key.as_slice(), b"d".as_slice());
+    assert_eq!(rt; step(&mut keys, &mut key), Answer::End);
+    let _source = source_of(keys);
+    let mut keys = lines(plain(alloc, b"a\nb\nc\n")?, Some(2));
+    assert_eq!(rt; step(&mut keys, &mut key), Answer::Key(1));
+    assert!(rt; ready(&mut keys, &mut key));
+    assert!(rt; !ready(&mut keys, &mut key));
+    assert_eq!(rt; step(&mut keys, &mut key), Answer::End);
+    let _source = source_of(keys);
+    Ok(())
+}
+
+#[test]
+fn lines_at_hand_until_a_read(rt: HostRuntime) -> Result<(), Fail> {
+    let alloc = rt.alloc();
+    let mut key = KeyBuf::new();
+    // The second read comes after 65,536 bytes, and fails.
+    let bytes = vec![in alloc; b'\n'; 65_537]?;
+    let mut keys = lines(
+        MemSource::new(bytes, [1].to_vec(alloc)?, Vec::new(alloc)),
+        None,
+    );
+    assert_eq!(rt; step(&mut keys, &mut key), Answer::Key(1));
+    assert_eq!(rt; count_ready(&mut keys, &mut key), 65_535);
+    assert_eq!(rt; step(&mut keys, &mut key), Answer::Fault(KeyFault::Read));
     let _source = source_of(keys);
     Ok(())
 }

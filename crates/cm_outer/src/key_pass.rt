@@ -1,4 +1,4 @@
-ghost use Rattle.std.specs.Prelude.{◌≡◌, ◌<◌, ◌≤◌, ◌+◌, ℕ, Option, Bool, true, false, OnOk, OnErr, IfOk, IsTrue, IsOkUnless, if◌then◌else◌};
+ghost use Rattle.std.specs.Prelude.{◌≡◌, ◌<◌, ◌≤◌, ◌+◌, ℕ, Option, Ok, Bool, true, false, OnOk, OnErr, IfOk, IsTrue, IsOkUnless, if◌then◌else◌};
 ghost use Rattle.std.specs.Option.{ForSome};
 ghost use Rattle.cm_outer.specs.Passes.{Told, HasKeyCause, GivesKey};
 
@@ -68,6 +68,20 @@ pub trait KeyPass {
         ensures refused { OnErr result ((place self.new ≡ place self.old) × (last self.new ≡ last self.old)) }
         ensures usable { OnOk result (usable self.new ≡ true) }
         ensures unusable { OnErr result (usable self.new ≡ false) };
+
+    /// Puts the next key into the buffer and answers true where it is at hand, so that no read can fail: it does then what `next`
+    /// does that answers true. Answers false at the end, and may do so at any time: nothing has changed then, and `next` tells.
+    fn next_ready(&mut self, key: &mut KeyBuf) -> bool
+        requires usable { IsTrue (usable self.old) }
+        ensures told { told self.new ≡ told self.old }
+        ensures gives { result ≡ true → ForSome (told self.old) (λ told.
+            GivesKey told (place self.old) (place self.new) (last self.new) key.new.items (Ok true)) }
+        ensures cause { faults self.new ≡ faults self.old }
+        ensures counts { place self.new ≡ place self.old + (if result then 1 else 0) }
+        ensures few { place self.new ≤ MAX_KEYS }
+        ensures rises { result ≡ true → last self.old < last self.new }
+        ensures usable { usable self.new ≡ true }
+        ensures unchanged { result ≡ false → (self.new ≡ self.old) × (key.new ≡ key.old) };
 
     /// Goes back to the start. Refuses with `Read` alone, exactly where the count of faults rises.
     fn rewind(&mut self) -> Result<(), KeyFault>

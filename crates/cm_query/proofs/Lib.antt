@@ -1,3 +1,4 @@
+mod BatchLemmas
 mod EarlierLemmas
 mod MarkLemmas
 pub mod NotedLemmas

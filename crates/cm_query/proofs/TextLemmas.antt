@@ -1,10 +1,11 @@
 -- The text of some keys is a prefix of the text of more.
-use Rattle.std.proofs.Common.{◌≡◌, ◌∙◌, ℕ, ◌+◌, ◌-◌, ◌≤◌, min, List, [], ◌∷◌, ◌++◌, length, take, drop, Option, None, Some, ap, sym, arith, append-nil, take-append-drop, refl}
+use Rattle.std.proofs.Common.{◌≡◌, ◌∙◌, ℕ, ◌+◌, ◌-◌, ◌≤◌, min, List, [], ◌∷◌, ◌++◌, length, take, drop, Option, None, Some, ap, sym, subst, arith, append-nil, take-append-drop, refl}
 use Rattle.std.proofs.lemmas.Grind.{flat_map-append}
 use Rattle.std.proofs.lemmas.List.{take_at, take_min, take-append-le}
 use Rattle.std.proofs.Math.Seq.{take-append-add}
 use Rattle.cm_outer.specs.Writing.{then_bytes}
-use Rattle.cm_query.specs.Stops.{TextAfter}
+use Rattle.cm_outer.specs.Passes.{Told}
+use Rattle.cm_query.specs.Stops.{IsReached, StopsAt, TextAfter}
 use Rattle.cm_query.specs.Texts.{line_of, text_of}
 use Rattle.cm_query.specs.declared.fault.QueryFault.{QueryFault}
 use Rattle.cm_query.specs.declared.fault.QueryFault.TheVariants.{Memory, Key, Write}
@@ -50,3 +51,9 @@ pub front_after : (end : ℕ) (f : List ℕ → Option ℕ) (keys : List (ℕ ×
 front_after end f keys given old new Memory is = (0, is ∙ then_nothing old)
 front_after end f keys given old new (Key fault) is = front_of_given end f keys given old new is
 front_after end f keys given old new Write is = front_of_next end f keys (given - 1) is.0 old new is.1
+
+-- the keys that were come to stop where those given do
+pub stops_reached : (told : Told) (given reached : ℕ) (fault : QueryFault) → StopsAt told given fault → IsReached given reached fault → StopsAt told reached fault
+stops_reached told given reached Memory stops is = is
+stops_reached told given reached (Key fault) stops is = subst (λ (n : ℕ). StopsAt told n (Key fault)) (sym is) stops
+stops_reached told given reached Write stops is = (is.0, omega (arith, is.1, stops.1))

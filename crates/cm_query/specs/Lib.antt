@@ -4,3 +4,4 @@ pub mod Repeats
 pub mod Stops
 pub mod Tallies
 pub mod Texts
+pub mod Waiting

@@ -30,15 +30,21 @@ StopsAt told given (Key (TooLong line)) = Ends told given (Some (TooLong line))
 StopsAt told given (Key TooMany) = Ends told given (Some TooMany)
 StopsAt told given Write = (0 < given) × (given ≤ length told.keys)
 
--- what out has after a refusal: the text of the keys given; after `Write` that of all but the last, and a prefix of the last one's
-abbrev pub TextAfter : ℕ → (List ℕ → Option ℕ) → List (ℕ × List ℕ) → ℕ → Option (List ℕ) → Option (List ℕ) → QueryFault → Type 0
-TextAfter end f keys given old new Memory = new ≡ old
-TextAfter end f keys given old new (Key fault) = new ≡ then_bytes old (text_of end f (take given keys))
-TextAfter end f keys given old new Write =
-    (n : ℕ) × (new ≡ then_bytes old (text_of end f (take (given - 1) keys) ++ take n (text_of end f (take 1 (drop (given - 1) keys)))))
+-- how many of the keys given were come to at a refusal: all; after `Write` those up to the one whose line failed
+abbrev pub IsReached : ℕ → ℕ → QueryFault → Type 0
+IsReached given reached Memory = reached ≡ 0
+IsReached given reached (Key fault) = reached ≡ given
+IsReached given reached Write = (0 < reached) × (reached ≤ given)
 
--- the keys whose notes err has after a refusal: those given; after `Write` all but the last
+-- what out has after a refusal: the text of the keys that were come to; after `Write` that of all but the last, and a prefix of the last one's
+abbrev pub TextAfter : ℕ → (List ℕ → Option ℕ) → List (ℕ × List ℕ) → ℕ → Option (List ℕ) → Option (List ℕ) → QueryFault → Type 0
+TextAfter end f keys reached old new Memory = new ≡ old
+TextAfter end f keys reached old new (Key fault) = new ≡ then_bytes old (text_of end f (take reached keys))
+TextAfter end f keys reached old new Write =
+    (n : ℕ) × (new ≡ then_bytes old (text_of end f (take (reached - 1) keys) ++ take n (text_of end f (take 1 (drop (reached - 1) keys)))))
+
+-- the keys whose notes err has after a refusal: those that were come to; after `Write` all but the last
 abbrev pub noted_keys : List (ℕ × List ℕ) → ℕ → QueryFault → List (ℕ × List ℕ)
-noted_keys keys given Memory = []
-noted_keys keys given (Key fault) = take given keys
-noted_keys keys given Write = take (given - 1) keys
+noted_keys keys reached Memory = []
+noted_keys keys reached (Key fault) = take reached keys
+noted_keys keys reached Write = take (reached - 1) keys

@@ -3,10 +3,11 @@ ghost use Rattle.std.specs.Prelude.{◌≡◌, ◌≤◌, ◌+◌, ℕ, List, Er
 ghost use Rattle.std.specs.Option.{ForSome};
 ghost use Rattle.cm_outer.specs.Noting.{Noted};
 ghost use Rattle.cm_outer.specs.Writing.{then_bytes};
-ghost use Rattle.cm_query.specs.Stops.{HasQueryCause, is_usable_after, StopsAt, TextAfter, noted_keys};
+ghost use Rattle.cm_query.specs.Stops.{HasQueryCause, IsReached, is_usable_after, StopsAt, TextAfter, noted_keys};
 ghost use Rattle.cm_query.specs.Tallies.{tally_of};
 ghost use Rattle.cm_query.specs.Texts.{text_of, notes_of};
 
+use crate::batch::Batch;
 use crate::fault::QueryFault;
 use crate::marks::mark;
 use crate::tally::Tally;
@@ -18,7 +19,8 @@ use itoa::Buffer;
 use std::alloc::Global;
 
 /// Answers each key of a pass that stands at its start: its line goes to out and then, where it has no answer or one that an
-/// earlier key has, a note to err. One bit for each number of the span is taken first, and no other memory.
+/// earlier key has, a note to err. One bit for each number of the span is taken first, and no other memory. Keys at hand are taken
+/// some at a time, with all lines of those before written.
 pub fn query<A: Answers, P: KeyPass, O: Sink, E: Sink>(
     alloc: Global,
     function: &A,
@@ -49,12 +51,11 @@ pub fn query<A: Answers, P: KeyPass, O: Sink, E: Sink>(
     ensures notes { OnOk result (ForSome (P.told keys.old) (λ told.
         Noted notes.old notes.new (E.written err.old) (E.written err.new) (E.faults err.old) (E.faults err.new) (notes_of (A.answer_of function.now) told.keys))) }
 
-    // A refusal over told keys.
+    // A refusal over told keys. After `Write` the pass may have given more keys than were come to.
     ensures stops { IfErr result (λ fault. ForSome (P.told keys.old) (λ told. StopsAt told (P.place keys.new) fault)) }
-    ensures text_after { IfErr result (λ fault. ForSome (P.told keys.old) (λ told.
-        TextAfter LINE_END (A.answer_of function.now) told.keys (P.place keys.new) (O.written out.old) (O.written out.new) fault)) }
-    ensures notes_after { IfErr result (λ fault. ForSome (P.told keys.old) (λ told.
-        Noted notes.old notes.new (E.written err.old) (E.written err.new) (E.faults err.old) (E.faults err.new) (notes_of (A.answer_of function.now) (noted_keys told.keys (P.place keys.new) fault)))) }
+    ensures after { IfErr result (λ fault. ForSome (P.told keys.old) (λ told. (reached : ℕ) × IsReached (P.place keys.new) reached fault
+        × TextAfter LINE_END (A.answer_of function.now) told.keys reached (O.written out.old) (O.written out.new) fault
+        × Noted notes.old notes.new (E.written err.old) (E.written err.new) (E.faults err.old) (E.faults err.new) (notes_of (A.answer_of function.now) (noted_keys told.keys reached fault)))) }
 {
     let Ok(mut marks) = Bits::zeroed(alloc, function.span(), 2) else {
         return Err(QueryFault::Memory);
@@ -65,20 +66,22 @@ pub fn query<A: Answers, P: KeyPass, O: Sink, E: Sink>(
         unknown: 0,
     };
     let mut key = KeyBuf::new();
+    let mut batch = Batch::new();
     let mut buffer = Buffer::new();
     'keys: loop {
-        match keys.next(&mut key) {
+        match batch.refill(function, keys, &mut key) {
             Ok(true) => {}
             Ok(false) => return Ok(tally),
             Err(fault) => return Err(QueryFault::Key(fault)),
         }
-        let answer = function.answer(&key);
-        match write_line(out, &key, answer, &mut buffer) {
+        let answer = batch.answer();
+        match write_line(out, batch.key(), answer, &mut buffer) {
             Ok(()) => {}
             Err(Failed) => return Err(QueryFault::Write),
         }
         let repeated = mark(&mut marks, answer);
-        note_key(err, notes, keys.line(), answer, repeated);
+        note_key(err, notes, batch.line(), answer, repeated);
         tally.count(answer, repeated);
+        batch.pass();
     }
 }

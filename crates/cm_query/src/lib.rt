@@ -3,9 +3,11 @@
 #![tactic(auto)]
 
 mod answering;
+mod batch;
 mod fault;
 mod laws;
 mod marks;
+mod taken;
 mod tally;
 #[cfg(test)]
 mod tests;

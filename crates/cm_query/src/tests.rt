@@ -1,8 +1,8 @@
 ghost use Rattle.std.specs.Prelude.{◌≤◌, None};
 
 use crate::{QueryFault, Tally, front_of_text, noted_exactly, query, worked_rows};
-use cm_algo::Answers;
-use cm_outer::{KeyBuf, KeyFault, KeyPass, MAX_KEYS, MemSink, Notes};
+use cm_algo::{Answers, Place};
+use cm_outer::{KeyBuf, KeyFault, KeyPass, MAX_KEY_LEN, MAX_KEYS, MemSink, Notes};
 use std::alloc::{AllocError, Global};
 use std::process::Abort;
 use std::test::Fail;
@@ -11,9 +11,11 @@ use std::test::Fail;
 struct Lengths {}
 
 impl Answers for Lengths {
-    ghost use Rattle.std.specs.Prelude.{length, nat_lt, Some, None, if◌then◌else◌};
+    ghost use Rattle.std.specs.Prelude.{length, nat_lt, Some, None, [], ◌∷◌, if◌then◌else◌};
 
     ghost span_of = { λ _. 4 };
+
+    ghost place_of = { λ _ key. (if nat_lt (length key) 4 then length key else 4) ∷ 0 ∷ 0 ∷ [] };
 
     ghost answer_of = { λ _ key. (if nat_lt (length key) 4 then Some (length key) else None) };
 
@@ -21,20 +23,26 @@ impl Answers for Lengths {
         4
     }
 
-    fn answer(&self, key: &[u8]) -> Option<u32> {
+    fn place(&self, key: &[u8]) -> Place {
         if key.len() < 4 {
-            Some(key.len() as u32)
+            [key.len() as u32, 0, 0]
         } else {
-            None
+            [4, 0, 0]
         }
+    }
+
+    fn answer_at(&self, place: &Place) -> Option<u32> {
+        if place[0] < 4 { Some(place[0]) } else { None }
     }
 }
 
-/// The keys of a list, one a line, with a fault after them or none.
+/// The keys of a list, one a line, with a fault after them or none. After a key that `next` gave, some more are at hand.
 #[derive(Drop)]
 struct Listed<'a> {
     keys: &'a [&'a [u8]],
     fault: Option<KeyFault>,
+    at_hand: usize,
+    ready: usize,
     given: u32,
     usable: bool,
     faults: u64,
@@ -62,6 +70,7 @@ impl KeyPass for Listed<'_> {
             key.clear();
             let _ = key.try_extend_from_slice(self.keys[place]);
             self.given += 1;
+            self.ready = self.at_hand;
             return Ok(true);
         }
         match self.fault {
@@ -74,6 +83,18 @@ impl KeyPass for Listed<'_> {
                 Err(fault)
             }
         }
+    }
+
+    fn next_ready(&mut self, key: &mut KeyBuf) -> bool {
+        let place = self.given as usize;
+        if self.ready == 0 || place >= self.keys.len() || self.given == MAX_KEYS {
+            return false;
+        }
+        key.clear();
+        let _ = key.try_extend_from_slice(self.keys[place]);
+        self.given += 1;
+        self.ready -= 1;
+        true
     }
 
     fn rewind(&mut self) -> Result<(), KeyFault> {
@@ -99,10 +120,25 @@ struct Case<'a> {
     err: &'a [u8],
 }
 
+/// Checks a case with no key at hand after another, and with some and all.
 fn check(rt: &impl Abort, alloc: Global, case: &Case) -> Result<(), AllocError> {
+    for at_hand in [0, 1, 2, 1000] {
+        check_at_hand(rt, alloc, case, at_hand)?;
+    }
+    Ok(())
+}
+
+fn check_at_hand(
+    rt: &impl Abort,
+    alloc: Global,
+    case: &Case,
+    at_hand: usize,
+) -> Result<(), AllocError> {
     let mut pass = Listed {
         keys: case.keys,
         fault: case.fault,
+        at_hand,
+        ready: 0,
         given: 0,
         usable: true,
         faults: 0,
@@ -226,5 +262,65 @@ fn refusals_in_mid_stream(rt: HostRuntime) -> Result<(), Fail> {
     for case in &cases {
         check(&rt, rt.alloc(), case)?;
     }
+    Ok(())
+}
+
+#[test]
+fn writes_that_fail_anywhere(rt: HostRuntime) -> Result<(), Fail> {
+    let text = b"ab -> 2\n -> 0\nc -> 1\n".as_slice();
+    let rooms = [0, 3, 7, 8, 12, 14, 20];
+    for room in rooms {
+        let case = Case {
+            keys: &[b"ab", b"", b"c"],
+            fault: Some(KeyFault::TooMany),
+            out_room: room,
+            err_room: 100,
+            answer: Err(QueryFault::Write),
+            out: &text[..room],
+            err: b"",
+        };
+        check(&rt, rt.alloc(), &case)?;
+    }
+    Ok(())
+}
+
+#[test]
+fn more_keys_than_are_taken_together(rt: HostRuntime) -> Result<(), Fail> {
+    let alloc = rt.alloc();
+    let keys = [b"ab".as_slice(); 70];
+    let mut text = Vec::new(alloc);
+    for _ in 0..70 {
+        text.extend_from_slice(b"ab -> 2\n")?;
+    }
+    let mut case = Case {
+        keys: &keys,
+        fault: None,
+        out_room: 560,
+        err_room: 0,
+        answer: answered(70, 69, 0),
+        out: &text,
+        err: b"",
+    };
+    check(&rt, alloc, &case)?;
+    case.fault = Some(KeyFault::Read);
+    case.answer = Err(QueryFault::Key(KeyFault::Read));
+    check(&rt, alloc, &case)?;
+    Ok(())
+}
+
+#[test]
+fn long_keys_between_short_ones(rt: HostRuntime) -> Result<(), Fail> {
+    let alloc = rt.alloc();
+    let long = vec![in alloc; b'x'; MAX_KEY_LEN]?;
+    let case = Case {
+        keys: &[b"a", &long, b"bc", &long, &long, b"d", b""],
+        fault: None,
+        out_room: 100,
+        err_room: 200,
+        answer: answered(7, 1, 3),
+        out: b"a -> 1\nbc -> 2\nd -> 1\n -> 0\n",
+        err: b"cmph: line 2: key is unknown\ncmph: line 4: key is unknown\ncmph: line 5: key is unknown\ncmph: line 6: value 1 is repeated\n",
+    };
+    check(&rt, alloc, &case)?;
     Ok(())
 }

@@ -1,9 +1,10 @@
-use Rattle.std.proofs.Common.{◌≡◌, ◌+◌, ◌-◌, ◌≤◌, ℕ, List, length, take, true}
+use Rattle.std.proofs.Common.{◌≡◌, ◌+◌, ◌-◌, ◌≤◌, ◌++◌, ℕ, List, length, take, drop, true}
 use Rattle.std.specs.Option.{ForSome}
 use Rattle.cm_bits.specs.Held.{packed_cells}
 use Rattle.cm_outer.specs.Noting.{Noted}
 use Rattle.cm_outer.specs.Writing.{then_bytes}
 use Rattle.cm_query.proofs.ProgressLemmas.{SoFar}
+use Rattle.cm_query.specs.Waiting.{AreAnswers}
 use Rattle.cm_query.proofs.answering.query.Given as goal
 
 abbrev pub invariant-keys : goal.invariant-keys
@@ -17,12 +18,14 @@ invariant-keys g l =
       same : P.told l.keys ≡ P.told l.fn.keys;
       quiet : P.faults l.keys ≡ P.faults l.fn.keys;
       quiet_out : O.faults l.out ≡ O.faults l.fn.out;
-      at : P.place l.keys ≡ l.tally.lines;
-      few : l.tally.lines ≤ 16777216;
+      at : P.place l.keys ≡ l.tally.lines + length l.batch.keys;
+      few : P.place l.keys ≤ 16777216;
       counts : l.tally.repeated + l.tally.unknown ≤ l.tally.lines;
       size : length (packed_cells 2 8 l.marks.n l.marks.bytes.items) ≡ A.span_of l.function;
       text : (text : List ℕ) × (O.written l.out ≡ then_bytes (O.written l.fn.out) text);
       says : (text : List ℕ) × Noted l.fn.notes l.notes (E.written l.fn.err) (E.written l.err) (E.faults l.fn.err) (E.faults l.err) text;
+      answered : AreAnswers (A.answer_of l.function) (A.span_of l.function) l.batch;
+      ahead : ForSome (P.told l.fn.keys) (λ told. drop l.tally.lines told.keys ≡ l.batch.keys ++ drop (P.place l.keys) told.keys);
       so_far : ForSome (P.told l.fn.keys) (λ told. (l.tally.lines ≤ length told.keys)
           × SoFar (A.answer_of l.function) (take l.tally.lines told.keys) (packed_cells 2 8 l.marks.n l.marks.bytes.items) l.tally (O.written l.fn.out) (O.written l.out) l.fn.notes l.notes (E.written l.fn.err) (E.written l.err) (E.faults l.fn.err) (E.faults l.err));
     }

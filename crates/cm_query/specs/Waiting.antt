@@ -1,0 +1,58 @@
+-- Keys that were taken together, and those of them that wait for their lines.
+use Rattle.std.specs.Prelude.{◌≡◌, ◌<◌, ◌≤◌, ◌+◌, ◌-◌, ◌++◌, ℕ, List, [], length, map, take, drop, All, Option, None, IfSome, Bool, true, false, Result, Ok, Err}
+use Rattle.cm_outer.specs.Passes.{Told, Ends, GivesKey}
+use Rattle.cm_outer.specs.declared.key_pass.KeyFault.{KeyFault}
+use Rattle.cm_query.specs.declared.taken.Spot.{Spot}
+
+-- a key with its line and its place
+pub record Spotted : Type 0 where
+  pub line : ℕ
+  pub key : List ℕ
+  pub place : List ℕ
+
+-- a key whose bytes stand among these
+abbrev pub spotted_in : List ℕ → Spot → Spotted
+spotted_in bytes s = record { line = s.line; key = take (s.until - s.from) (drop s.from bytes); place = s.place }
+
+-- its bytes do stand there
+abbrev pub StandsIn : List ℕ → Spot → Type 0
+StandsIn bytes s = (s.from ≤ s.until) × (s.until ≤ length bytes)
+
+-- keys that were taken together, and how many bytes they have
+pub record TakenKeys : Type 0 where
+  pub spots : List Spotted
+  pub bytes : ℕ
+
+-- the keys with their lines
+abbrev pub keys_of : List Spotted → List (ℕ × List ℕ)
+keys_of spots = map (λ s. (s.line, s.key)) spots
+
+-- the places are those of a function
+abbrev pub ArePlaces : (List ℕ → List ℕ) → List Spotted → Type 0
+ArePlaces place_of spots = All (λ s. s.place ≡ place_of s.key) spots
+
+-- the keys that wait, and their answers
+pub record WaitingKeys : Type 0 where
+  pub keys : List (ℕ × List ℕ)
+  pub answers : List (Option ℕ)
+
+-- the answers are those of a function, below its span
+pub record AreAnswers (f : List ℕ → Option ℕ) (span : ℕ) (waiting : WaitingKeys) : Type 0 where
+  pub are : waiting.answers ≡ map (λ k. f k.1) waiting.keys
+  pub inside : All (λ a. IfSome a (λ v. v < span)) waiting.answers
+
+-- the keys that wait and those that the pass has not given are still the same
+abbrev pub Takes : Told → ℕ → ℕ → List (ℕ × List ℕ) → List (ℕ × List ℕ) → Type 0
+Takes told before now old new = new ++ drop now told.keys ≡ old ++ drop before told.keys
+
+-- A key waits, or there is none more, or the pass refused.
+abbrev pub Refills : Told → ℕ → ℕ → List (ℕ × List ℕ) → List (ℕ × List ℕ) → Result Bool KeyFault → Type 0
+Refills told before now old new (Ok true) = Takes told before now old new
+Refills told before now old new (Ok false) = Ends told before None
+Refills told before now old new (Err fault) = GivesKey told before now 0 [] (Err fault)
+
+-- how many keys the pass gave then: where none waits any more, it was asked
+abbrev pub RefillsBy : ℕ → ℕ → ℕ → ℕ → Result Bool KeyFault → Type 0
+RefillsBy before now old new (Ok true) = (0 < new) × (now + old ≡ before + new)
+RefillsBy before now old new (Ok false) = (old ≡ 0) × (now ≡ before)
+RefillsBy before now old new (Err fault) = (old ≡ 0) × (now ≡ before)

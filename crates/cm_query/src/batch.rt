@@ -1,0 +1,141 @@
+//! Keys that wait for their lines.
+ghost use Rattle.std.specs.Prelude.{◌≡◌, ◌<◌, ◌≤◌, ℕ, List, [], length, drop, slice_index_or, Option, Bool, true, false, IsTrue, OnOk, OnErr};
+ghost use Rattle.std.specs.Option.{ForSome};
+ghost use Rattle.cm_outer.specs.Passes.{HasKeyCause};
+ghost use Rattle.cm_query.specs.Waiting.{AreAnswers, Refills, RefillsBy, WaitingKeys};
+
+use crate::taken::{MOST, Taken};
+use arrayvec::ArrayVec;
+use cm_algo::Answers;
+use cm_outer::{KeyBuf, KeyFault, KeyPass, MAX_KEYS};
+use std::marker::Model;
+
+/// Keys that were taken together and answered together, of which some still wait. Clauses see those that wait, with their lines,
+/// and their answers.
+#[derive(Drop)]
+pub(crate) struct Batch {
+    taken: Taken,
+    answers: ArrayVec<Option<u32>, MOST>,
+    next: usize,
+}
+
+impl Model for Batch {
+    ghost use Rattle.std.specs.Prelude.{◌≡◌, ◌≤◌, length, drop};
+    ghost use Rattle.cm_query.specs.Waiting.{WaitingKeys, keys_of};
+    ghost use Rattle.cm_query.specs.declared.taken.TheConstants.{MOST};
+
+    ghost Value = { WaitingKeys };
+
+    ghost view = { λ b. record { keys = drop b.next (keys_of b.taken.spots); answers = drop b.next b.answers.items } };
+
+    ghost invariant = { λ b. record {
+      next : b.next ≤ length b.taken.spots;
+      long : length b.answers.items ≡ length b.taken.spots;
+      few : length b.taken.spots ≤ MOST;
+    } };
+}
+
+impl Batch {
+    /// No key waits.
+    pub(crate) fn new() -> Batch
+        ensures none { result.keys ≡ [] }
+        ensures answers { result.answers ≡ [] }
+    {
+        Batch {
+            taken: Taken::new(),
+            answers: ArrayVec::new(),
+            next: 0,
+        }
+    }
+
+    /// Answers true where a key waits. Where none does, the next of a pass are taken and answered: the one that `next` gives, and
+    /// those that are at hand then. False says that there is no further key; a refusal is that of the pass.
+    #[inline]
+    pub(crate) fn refill<A: Answers, P: KeyPass>(
+        &mut self,
+        function: &A,
+        keys: &mut P,
+        key: &mut KeyBuf,
+    ) -> Result<bool, KeyFault>
+        requires usable { IsTrue (P.usable keys.old) }
+        requires few { P.place keys.old ≤ MAX_KEYS }
+        requires answers { AreAnswers (A.answer_of function.now) (A.span_of function.now) self.old }
+        ensures told { P.told keys.new ≡ P.told keys.old }
+        ensures cause { HasKeyCause (P.faults keys.old) (P.faults keys.new) result }
+        ensures usable { OnOk result (P.usable keys.new ≡ true) }
+        ensures unusable { OnErr result (P.usable keys.new ≡ false) }
+        ensures few { P.place keys.new ≤ MAX_KEYS }
+        ensures answers { AreAnswers (A.answer_of function.now) (A.span_of function.now) self.new }
+        ensures counts { RefillsBy (P.place keys.old) (P.place keys.new) (length self.old.keys) (length self.new.keys) result }
+        ensures refills { ForSome (P.told keys.old) (λ told. Refills told (P.place keys.old) (P.place keys.new) self.old.keys self.new.keys result) }
+    {
+        if self.next < self.taken.len() {
+            return Ok(true);
+        }
+        self.fill(function, keys, key)
+    }
+
+    /// The same where no key waits.
+    fn fill<A: Answers, P: KeyPass>(
+        &mut self,
+        function: &A,
+        keys: &mut P,
+        key: &mut KeyBuf,
+    ) -> Result<bool, KeyFault>
+        requires usable { IsTrue (P.usable keys.old) }
+        requires none { self.old.keys ≡ [] }
+        ensures told { P.told keys.new ≡ P.told keys.old }
+        ensures cause { HasKeyCause (P.faults keys.old) (P.faults keys.new) result }
+        ensures usable { OnOk result (P.usable keys.new ≡ true) }
+        ensures unusable { OnErr result (P.usable keys.new ≡ false) }
+        ensures few { P.place keys.new ≤ MAX_KEYS }
+        ensures answers { AreAnswers (A.answer_of function.now) (A.span_of function.now) self.new }
+        ensures counts { RefillsBy (P.place keys.old) (P.place keys.new) 0 (length self.new.keys) result }
+        ensures refills { ForSome (P.told keys.old) (λ told. Refills told (P.place keys.old) (P.place keys.new) [] self.new.keys result) }
+    {
+        self.next = 0;
+        self.taken.clear();
+        self.answers.clear();
+        if !keys.next(key)? {
+            return Ok(false);
+        }
+        let place = function.place(key);
+        self.taken.add(keys.line(), key, place);
+        self.taken.gather(function, keys, key);
+        self.taken.answer_all(function, &mut self.answers);
+        Ok(true)
+    }
+
+    /// The bytes of the key that waits longest.
+    pub(crate) fn key(&self) -> &[u8]
+        requires waits { 0 < length self.now.keys }
+        ensures key { (d : ℕ × List ℕ) → result.now ≡ (slice_index_or self.now.keys 0 d).1 }
+    {
+        self.taken.key(self.next)
+    }
+
+    /// Its line.
+    pub(crate) fn line(&self) -> u32
+        requires waits { 0 < length self.now.keys }
+        ensures line { (d : ℕ × List ℕ) → result ≡ (slice_index_or self.now.keys 0 d).0 }
+    {
+        self.taken.line(self.next)
+    }
+
+    /// Its answer.
+    pub(crate) fn answer(&self) -> Option<u32>
+        requires waits { 0 < length self.now.answers }
+        ensures answer { (d : Option ℕ) → result ≡ slice_index_or self.now.answers 0 d }
+    {
+        self.answers[self.next]
+    }
+
+    /// It waits no more.
+    pub(crate) fn pass(&mut self)
+        requires waits { 0 < length self.old.keys }
+        ensures keys { self.new.keys ≡ drop 1 self.old.keys }
+        ensures answers { self.new.answers ≡ drop 1 self.old.answers }
+    {
+        self.next += 1;
+    }
+}

@@ -1,0 +1,163 @@
+//! Keys that are taken together, each with its line and its place.
+ghost use Rattle.std.specs.Prelude.{◌≡◌, ◌<◌, ◌≤◌, ◌+◌, ◌++◌, ℕ, List, [], ◌∷◌, length, map, slice_index_or, All, Option, IfSome, Bool, true, false, IsTrue};
+ghost use Rattle.std.specs.Option.{ForSome};
+ghost use Rattle.cm_query.specs.Waiting.{ArePlaces, Spotted, Takes, TakenKeys, keys_of};
+
+use arrayvec::ArrayVec;
+use cm_algo::{Answers, Place};
+use cm_outer::{KeyBuf, KeyPass, MAX_KEY_LEN, MAX_KEYS};
+use std::marker::Model;
+
+/// How many keys are taken together at most.
+pub(crate) const MOST: usize = 32;
+
+/// How many bytes they have at most. One more is taken only where half of that is free, so each finds room.
+const ROOM: usize = 2 * MAX_KEY_LEN;
+
+/// Where the bytes of a key stand, with its line and its place.
+#[derive(Clone, Copy, Default)]
+pub(crate) struct Spot {
+    line: u32,
+    from: usize,
+    until: usize,
+    place: Place,
+}
+
+/// Keys that are taken together. Clauses see each with its line and its place, and how many bytes they have.
+#[derive(Drop)]
+pub(crate) struct Taken {
+    bytes: ArrayVec<u8, ROOM>,
+    spots: ArrayVec<Spot, MOST>,
+}
+
+impl Model for Taken {
+    ghost use Rattle.std.specs.Prelude.{length, map, All};
+    ghost use Rattle.cm_query.specs.Waiting.{StandsIn, TakenKeys, spotted_in};
+
+    ghost Value = { TakenKeys };
+
+    ghost view = { λ t. record { spots = map (spotted_in t.bytes.items) t.spots.items; bytes = length t.bytes.items } };
+
+    ghost invariant = { λ t. All (StandsIn t.bytes.items) t.spots.items };
+}
+
+impl Taken {
+    ghost use Rattle.cm_query.specs.declared.taken.TheConstants.{MOST, ROOM};
+
+    /// No keys.
+    pub(crate) fn new() -> Taken
+        ensures none { result.spots ≡ [] }
+    {
+        Taken {
+            bytes: ArrayVec::new(),
+            spots: ArrayVec::new(),
+        }
+    }
+
+    /// Forgets the keys.
+    pub(crate) fn clear(&mut self)
+        ensures none { self.new.spots ≡ [] }
+        ensures bytes { self.new.bytes ≡ 0 }
+    {
+        self.bytes.clear();
+        self.spots.clear();
+    }
+
+    /// Whether a key more has room, however long.
+    fn has_room(&self) -> bool
+        ensures few { result ≡ true → length self.now.spots < MOST }
+        ensures room { result ≡ true → self.now.bytes + MAX_KEY_LEN ≤ ROOM }
+    {
+        !self.spots.is_full() && self.bytes.len() <= MAX_KEY_LEN
+    }
+
+    /// Adds a key with its line and its place.
+    pub(crate) fn add(&mut self, line: u32, key: &[u8], place: Place)
+        requires few { length self.old.spots < MOST }
+        requires room { self.old.bytes + length key.now ≤ ROOM }
+        ensures spots { self.new.spots ≡ self.old.spots ++ record { line = line; key = key.now; place = place } ∷ [] }
+        ensures bytes { self.new.bytes ≡ self.old.bytes + length key.now }
+    {
+        let from = self.bytes.len();
+        if self.bytes.try_extend_from_slice(key).is_err() {
+            unreachable!();
+        }
+        self.spots.push(Spot {
+            line,
+            from,
+            until: self.bytes.len(),
+            place,
+        });
+    }
+
+    /// Takes the further keys of a pass that are at hand, as long as there is room. The buffer is for its use.
+    pub(crate) fn gather<A: Answers, P: KeyPass>(
+        &mut self,
+        function: &A,
+        keys: &mut P,
+        key: &mut KeyBuf,
+    )
+        requires usable { IsTrue (P.usable keys.old) }
+        requires few { P.place keys.old ≤ MAX_KEYS }
+        requires places { ArePlaces (A.place_of function.now) self.old.spots }
+        ensures told { P.told keys.new ≡ P.told keys.old }
+        ensures cause { P.faults keys.new ≡ P.faults keys.old }
+        ensures usable { P.usable keys.new ≡ true }
+        ensures few { P.place keys.new ≤ MAX_KEYS }
+        ensures places { ArePlaces (A.place_of function.now) self.new.spots }
+        ensures some { length self.old.spots ≤ length self.new.spots }
+        ensures counts { P.place keys.new + length self.old.spots ≡ P.place keys.old + length self.new.spots }
+        ensures takes { ForSome (P.told keys.old) (λ told. Takes told (P.place keys.old) (P.place keys.new) (keys_of self.old.spots) (keys_of self.new.spots)) }
+    {
+        'more: while self.has_room() {
+            if !keys.next_ready(key) {
+                return;
+            }
+            let place = function.place(key);
+            self.add(keys.line(), key, place);
+        }
+    }
+
+    /// The answers of a function for all keys, by their places.
+    pub(crate) fn answer_all<A: Answers>(
+        &self,
+        function: &A,
+        answers: &mut ArrayVec<Option<u32>, MOST>,
+    )
+        requires places { ArePlaces (A.place_of function.now) self.now.spots }
+        ensures few { length self.now.spots ≤ MOST }
+        ensures are { answers.new.items ≡ map (λ s. A.answer_of function.now s.key) self.now.spots }
+        ensures inside { All (λ a. IfSome a (λ v. v < A.span_of function.now)) answers.new.items }
+    {
+        let spots = self.spots.as_slice();
+        answers.clear();
+        for spot in spots {
+            answers.push(function.answer_at(&spot.place));
+        }
+    }
+
+    /// The bytes of key i, counted from 0.
+    pub(crate) fn key(&self, i: usize) -> &[u8]
+        requires there { i < length self.now.spots }
+        ensures key { (d : Spotted) → result.now ≡ (slice_index_or self.now.spots i d).key }
+    {
+        let spot = &self.spots[i];
+        &self.bytes[spot.from..spot.until]
+    }
+
+    /// The line of key i, counted from 0.
+    pub(crate) fn line(&self, i: usize) -> u32
+        requires there { i < length self.now.spots }
+        ensures line { (d : Spotted) → result ≡ (slice_index_or self.now.spots i d).line }
+    {
+        self.spots[i].line
+    }
+
+    /// How many keys there are: `MOST` at most.
+    pub(crate) fn len(&self) -> usize
+        ensures len { result ≡ length self.now.spots }
+        ensures few { result ≤ MOST }
+    {
+        self.spots.len()
+    }
+}
