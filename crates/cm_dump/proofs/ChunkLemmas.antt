@@ -6,14 +6,9 @@ use Rattle.cm_dump.specs.declared.fault.LoadFault.{LoadFault}
 use Rattle.cm_dump.specs.declared.fault.LoadFault.TheVariants as faults
 use Rattle.cm_dump.specs.Reading.{item_at, Fails}
 use Rattle.cm_dump.proofs.ItemLemmas.{ltb_no, ltb_yes}
+use Rattle.cm_dump.proofs.StepLemmas.{ok_err, ok_same}
 
-pub ok_err : {A B : Type 0} (x : A) (e : B) → (let r : Result A B = Ok x in r) ≡ Err e → ⊥
-ok_err x e is = grind (arith, is)
-
-pub ok_same : {A B : Type 0} {x y : A} → (let r : Result A B = Ok x in r) ≡ Ok y → x ≡ y
-ok_same is = grind (arith, is)
-
-lt_of : (m n : ℕ) → nat_lt m n ≡ true → m < n
+pub lt_of : (m n : ℕ) → nat_lt m n ≡ true → m < n
 lt_of m n is = grind (arith, is)
 
 pub ge_of : (m n : ℕ) → nat_lt m n ≡ false → n ≤ m
@@ -55,3 +50,5 @@ chunk_more bytes items piece at done k so_far is =
 pub chunk_all : (bytes items : List ℕ) (at n : ℕ) → items ≡ take n (drop at bytes) → at + n ≤ length bytes → item_at bytes at n ≡ Ok items
 unfolding item_at
 chunk_all bytes items at n all inside = rw (ltb_no (length bytes) (at + n) (omega (arith, inside))) (ap (λ (l : List ℕ). let r : Result (List ℕ) LoadFault = Ok l in r) (sym all))
+
+-- ---- steps that found no fault

@@ -1,11 +1,11 @@
 -- An item that is read piece by piece.
 use Rattle.std.proofs.Common.{◌≡◌, ◌∙◌, ℕ, ◌+◌, ◌-◌, ◌<◌, ◌≤◌, List, ◌++◌, length, take, drop, ap, sym, arith, length-append, length-take, length-drop, true, false, nat_lt, Result, Ok, Err}
-use Rattle.std.proofs.lemmas.List.{drop-drop, take_at, take_all, take-append-le}
+use Rattle.std.proofs.lemmas.List.{drop-drop, drop_at, take_at, take_all, take-append-le}
 use Rattle.std.proofs.Math.Seq.{take-append-add, take-add}
 use Rattle.cm_outer.specs.Reading.{Gives}
 use Rattle.cm_dump.specs.declared.fault.LoadFault.{LoadFault}
 use Rattle.cm_dump.specs.declared.fault.LoadFault.TheVariants as faults
-use Rattle.cm_dump.specs.Reading.{item_at}
+use Rattle.cm_dump.specs.Reading.{Fills, item_at}
 
 pub ltb_no : (m n : ℕ) → n ≤ m → nat_lt m n ≡ false
 ltb_no m n le = grind (arith, le)
@@ -31,14 +31,23 @@ item_room buf ys got inside size =
       length-drop (length buf - got) (drop got buf),
     )
 
--- the file ends within the item
-pub item_cut : (bytes buf ys : List ℕ) (at got n place place' given : ℕ) → Gives bytes place place' (length (take (length buf - got) (drop got buf))) given ys → given ≡ 0 → place ≡ at + got → got < length buf → length buf ≡ n
-    → item_at bytes at n ≡ Err (faults.Truncated (at + got))
-unfolding item_at
-item_cut bytes buf ys at got n place place' given gives none is inside size =
+-- a read gives nothing: the file ends here
+pub fill_ends : (bytes buf ys : List ℕ) (at got place place' given : ℕ) → Gives bytes place place' (length (take (length buf - got) (drop got buf))) given ys → given ≡ 0 → place ≡ at + got → got < length buf → length bytes ≡ at + got
+fill_ends bytes buf ys at got place place' given gives none is inside =
     let room : 0 < length (take (length buf - got) (drop got buf)) = omega (arith, length-take (length buf - got) (drop got buf), length-drop got buf, inside) in
-    let end : length bytes ≡ at + got = omega (arith, le_from_not place (length bytes) (λ lt. omega (arith, gives.some room lt, none)), gives.inside, gives.moved, none, is) in
-    rw (ltb_yes (length bytes) (at + n) (omega (arith, end, inside, size))) (ap (λ (k : ℕ). let r : Result (List ℕ) LoadFault = Err (faults.Truncated k) in r) end)
+    omega (arith, le_from_not place (length bytes) (λ lt. omega (arith, gives.some room lt, none)), gives.inside, gives.moved, none, is)
+
+-- the file is too short for an item of four bytes
+pub item_short : (bytes : List ℕ) (at n : ℕ) → length bytes ≡ n → n < at + 4 → item_at bytes at 4 ≡ Err (faults.Truncated n)
+unfolding item_at
+item_short bytes at n end short = rw (ltb_yes (length bytes) (at + 4) (omega (arith, end, short))) (ap (λ (k : ℕ). let r : Result (List ℕ) LoadFault = Err (faults.Truncated k) in r) end)
+
+-- the file ends within the item
+pub item_cut : (bytes buf : List ℕ) (at got n : ℕ) → Fills bytes at got buf → got < n → length buf ≡ n → item_at bytes at n ≡ Err (faults.Truncated (at + got))
+unfolding item_at
+item_cut bytes buf at got n fills short size =
+    let end : length bytes ≡ at + got = fills.end (omega (arith, short, size)) in
+    rw (ltb_yes (length bytes) (at + n) (omega (arith, end, short))) (ap (λ (k : ℕ). let r : Result (List ℕ) LoadFault = Err (faults.Truncated k) in r) end)
 
 -- the item is whole
 pub item_whole : (bytes buf : List ℕ) (at got n : ℕ) → take got buf ≡ take got (drop at bytes) → got ≡ n → length buf ≡ n → at + got ≤ length bytes → item_at bytes at n ≡ Ok buf
@@ -59,3 +68,11 @@ item_more bytes buf ys rest at got n place place' room same inside is gives few 
     let right : take (got + n) (drop at bytes) ≡ take got (drop at bytes) ++ take n ys =
     take-add got n (drop at bytes) ∙ ap (λ (l : List ℕ). take got (drop at bytes) ++ take n l) next ∙ ap (λ (l : List ℕ). take got (drop at bytes) ++ l) (take_at (take n ys) (drop place' bytes) n size_n) in
     left ∙ ap (λ (l : List ℕ). l ++ take n ys) same ∙ sym right
+
+-- bytes that hold the item
+pub item_there : (bytes xs ys zs : List ℕ) (at n : ℕ) → bytes ≡ xs ++ (ys ++ zs) → length xs ≡ at → length ys ≡ n → item_at bytes at n ≡ Ok ys
+unfolding item_at
+item_there bytes xs ys zs at n is first long =
+    let whole : at + n ≤ length bytes = omega (arith, ap length is, length-append xs (ys ++ zs), length-append ys zs, first, long) in
+    let e : take n (drop at bytes) ≡ ys = ap (λ (l : List ℕ). take n (drop at l)) is ∙ ap (λ (l : List ℕ). take n l) (drop_at xs (ys ++ zs) at first) ∙ take_at ys zs n long in
+    rw (ltb_no (length bytes) (at + n) whole) (ap (λ (l : List ℕ). let r : Result (List ℕ) LoadFault = Ok l in r) e)

@@ -1,6 +1,10 @@
 mod Pieces
+pub mod StepLemmas
 pub mod ItemLemmas
 pub mod ChunkLemmas
 pub mod CellLemmas
+pub mod RankLemmas
+pub mod BodyLemmas
+pub mod DumpLemmas
 pub mod SpellingLemmas
 pub mod ReadBackLemmas

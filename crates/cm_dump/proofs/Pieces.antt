@@ -18,21 +18,26 @@ two_pieces f a (suc n) k =
     let y : suc n + k ≡ suc (n + k) = omega arith in
     rw (z, y) (ap (λ (xs : List ℕ). f a ∷ xs) (two_pieces f (a + 1) n k))
 
+-- more went through
+pub more_wrote : (old mid new : Option (List ℕ)) (xs ys zs : List ℕ) → xs ++ ys ≡ zs → mid ≡ then_bytes old xs → new ≡ then_bytes mid ys → new ≡ then_bytes old zs
+more_wrote old mid new xs ys zs whole before now = now ∙ ap (λ (w : Option (List ℕ)). then_bytes w ys) before ∙ then_twice old xs ys ∙ ap (then_bytes old) whole
+
+-- more failed: what was taken is a prefix of all
+pub more_stopped : (old mid new : Option (List ℕ)) (xs ys zs all : List ℕ) (result : Result (Unit {0}) Failed) → xs ++ (ys ++ zs) ≡ all → IsErr result → mid ≡ then_bytes old xs → ((n : ℕ) × (new ≡ then_bytes mid (take n ys))) → Writes old new all result
+more_stopped old mid new xs ys zs all result whole failed before now =
+    let front = front_of_first mid new ys zs now.0 now.1 in
+    let every : Writes old new (xs ++ (ys ++ zs)) result = writes_then old mid new xs (ys ++ zs) result before (writes_front mid new (ys ++ zs) result failed front) in
+    rw whole at every
+
 -- a piece more went through
 pub piece_wrote : (f : ℕ → ℕ) (old mid new : Option (List ℕ)) (at k : ℕ) → mid ≡ then_bytes old (map f (range_with_len 0 at)) → new ≡ then_bytes mid (map f (range_with_len at k)) → new ≡ then_bytes old (map f (range_with_len 0 (at + k)))
 piece_wrote f old mid new at k before now =
-    now ∙ ap (λ (w : Option (List ℕ)). then_bytes w (map f (range_with_len at k))) before ∙ then_twice old (map f (range_with_len 0 at)) (map f (range_with_len at k))
-    ∙ ap (then_bytes old) (let z : 0 + at ≡ at = omega arith in rw z at (two_pieces f 0 at k))
+    more_wrote old mid new (map f (range_with_len 0 at)) (map f (range_with_len at k)) _ (let z : 0 + at ≡ at = omega arith in rw z at (two_pieces f 0 at k)) before now
 
 -- a piece failed
 pub piece_stopped : (f : ℕ → ℕ) (old mid new : Option (List ℕ)) (at k len : ℕ) (result : Result (Unit {0}) Failed) → at + k ≤ len → IsErr result → mid ≡ then_bytes old (map f (range_with_len 0 at))
     → ((n : ℕ) × (new ≡ then_bytes mid (take n (map f (range_with_len at k))))) → Writes old new (map f (range_with_len 0 len)) result
 piece_stopped f old mid new at k len result within failed before now =
-    let xs = map f (range_with_len 0 at) in
-    let ys = map f (range_with_len at (len - at)) in
-    let first : map f (range_with_len at k) ++ map f (range_with_len (at + k) (len - at - k)) ≡ ys = let e : k + (len - at - k) ≡ len - at = omega arith in rw e at (two_pieces f at k (len - at - k)) in
-    let front = front_of_first mid new (map f (range_with_len at k)) (map f (range_with_len (at + k) (len - at - k))) now.0 now.1 in
-    let taken : new ≡ then_bytes mid (take front.0 ys) = front.1 ∙ ap (λ (zs : List ℕ). then_bytes mid (take front.0 zs)) first in
-    let whole : xs ++ ys ≡ map f (range_with_len 0 len) = let z : 0 + at ≡ at = omega arith in let e : at + (len - at) ≡ len = omega arith in rw (z, e) at (two_pieces f 0 at (len - at)) in
-    let all : Writes old new (xs ++ ys) result = writes_then old mid new xs ys result before (writes_front mid new ys result failed (front.0, taken)) in
-    rw whole at all
+    let first : map f (range_with_len at k) ++ map f (range_with_len (at + k) (len - at - k)) ≡ map f (range_with_len at (len - at)) = let e : k + (len - at - k) ≡ len - at = omega arith in rw e at (two_pieces f at k (len - at - k)) in
+    let whole : map f (range_with_len 0 at) ++ map f (range_with_len at (len - at)) ≡ map f (range_with_len 0 len) = let z : 0 + at ≡ at = omega arith in let e : at + (len - at) ≡ len = omega arith in rw (z, e) at (two_pieces f 0 at (len - at)) in
+    more_stopped old mid new (map f (range_with_len 0 at)) (map f (range_with_len at k)) (map f (range_with_len (at + k) (len - at - k))) _ result (ap (λ (ys : List ℕ). map f (range_with_len 0 at) ++ ys) first ∙ whole) failed before now

@@ -1,51 +1,48 @@
 -- Bytes that spell a function are its dump.
-use Rattle.std.proofs.Common.{◌≡◌, ◌∙◌, ℕ, ◌+◌, ◌*◌, ◌/◌, ◌%◌, ◌<◌, ◌≤◌, ◌^◌, ◌&&◌, List, [], ◌∷◌, ◌++◌, length, get_or, take, drop, ap, sym, subst, arith, refl, length-take, length-drop, nat_lt, nat_le, Bool, true, false, if◌then◌else◌, Option, Some, None, Result, Ok, Err, w32, inl, inr, append-nil, lit<}
-use Rattle.std.specs.Prelude.{slice_index}
+use Rattle.std.proofs.Common.{◌≡◌, ◌∙◌, ℕ, ◌+◌, ◌*◌, ◌/◌, ◌%◌, ◌<◌, ◌≤◌, ◌^◌, ◌&&◌, ◌⊎◌, suc, List, [], ◌∷◌, ◌++◌, append_assoc, length, get_or, take, drop, ap, sym, subst, arith, refl, length-take, length-drop, nat_lt, nat_le, Bool, true, false, if◌then◌else◌, Option, Some, None, Result, Ok, Err, w32, inl, inr, append-nil, lit<}
+use Rattle.std.specs.Prelude.{count_by, nat_eq, slice_index}
 use Rattle.std.specs.Int.{to_le_bytes, from_le_bytes}
-use Rattle.std.specs.List.{position_or_len}
-use Rattle.std.specs.Cmp.Lexicographic.{bytes_decides}
+use Rattle.std.specs.List.{flat_map, position_or_len}
+use Rattle.std.specs.Cmp.Lexicographic.{bytes_decides, pointwise}
 use Rattle.std.proofs.Math.ListN.{drop_of_length-le}
 use Rattle.std.proofs.Math.Nat.{lt-div-mul-add}
-use Rattle.std.proofs.lemmas.Bool.{cases_lt, leb-true, leb-false}
+use Rattle.std.proofs.lemmas.Bool.{cases_eq, cases_lt, eqb-true, leb-true, leb-false, ne_eqb}
 use Rattle.std.proofs.lemmas.List.{drop-drop, take-append-drop, get_or-take, get_or-drop, get_or_past, ext_get_or}
 use Rattle.std.proofs.lemmas.List.FromFn.{length-map-range_with_len, get_or-map-range_with_len}
 use Rattle.std.proofs.lemmas.List.Sums.{fails_before_first}
 use Rattle.std.proofs.lemmas.Nat.{le_bytes_4, pow_pos}
+use Rattle.cm_bdz.specs.Functions.{Bdz, BdzPh}
+use Rattle.cm_bits.proofs.PackedFaultLemmas.{IsPacked-sound, image-list}
 use Rattle.cm_bits.specs.Bound.{AllBelow}
 use Rattle.cm_bits.specs.DigitsLaws.{pow_pow, digits_sum-same, digits_sum-digits, digit-digits_sum}
-use Rattle.cm_bits.specs.Fault.{bytes_number, field_cells, fields_fault}
+use Rattle.cm_bits.specs.Fault.{bytes_number, field_cells, fields_fault, packed_fault}
 use Rattle.cm_bits.specs.FieldsLaws.{length-field_cells, field_cells-at}
+use Rattle.cm_bits.specs.Held.{packed_cells}
+use Rattle.cm_bits.specs.PackedLaws.{AllBelow-packed_cells, length-packed_cells}
 use Rattle.cm_bits.specs.declared.fault.ImageFault.{ImageFault}
 use Rattle.cm_outer.specs.declared.key_pass.TheConstants.{MAX_KEYS}
+use Rattle.cm_rank.specs.Ranks.{sampled}
+use Rattle.cm_spec.specs.Bdz.{bdz_size}
+use Rattle.cm_spec.specs.Cells.{is_busy}
 use Rattle.cm_spec.specs.Chm.{Chm, chm_size}
 use Rattle.cm_spec.specs.Dump.{magic, header, fields_image, chm_dump}
-use Rattle.cm_spec.specs.Image.{digits_sum, width_of, fields_len, fields_byte, fields_number}
+use Rattle.cm_spec.specs.Image.{digits_sum, width_of, fields_len, fields_byte, fields_number, packed_byte, packed_len}
+use Rattle.cm_spec.specs.Lists.{list_of}
 use Rattle.cm_dump.specs.declared.fault.LoadFault.{LoadFault}
 use Rattle.cm_dump.specs.declared.fault.LoadFault.TheVariants as faults
+use Rattle.cm_dump.specs.declared.front.Algorithm.{Algorithm}
+use Rattle.cm_dump.specs.declared.front.Algorithm.TheVariants as algorithm
 use Rattle.cm_dump.specs.declared.front.Header.{Header}
+use Rattle.cm_dump.specs.declared.front.Kind.{Kind}
 use Rattle.cm_dump.specs.declared.writer.Func.{Func}
 use Rattle.cm_dump.specs.declared.writer.Func.TheVariants as func
-use Rattle.cm_dump.specs.Dumps.{dump_of}
-use Rattle.cm_dump.specs.Functions.{IsChm, IsFunction}
-use Rattle.cm_dump.specs.Headings.{magic_at, algorithm_at, kind_at, heading_at}
-use Rattle.cm_dump.specs.Reading.{◌>>=◌, item_at, byte_at, number_at, end_at}
-use Rattle.cm_dump.specs.Spelling.{unless_bad, cells_at, chm_at, spelling_of}
-use Rattle.cm_dump.proofs.ChunkLemmas.{ok_err, ok_same, whole_or, ge_of}
-
--- ---- steps that found no fault
-
-record Step {A B : Type 0} (r : Result A LoadFault) (f : A → Result B LoadFault) (y : B) : Type 0 where
-  pub value : A
-  pub was : r ≡ Ok value
-  pub next : f value ≡ Ok y
-
-step : {A B : Type 0} (r : Result A LoadFault) (f : A → Result B LoadFault) (y : B) → (r >>= f) ≡ Ok y → Step r f y
-step (Ok x) f y is = record { value = x; was = refl; next = is }
-step (Err e) f y is = absurd (ok_err y e (sym is))
-
-if_ok : {A : Type 0} (t : Bool) (e : LoadFault) (x y : A) → (if t then (let r : Result A LoadFault = Ok x in r) else Err e) ≡ Ok y → (t ≡ true) × (x ≡ y)
-if_ok true e x y is = (refl, ok_same is)
-if_ok false e x y is = absurd (ok_err y e (sym is))
+use Rattle.cm_dump.specs.Dumps.{packed_image, ranks_image, bdz_dump, bdz_ph_dump, dump_of}
+use Rattle.cm_dump.specs.Functions.{IsFunction}
+use Rattle.cm_dump.specs.Headings.{IsParameter, magic_at, algorithm_of, algorithm_at, least_b, most_b, kind_at, heading_at}
+use Rattle.cm_dump.specs.Reading.{item_at, byte_at, number_at, end_at}
+use Rattle.cm_dump.specs.Spelling.{unless_bad, image_at, fields_at, packed_at, chm_at, counted, ranks_at, ranked_at, bdz_at, bdz_ph_at, body_at, spelling_of}
+use Rattle.cm_dump.proofs.ChunkLemmas.{whole_or, ge_of}
+use Rattle.cm_dump.proofs.StepLemmas.{if_next, if_ok, ok_err, ok_same, step}
 
 both_of : (s t : Bool) → (s && t) ≡ true → (s ≡ true) × (t ≡ true)
 both_of true t is = (refl, is)
@@ -101,13 +98,26 @@ magic_read bytes x is =
     let same : s.value ≡ magic = (bytes_decides s.value magic).0 (if_ok _ _ _ _ s.next).0 in
     subst (λ (xs : List ℕ). Stands bytes 0 8 xs) same (stands bytes 0 8 s.value s.was)
 
-algorithm_read : (bytes : List ℕ) (x : Unit {0}) → algorithm_at bytes ≡ Ok x → Stands bytes 8 1 (1 ∷ [])
+-- the number of an algorithm
+abbrev number_of : Algorithm → ℕ
+number_of algorithm.Chm = 1
+number_of algorithm.Bdz = 2
+number_of algorithm.BdzPh = 3
+
+which_read : (n : ℕ) (a : Algorithm) → algorithm_of n ≡ Ok a → n ≡ number_of a
+which_read n a is = go (cases_eq n 1) (cases_eq n 2) (cases_eq n 3) where
+  go : (n ≡ 1) ⊎ (n ≡ 1 → ⊥) → (n ≡ 2) ⊎ (n ≡ 2 → ⊥) → (n ≡ 3) ⊎ (n ≡ 3 → ⊥) → n ≡ number_of a
+  go (inl one) u v = let e : algorithm_of 1 ≡ Ok a = rw one at is in one ∙ ap number_of (ok_same e)
+  go (inr u) (inl two) v = let e : algorithm_of 2 ≡ Ok a = rw two at is in two ∙ ap number_of (ok_same e)
+  go (inr u) (inr v) (inl three) = let e : algorithm_of 3 ≡ Ok a = rw three at is in three ∙ ap number_of (ok_same e)
+  go (inr one) (inr two) (inr three) = absurd (ok_err a faults.BadAlgorithm (sym is ∙ rw (ne_eqb n 1 one, ne_eqb n 2 two, ne_eqb n 3 three) refl))
+
+algorithm_read : (bytes : List ℕ) (a : Algorithm) → algorithm_at bytes ≡ Ok a → Stands bytes 8 1 (number_of a ∷ [])
 unfolding algorithm_at
-algorithm_read bytes x is =
-    let s = step (item_at bytes 8 1) _ x is in
+algorithm_read bytes a is =
+    let s = step (item_at bytes 8 1) _ a is in
     let there = stands bytes 8 1 s.value s.was in
-    let one : slice_index s.value 0 ≡ 1 = grind (arith, (if_ok _ _ _ _ s.next).0) in
-    subst (λ (xs : List ℕ). Stands bytes 8 1 xs) (one_of s.value 1 there.long one) there
+    subst (λ (xs : List ℕ). Stands bytes 8 1 xs) (one_of s.value (number_of a) there.long (which_read (slice_index s.value 0) a s.next)) there
 
 record ReadsByte (bytes : List ℕ) (at low high b : ℕ) : Type 0 where
   pub there : Stands bytes at 1 (b ∷ [])
@@ -151,25 +161,26 @@ number_read bytes at low high x small is =
 -- ---- the header
 
 record ReadsHeader (bytes : List ℕ) (h : Header) : Type 0 where
+  pub parameter : IsParameter h.algorithm h.b
   pub keys : (1 ≤ h.keys) × (h.keys ≤ MAX_KEYS)
   pub ratio : (1000000 ≤ h.ratio) × (h.ratio ≤ 10000000)
   pub seed : h.seed < 2 ^ 32
-  pub front : bytes ≡ header 1 0 h.keys h.ratio h.seed ++ drop 24 bytes
+  pub front : bytes ≡ header (number_of h.algorithm) h.b h.keys h.ratio h.seed ++ drop 24 bytes
 
-front_is : (bytes : List ℕ) (keys ratio seed : ℕ) → Stands bytes 0 8 magic → Stands bytes 8 1 (1 ∷ []) → Stands bytes 9 1 (0 ∷ []) → Stands bytes 10 1 (0 ∷ []) → Stands bytes 11 1 (0 ∷ [])
-    → Stands bytes 12 4 (to_le_bytes w32 keys) → Stands bytes 16 4 (to_le_bytes w32 ratio) → Stands bytes 20 4 (to_le_bytes w32 seed) → bytes ≡ header 1 0 keys ratio seed ++ drop 24 bytes
+front_is : (bytes : List ℕ) (number b keys ratio seed : ℕ) → Stands bytes 0 8 magic → Stands bytes 8 1 (number ∷ []) → Stands bytes 9 1 (b ∷ []) → Stands bytes 10 1 (0 ∷ []) → Stands bytes 11 1 (0 ∷ [])
+    → Stands bytes 12 4 (to_le_bytes w32 keys) → Stands bytes 16 4 (to_le_bytes w32 ratio) → Stands bytes 20 4 (to_le_bytes w32 seed) → bytes ≡ header number b keys ratio seed ++ drop 24 bytes
 unfolding header
-front_is bytes keys ratio seed a b c d e f g h =
-    let last : drop 16 bytes ≡ to_le_bytes w32 ratio ++ (to_le_bytes w32 seed ++ drop 24 bytes) = g.cut ∙ ap (λ (l : List ℕ). to_le_bytes w32 ratio ++ l) h.cut in
-    let numbers : drop 12 bytes ≡ to_le_bytes w32 keys ++ (to_le_bytes w32 ratio ++ (to_le_bytes w32 seed ++ drop 24 bytes)) = f.cut ∙ ap (λ (l : List ℕ). to_le_bytes w32 keys ++ l) last in
-    let zeros : drop 9 bytes ≡ 0 ∷ 0 ∷ 0 ∷ drop 12 bytes = c.cut ∙ ap (λ (l : List ℕ). 0 ∷ l) (d.cut ∙ ap (λ (l : List ℕ). 0 ∷ l) e.cut) in
-    let begun : bytes ≡ magic ++ (1 ∷ drop 9 bytes) = a.cut ∙ ap (λ (l : List ℕ). magic ++ l) b.cut in
-    begun ∙ ap (λ (l : List ℕ). magic ++ (1 ∷ l)) (zeros ∙ ap (λ (l : List ℕ). 0 ∷ 0 ∷ 0 ∷ l) numbers)
+front_is bytes number b keys ratio seed begun which parameter first second k r s =
+    let last : drop 16 bytes ≡ to_le_bytes w32 ratio ++ (to_le_bytes w32 seed ++ drop 24 bytes) = r.cut ∙ ap (λ (l : List ℕ). to_le_bytes w32 ratio ++ l) s.cut in
+    let numbers : drop 12 bytes ≡ to_le_bytes w32 keys ++ (to_le_bytes w32 ratio ++ (to_le_bytes w32 seed ++ drop 24 bytes)) = k.cut ∙ ap (λ (l : List ℕ). to_le_bytes w32 keys ++ l) last in
+    let zeros : drop 9 bytes ≡ b ∷ 0 ∷ 0 ∷ drop 12 bytes = parameter.cut ∙ ap (λ (l : List ℕ). b ∷ l) (first.cut ∙ ap (λ (l : List ℕ). 0 ∷ l) second.cut) in
+    let all : bytes ≡ magic ++ (number ∷ drop 9 bytes) = begun.cut ∙ ap (λ (l : List ℕ). magic ++ l) which.cut in
+    all ∙ ap (λ (l : List ℕ). magic ++ (number ∷ l)) (zeros ∙ ap (λ (l : List ℕ). b ∷ 0 ∷ 0 ∷ l) numbers)
 
-record ReadsKind (bytes : List ℕ) : Type 0 where
+record ReadsKind (bytes : List ℕ) (k : Kind) : Type 0 where
   pub begun : Stands bytes 0 8 magic
-  pub number : Stands bytes 8 1 (1 ∷ [])
-  pub b : Stands bytes 9 1 (0 ∷ [])
+  pub number : Stands bytes 8 1 (number_of k.algorithm ∷ [])
+  pub b : ReadsByte bytes 9 (least_b k.algorithm) (most_b k.algorithm) k.b
   pub first : Stands bytes 10 1 (0 ∷ [])
   pub second : Stands bytes 11 1 (0 ∷ [])
 
@@ -179,21 +190,22 @@ zero_read bytes at b is =
     let none : b ≡ 0 = omega (arith, r.below) in
     subst (λ (x : ℕ). Stands bytes at 1 (x ∷ [])) none r.there
 
-kind_read : (bytes : List ℕ) (x : Unit {0}) → kind_at bytes ≡ Ok x → ReadsKind bytes
+kind_read : (bytes : List ℕ) (k : Kind) → kind_at bytes ≡ Ok k → ReadsKind bytes k
 unfolding kind_at
-kind_read bytes x is =
-    let a = step (magic_at bytes) _ x is in
-    let b = step (algorithm_at bytes) _ x a.next in
-    let c = step (byte_at bytes 9 0 0) _ x b.next in
-    let d = step (byte_at bytes 10 0 0) _ x c.next in
-    let e = step (byte_at bytes 11 0 0) _ x d.next in
-    record {
-      begun = magic_read bytes a.value a.was;
-      number = algorithm_read bytes b.value b.was;
-      b = zero_read bytes 9 c.value c.was;
-      first = zero_read bytes 10 d.value d.was;
-      second = zero_read bytes 11 e.value e.was;
-    }
+kind_read bytes k is =
+    let begun = step (magic_at bytes) _ k is in
+    let a = step (algorithm_at bytes) _ k begun.next in
+    let b = step (byte_at bytes 9 (least_b a.value) (most_b a.value)) _ k a.next in
+    let first = step (byte_at bytes 10 0 0) _ k b.next in
+    let second = step (byte_at bytes 11 0 0) _ k first.next in
+    let made : ReadsKind bytes (record { algorithm = a.value; b = b.value }) = record {
+      begun = magic_read bytes begun.value begun.was;
+      number = algorithm_read bytes a.value a.was;
+      b = byte_read bytes 9 (least_b a.value) (most_b a.value) b.value b.was;
+      first = zero_read bytes 10 first.value first.was;
+      second = zero_read bytes 11 second.value second.was;
+    } in
+    subst (λ (x : Kind). ReadsKind bytes x) (ok_same second.next) made
 
 heading_read : (bytes : List ℕ) (h : Header) → Small bytes → heading_at bytes ≡ Ok h → ReadsHeader bytes h
 unfolding heading_at
@@ -206,11 +218,12 @@ heading_read bytes h small is =
     let keys = number_read bytes 12 1 MAX_KEYS a.value small a.was in
     let ratio = number_read bytes 16 1000000 10000000 b.value small b.was in
     let seed = number_read bytes 20 0 4294967295 c.value small c.was in
-    let made : ReadsHeader bytes (record { keys = a.value; ratio = b.value; seed = c.value }) = record {
+    let made : ReadsHeader bytes (record { algorithm = k.value.algorithm; b = k.value.b; keys = a.value; ratio = b.value; seed = c.value }) = record {
+      parameter = (kind.b.above, kind.b.below);
       keys = (keys.above, keys.below);
       ratio = (ratio.above, ratio.below);
       seed = omega (arith, seed.below);
-      front = front_is bytes a.value b.value c.value kind.begun kind.number kind.b kind.first kind.second keys.there ratio.there seed.there;
+      front = front_is bytes (number_of k.value.algorithm) k.value.b a.value b.value c.value kind.begun kind.number kind.b.there kind.first kind.second keys.there ratio.there seed.there;
     } in
     subst (λ (x : Header). ReadsHeader bytes x) (ok_same c.next) made
 
@@ -242,9 +255,9 @@ record IsImage (m n : ℕ) (bytes cells : List ℕ) : Type 0 where
   pub below : AllBelow m cells
   pub image : fields_image m cells ≡ bytes
 
-image_read : (m n : ℕ) (bytes : List ℕ) → Small bytes → length bytes ≡ fields_len (width_of m) n → fields_fault (width_of m) n m bytes ≡ None → IsImage m n bytes (field_cells (width_of m) n (bytes_number bytes))
+fields_read : (m n : ℕ) (bytes : List ℕ) → Small bytes → length bytes ≡ fields_len (width_of m) n → fields_fault (width_of m) n m bytes ≡ None → IsImage m n bytes (field_cells (width_of m) n (bytes_number bytes))
 unfolding fields_fault fields_image fields_byte fields_number
-image_read m n bytes small whole none =
+fields_read m n bytes small whole none =
     let w : ℕ = width_of m in
     let number : ℕ = bytes_number bytes in
     let cells : List ℕ = field_cells w n number in
@@ -267,29 +280,52 @@ image_read m n bytes small whole none =
           ∙ digit_of_bytes bytes q small (omega (arith, here, room, whole)));
     }
 
-unless_ok : (at w : ℕ) (o : Option ImageFault) (xs ys : List ℕ) → unless_bad at w o xs ≡ Ok ys → (o ≡ None) × (xs ≡ ys)
-unless_ok at w None xs ys is = (refl, ok_same is)
-unless_ok at w (Some f) xs ys is = absurd (ok_err ys _ (sym is))
+unless_ok : (at : ℕ) (place : ℕ → ℕ) (o : Option ImageFault) (xs ys : List ℕ) → unless_bad at place o xs ≡ Ok ys → (o ≡ None) × (xs ≡ ys)
+unless_ok at place None xs ys is = (refl, ok_same is)
+unless_ok at place (Some f) xs ys is = absurd (ok_err ys _ (sym is))
 
-record ReadsCells (bytes : List ℕ) (m n : ℕ) (cells : List ℕ) : Type 0 where
-  pub there : Stands bytes 24 (fields_len (width_of m) n) (fields_image m cells)
+record ReadsImage (bytes : List ℕ) (at size : ℕ) (fault : List ℕ → Option ImageFault) (item : List ℕ) : Type 0 where
+  pub there : Stands bytes at size item
+  pub none : fault item ≡ None
+
+image_back : (bytes : List ℕ) (at size : ℕ) (place : ℕ → ℕ) (fault : List ℕ → Option ImageFault) (item : List ℕ) → image_at bytes at size place fault ≡ Ok item → ReadsImage bytes at size fault item
+unfolding image_at
+image_back bytes at size place fault item is =
+    let s = step (item_at bytes at size) _ item is in
+    let parts = unless_ok at place (fault s.value) s.value item s.next in
+    let made : ReadsImage bytes at size fault s.value = record { there = stands bytes at size s.value s.was; none = parts.0 } in
+    subst (λ (xs : List ℕ). ReadsImage bytes at size fault xs) parts.1 made
+
+-- the same of cells that are digits
+record IsPackedImage (d p n : ℕ) (bytes cells : List ℕ) : Type 0 where
   pub long : length cells ≡ n
-  pub below : AllBelow m cells
+  pub below : AllBelow d cells
+  pub image : packed_image d p cells ≡ bytes
 
-cells_back : (bytes : List ℕ) (m n : ℕ) (cells : List ℕ) → Small bytes → cells_at bytes 24 n m ≡ Ok cells → ReadsCells bytes m n cells
-unfolding cells_at
-cells_back bytes m n cells small is =
-    let len : ℕ = fields_len (width_of m) n in
-    let s = step (item_at bytes 24 len) _ cells is in
-    let there = stands bytes 24 len s.value s.was in
-    let parts = unless_ok 24 (width_of m) _ _ cells s.next in
-    let made = image_read m n s.value (small_item bytes 24 len s.value small there) there.long parts.0 in
-    let whole : ReadsCells bytes m n (field_cells (width_of m) n (bytes_number s.value)) = record {
-      there = subst (λ (xs : List ℕ). Stands bytes 24 len xs) (sym made.image) there;
-      long = made.long;
-      below = made.below;
-    } in
-    subst (λ (xs : List ℕ). ReadsCells bytes m n xs) parts.1 whole
+packed_read : (d p n : ℕ) (bytes : List ℕ) → 0 < d → 0 < p → length bytes ≡ packed_len p n → packed_fault d p n bytes ≡ None → IsPackedImage d p n bytes (packed_cells d p n bytes)
+unfolding packed_image
+packed_read d p n bytes some many whole none =
+    let long : length (packed_cells d p n bytes) ≡ n = length-packed_cells d p n bytes in
+    record {
+      long = long;
+      below = AllBelow-packed_cells d p n bytes some;
+      image = ap (λ (k : ℕ). list_of (packed_byte d p (packed_cells d p n bytes)) (packed_len p k)) long ∙ sym (image-list d p n bytes (IsPacked-sound d p n bytes some many whole none));
+    }
+
+-- ---- ranks
+
+ranks_back : (bytes : List ℕ) (at : ℕ) (ranks : List ℕ) (x : Unit {0}) → ranks_at bytes at ranks ≡ Ok x → drop at bytes ≡ ranks_image ranks ++ drop (at + 4 * length ranks) bytes
+unfolding ranks_at ranks_image
+ranks_back bytes at [] x is = let z : at + 4 * 0 ≡ at = omega arith in rw z refl
+ranks_back bytes at (r ∷ rs) x is =
+    let s = step (item_at bytes at 4) _ x is in
+    let there = stands bytes at 4 s.value s.was in
+    let test = if_next (pointwise nat_eq s.value (to_le_bytes w32 r)) _ _ x s.next in
+    let same : s.value ≡ to_le_bytes w32 r = (bytes_decides s.value (to_le_bytes w32 r)).0 test.0 in
+    let next : at + 4 + 4 * length rs ≡ at + 4 * suc (length rs) = omega arith in
+    let rest = rw next at (ranks_back bytes (at + 4) rs x test.1) in
+    there.cut ∙ ap (λ (l : List ℕ). l ++ drop (at + 4) bytes) same ∙ ap (λ (l : List ℕ). to_le_bytes w32 r ++ l) rest
+    ∙ sym (append_assoc (to_le_bytes w32 r) (flat_map (to_le_bytes w32) rs) (drop (at + 4 * suc (length rs)) bytes))
 
 -- ---- the whole dump
 
@@ -300,33 +336,100 @@ end_read bytes at x is = ge_of at (length bytes) (trailing_or (nat_lt at (length
   trailing_or true x is = absurd (ok_err x faults.Trailing (sym is))
   trailing_or false x is = refl
 
-record ReadsChm (bytes : List ℕ) (f : Chm) : Type 0 where
-  pub dump : chm_dump f ≡ bytes
-  pub valid : IsChm f
+-- the bytes after an offset, where they end with what stands there
+last_item : (bytes : List ℕ) (at n : ℕ) (xs : List ℕ) → drop at bytes ≡ xs ++ drop n bytes → length bytes ≤ n → drop at bytes ≡ xs
+last_item bytes at n xs cut ended = cut ∙ ap (λ (l : List ℕ). xs ++ l) (drop_of_length-le bytes ended) ∙ append-nil xs
 
-chm_read : (bytes : List ℕ) (f : Chm) → Small bytes → chm_at bytes ≡ Ok f → ReadsChm bytes f
+record ReadsFunction (bytes : List ℕ) (f : Func) : Type 0 where
+  pub dump : dump_of f ≡ bytes
+  pub valid : IsFunction f
+
+chm_read : (bytes : List ℕ) (h : Header) (f : Chm) → Small bytes → ReadsHeader bytes h → h.algorithm ≡ algorithm.Chm → chm_at bytes h ≡ Ok f → ReadsFunction bytes (func.Chm f)
 unfolding chm_at chm_dump
-chm_read bytes f small is =
-    let a = step (heading_at bytes) _ f is in
-    let h = a.value in
+chm_read bytes h f small heading kind is =
     let n : ℕ = chm_size h.keys h.ratio in
-    let b = step (cells_at bytes 24 n h.keys) _ f a.next in
-    let c = step (end_at bytes (24 + fields_len (width_of h.keys) n)) _ f b.next in
-    let heading = heading_read bytes h small a.was in
-    let cells = cells_back bytes h.keys n b.value small b.was in
-    let none : drop (24 + fields_len (width_of h.keys) n) bytes ≡ [] = drop_of_length-le bytes (end_read bytes _ c.value c.was) in
-    let image : drop 24 bytes ≡ fields_image h.keys b.value = cells.there.cut ∙ ap (λ (l : List ℕ). fields_image h.keys b.value ++ l) none ∙ append-nil (fields_image h.keys b.value) in
-    let made : ReadsChm bytes (record { keys = h.keys; ratio = h.ratio; seed = h.seed; cells = b.value }) = record {
-      dump = sym (heading.front ∙ ap (λ (l : List ℕ). header 1 0 h.keys h.ratio h.seed ++ l) image);
+    let len : ℕ = fields_len (width_of h.keys) n in
+    let b = step (fields_at bytes 24 n h.keys) _ f is in
+    let c = step (end_at bytes (24 + len)) _ f b.next in
+    let read = image_back bytes 24 len _ _ b.value b.was in
+    let cells = fields_read h.keys n b.value (small_item bytes 24 len b.value small read.there) read.there.long read.none in
+    let rest : drop 24 bytes ≡ b.value = last_item bytes 24 (24 + len) b.value read.there.cut (end_read bytes _ c.value c.was) in
+    let none : h.b ≡ 0 = omega (arith, (rw kind at heading.parameter).1) in
+    let front : bytes ≡ header 1 0 h.keys h.ratio h.seed ++ drop 24 bytes = rw (kind, none) at heading.front in
+    let made : ReadsFunction bytes (func.Chm (record { keys = h.keys; ratio = h.ratio; seed = h.seed; cells = field_cells (width_of h.keys) n (bytes_number b.value) })) = record {
+      dump = sym (front ∙ ap (λ (l : List ℕ). header 1 0 h.keys h.ratio h.seed ++ l) (rest ∙ sym cells.image));
       valid = record { keys = heading.keys; ratio = heading.ratio; seed = heading.seed; size = cells.long; below = cells.below };
     } in
-    subst (λ (x : Chm). ReadsChm bytes x) (ok_same c.next) made
+    subst (λ (x : Chm). ReadsFunction bytes (func.Chm x)) (ok_same c.next) made
+
+record Counts (h : Header) (cells : List ℕ) (f : Bdz) : Type 0 where
+  pub busy : count_by (is_busy 3) cells ≡ h.keys
+  pub is : (let g : Bdz = record { keys = h.keys; ratio = h.ratio; seed = h.seed; shift = h.b; cells = cells } in g) ≡ f
+
+count_read : (h : Header) (cells : List ℕ) (f : Bdz) → counted h cells ≡ Ok f → Counts h cells f
+unfolding counted
+count_read h cells f is = let test = if_ok _ _ _ _ is in record { busy = eqb-true _ _ test.0; is = test.1 }
+
+bdz_read : (bytes : List ℕ) (h : Header) (f : Bdz) → Small bytes → ReadsHeader bytes h → h.algorithm ≡ algorithm.Bdz → bdz_at bytes h ≡ Ok f → ReadsFunction bytes (func.Bdz f)
+unfolding bdz_at ranked_at bdz_dump
+bdz_read bytes h f small heading kind is =
+    let n : ℕ = bdz_size h.keys h.ratio in
+    let b = step (packed_at bytes 24 4 4 n) _ f is in
+    let read = image_back bytes 24 (packed_len 4 n) _ _ b.value b.was in
+    let cells : List ℕ = packed_cells 4 4 n b.value in
+    let image = packed_read 4 4 n b.value (lit< tt) (lit< tt) read.there.long read.none in
+    let ranks : List ℕ = sampled 3 h.b cells in
+    let at : ℕ = 24 + packed_len 4 (length cells) in
+    let c = step (counted h cells) _ f b.next in
+    let d = step (ranks_at bytes at (sampled 3 c.value.shift c.value.cells)) _ f c.next in
+    let e = step (end_at bytes (at + 4 * length (sampled 3 c.value.shift c.value.cells))) _ f d.next in
+    let count = count_read h cells c.value c.was in
+    let ranked : ranks_at bytes at ranks ≡ Ok d.value = subst (λ (g : Bdz). ranks_at bytes at (sampled 3 g.shift g.cells) ≡ Ok d.value) (sym count.is) d.was in
+    let ended : end_at bytes (at + 4 * length ranks) ≡ Ok e.value = subst (λ (g : Bdz). end_at bytes (at + 4 * length (sampled 3 g.shift g.cells)) ≡ Ok e.value) (sym count.is) e.was in
+    let place : 24 + packed_len 4 n ≡ 24 + packed_len 4 (length cells) = ap (λ (k : ℕ). 24 + packed_len 4 k) (sym image.long) in
+    let last : drop (24 + packed_len 4 (length cells)) bytes ≡ ranks_image ranks = last_item bytes at (at + 4 * length ranks) (ranks_image ranks) (ranks_back bytes at ranks d.value ranked) (end_read bytes _ e.value ended) in
+    let rest : drop 24 bytes ≡ packed_image 4 4 cells ++ ranks_image ranks =
+    read.there.cut ∙ ap (λ (l : List ℕ). l ++ drop (24 + packed_len 4 n) bytes) (sym image.image) ∙ ap (λ (l : List ℕ). packed_image 4 4 cells ++ l) (ap (λ (k : ℕ). drop k bytes) place ∙ last) in
+    let front : bytes ≡ header 2 h.b h.keys h.ratio h.seed ++ drop 24 bytes = rw kind at heading.front in
+    let made : ReadsFunction bytes (func.Bdz (record { keys = h.keys; ratio = h.ratio; seed = h.seed; shift = h.b; cells = cells })) = record {
+      dump = sym (front ∙ ap (λ (l : List ℕ). header 2 h.b h.keys h.ratio h.seed ++ l) rest);
+      valid = record { keys = heading.keys; ratio = heading.ratio; seed = heading.seed; shift = rw kind at heading.parameter; size = image.long; below = image.below; busy = count.busy };
+    } in
+    subst (λ (x : Bdz). ReadsFunction bytes (func.Bdz x)) (count.is ∙ ok_same e.next) made
+
+bdz_ph_read : (bytes : List ℕ) (h : Header) (f : BdzPh) → Small bytes → ReadsHeader bytes h → h.algorithm ≡ algorithm.BdzPh → bdz_ph_at bytes h ≡ Ok f → ReadsFunction bytes (func.BdzPh f)
+unfolding bdz_ph_at bdz_ph_dump
+bdz_ph_read bytes h f small heading kind is =
+    let n : ℕ = bdz_size h.keys h.ratio in
+    let b = step (packed_at bytes 24 3 5 n) _ f is in
+    let c = step (end_at bytes (24 + packed_len 5 n)) _ f b.next in
+    let read = image_back bytes 24 (packed_len 5 n) _ _ b.value b.was in
+    let image = packed_read 3 5 n b.value (lit< tt) (lit< tt) read.there.long read.none in
+    let rest : drop 24 bytes ≡ b.value = last_item bytes 24 (24 + packed_len 5 n) b.value read.there.cut (end_read bytes _ c.value c.was) in
+    let none : h.b ≡ 0 = omega (arith, (rw kind at heading.parameter).1) in
+    let front : bytes ≡ header 3 0 h.keys h.ratio h.seed ++ drop 24 bytes = rw (kind, none) at heading.front in
+    let made : ReadsFunction bytes (func.BdzPh (record { keys = h.keys; ratio = h.ratio; seed = h.seed; cells = packed_cells 3 5 n b.value })) = record {
+      dump = sym (front ∙ ap (λ (l : List ℕ). header 3 0 h.keys h.ratio h.seed ++ l) (rest ∙ sym image.image));
+      valid = record { keys = heading.keys; ratio = heading.ratio; seed = heading.seed; size = image.long; below = image.below };
+    } in
+    subst (λ (x : BdzPh). ReadsFunction bytes (func.BdzPh x)) (ok_same c.next) made
+
+body_read : (bytes : List ℕ) (h : Header) (f : Func) (a : Algorithm) → Small bytes → ReadsHeader bytes h → h.algorithm ≡ a → body_at bytes h a ≡ Ok f → ReadsFunction bytes f
+body_read bytes h f algorithm.Chm small heading kind is =
+    let s = step (chm_at bytes h) _ f is in
+    subst (λ (x : Func). ReadsFunction bytes x) (ok_same s.next) (chm_read bytes h s.value small heading kind s.was)
+body_read bytes h f algorithm.Bdz small heading kind is =
+    let s = step (bdz_at bytes h) _ f is in
+    subst (λ (x : Func). ReadsFunction bytes x) (ok_same s.next) (bdz_read bytes h s.value small heading kind s.was)
+body_read bytes h f algorithm.BdzPh small heading kind is =
+    let s = step (bdz_ph_at bytes h) _ f is in
+    subst (λ (x : Func). ReadsFunction bytes x) (ok_same s.next) (bdz_ph_read bytes h s.value small heading kind s.was)
 
 -- bytes that spell a function are its dump
 pub dump_of-spelled : (bytes : List ℕ) (f : Func) → AllBelow 256 bytes → spelling_of bytes ≡ Ok f → (dump_of f ≡ bytes) × IsFunction f
 unfolding spelling_of
 dump_of-spelled bytes f below is =
-    let a = step (chm_at bytes) _ f is in
-    let r = chm_read bytes a.value (small_bytes bytes below) a.was in
-    let made : (dump_of (func.Chm a.value) ≡ bytes) × IsFunction (func.Chm a.value) = (r.dump, r.valid) in
-    subst (λ (x : Func). (dump_of x ≡ bytes) × IsFunction x) (ok_same a.next) made
+    let small = small_bytes bytes below in
+    let a = step (heading_at bytes) _ f is in
+    let r = body_read bytes a.value f a.value.algorithm small (heading_read bytes a.value small a.was) refl a.next in
+    (r.dump, r.valid)

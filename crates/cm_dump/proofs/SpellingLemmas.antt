@@ -1,35 +1,39 @@
 -- What the dump of a function spells.
-use Rattle.std.proofs.Common.{◌≡◌, ◌∙◌, ℕ, ◌+◌, ◌<◌, ◌≤◌, ◌^◌, List, [], ◌∷◌, ◌++◌, length, take, drop, ap, sym, arith, refl, length-append, Result, Ok, w32, append-nil}
+use Rattle.std.proofs.Common.{◌≡◌, ◌∙◌, ℕ, ◌+◌, ◌*◌, ◌<◌, ◌≤◌, ◌^◌, List, [], ◌∷◌, ◌++◌, length, ap, sym, subst, arith, refl, length-append, append_assoc, Option, None, Ok, w32, append-nil, lit<, eq-eqb}
 use Rattle.std.specs.Int.{to_le_bytes}
 use Rattle.std.proofs.lemmas.Bool.{le-leb}
-use Rattle.std.proofs.lemmas.List.{take_at, drop_at}
-use Rattle.std.proofs.lemmas.List.FromFn.{length-map-range_with_len}
 use Rattle.std.proofs.lemmas.Nat.{from_le_bytes-to_le_bytes_4}
+use Rattle.cm_bdz.specs.Functions.{Bdz, BdzPh}
+use Rattle.cm_bits.specs.Bound.{AllBelow}
+use Rattle.cm_bits.specs.Fault.{fields_fault, packed_fault}
 use Rattle.cm_bits.specs.FieldsLaws.{fields_fault-image}
+use Rattle.cm_bits.specs.PackedLaws.{packed_fault-image}
+use Rattle.cm_bits.specs.declared.fault.ImageFault.{ImageFault}
 use Rattle.cm_outer.specs.declared.key_pass.TheConstants.{MAX_KEYS}
+use Rattle.cm_rank.specs.Ranks.{sampled}
+use Rattle.cm_spec.specs.Bdz.{bdz_size}
 use Rattle.cm_spec.specs.Chm.{Chm, chm_size}
 use Rattle.cm_spec.specs.Dump.{magic, header, fields_image, chm_dump}
-use Rattle.cm_spec.specs.Image.{width_of, fields_len, fields_byte}
+use Rattle.cm_spec.specs.Image.{width_of, fields_len, fields_byte, packed_len, packed_byte}
 use Rattle.cm_spec.specs.Lists.{list_of}
-use Rattle.cm_dump.specs.declared.fault.LoadFault.{LoadFault}
+use Rattle.cm_dump.specs.declared.front.Algorithm.{Algorithm}
+use Rattle.cm_dump.specs.declared.front.Algorithm.TheVariants as algorithm
+use Rattle.cm_dump.specs.declared.front.Header.{Header}
 use Rattle.cm_dump.specs.declared.writer.Func.{Func}
 use Rattle.cm_dump.specs.declared.writer.Func.TheVariants as func
-use Rattle.cm_dump.specs.Dumps.{dump_of}
-use Rattle.cm_dump.specs.Functions.{IsChm, IsFunction}
+use Rattle.cm_dump.specs.Dumps.{packed_image, ranks_image, bdz_dump, bdz_ph_dump, dump_of}
+use Rattle.cm_dump.specs.Functions.{IsChm, IsBdz, IsBdzPh, IsFunction}
 use Rattle.cm_dump.specs.Reading.{item_at, byte_at, number_at, end_at}
-use Rattle.cm_dump.specs.Headings.{magic_at, algorithm_at, kind_at, heading_at}
-use Rattle.cm_dump.specs.Spelling.{cells_at, chm_at, spelling_of}
-use Rattle.cm_dump.proofs.ItemLemmas.{ltb_no}
-use Rattle.cm_dump.proofs.CellLemmas.{cells_of_image, cells_read}
+use Rattle.cm_dump.specs.Headings.{IsParameter, magic_at, algorithm_of, algorithm_at, least_b, most_b, kind_at, heading_at}
+use Rattle.cm_dump.specs.Spelling.{image_at, fields_at, packed_at, chm_at, counted, ranks_at, ranked_at, bdz_at, bdz_ph_at, spelling_of}
+use Rattle.cm_dump.proofs.BodyLemmas.{chm_known, bdz_known, bdz_ph_known}
+use Rattle.cm_dump.proofs.CellLemmas.{image_read}
+use Rattle.cm_dump.proofs.StepLemmas.{ok_same}
+use Rattle.cm_dump.proofs.DumpLemmas.{length-header, length-fields_image, length-packed_image, chm_dump_len, bdz_dump_len, bdz_ph_dump_len}
+use Rattle.cm_dump.proofs.ItemLemmas.{item_there, ltb_no}
+use Rattle.cm_dump.proofs.RankLemmas.{ranks_there}
 
 -- ---- items that are there
-
-pub item_there : (bytes xs ys zs : List ℕ) (at n : ℕ) → bytes ≡ xs ++ (ys ++ zs) → length xs ≡ at → length ys ≡ n → item_at bytes at n ≡ Ok ys
-unfolding item_at
-item_there bytes xs ys zs at n is first long =
-    let whole : at + n ≤ length bytes = omega (arith, ap length is, length-append xs (ys ++ zs), length-append ys zs, first, long) in
-    let e : take n (drop at bytes) ≡ ys = ap (λ (l : List ℕ). take n (drop at l)) is ∙ ap (λ (l : List ℕ). take n l) (drop_at xs (ys ++ zs) at first) ∙ take_at ys zs n long in
-    rw (ltb_no (length bytes) (at + n) whole) (ap (λ (l : List ℕ). let r : Result (List ℕ) LoadFault = Ok l in r) e)
 
 pub byte_there : (bytes : List ℕ) (at low high b : ℕ) → item_at bytes at 1 ≡ Ok (b ∷ []) → low ≤ b → b ≤ high → byte_at bytes at low high ≡ Ok b
 unfolding byte_at
@@ -43,78 +47,144 @@ pub end_there : (bytes : List ℕ) (at : ℕ) → length bytes ≡ at → end_at
 unfolding end_at
 end_there bytes at is = rw (ltb_no at (length bytes) (omega (arith, is))) refl
 
--- ---- the header of a CHM function, and any bytes after it
+pub image_there : (bytes xs ys zs : List ℕ) (at size : ℕ) (place : ℕ → ℕ) (fault : List ℕ → Option ImageFault) → bytes ≡ xs ++ (ys ++ zs) → length xs ≡ at → length ys ≡ size → fault ys ≡ None → image_at bytes at size place fault ≡ Ok ys
+image_there bytes xs ys zs at size place fault is first long none = image_read bytes at size place fault ys (item_there bytes xs ys zs at size is first long) none
 
-pub heading_there : (keys ratio seed : ℕ) (rest : List ℕ) → 1 ≤ keys → keys ≤ MAX_KEYS → 1000000 ≤ ratio → ratio ≤ 10000000 → seed < 2 ^ 32
-    → heading_at (header 1 0 keys ratio seed ++ rest) ≡ Ok (record { keys = keys; ratio = ratio; seed = seed })
+-- ---- a header, and any bytes after it
+
+pub heading_there : (a : Algorithm) (number b keys ratio seed : ℕ) (rest : List ℕ) → algorithm_of number ≡ Ok a → IsParameter a b → 1 ≤ keys → keys ≤ MAX_KEYS → 1000000 ≤ ratio → ratio ≤ 10000000 → seed < 2 ^ 32
+    → heading_at (header number b keys ratio seed ++ rest) ≡ Ok (record { algorithm = a; b = b; keys = keys; ratio = ratio; seed = seed })
 unfolding heading_at kind_at magic_at algorithm_at header
-heading_there keys ratio seed rest some many least most fits =
-    let bytes = header 1 0 keys ratio seed ++ rest in
+heading_there a number b keys ratio seed rest kind range some many least most fits =
+    let bytes = header number b keys ratio seed ++ rest in
     let k = to_le_bytes w32 keys in
     let r = to_le_bytes w32 ratio in
     let s = to_le_bytes w32 seed in
-    let front = magic ++ (1 ∷ 0 ∷ 0 ∷ 0 ∷ []) in
-    let begun = item_there bytes [] magic ((1 ∷ 0 ∷ 0 ∷ 0 ∷ []) ++ (k ++ (r ++ (s ++ rest)))) 0 8 refl refl refl in
-    let number = item_there bytes magic (1 ∷ []) ((0 ∷ 0 ∷ 0 ∷ []) ++ (k ++ (r ++ (s ++ rest)))) 8 1 refl refl refl in
-    let b = byte_there bytes 9 0 0 0 (item_there bytes (magic ++ (1 ∷ [])) (0 ∷ []) ((0 ∷ 0 ∷ []) ++ (k ++ (r ++ (s ++ rest)))) 9 1 refl refl refl) (omega arith) (omega arith) in
-    let first = byte_there bytes 10 0 0 0 (item_there bytes (magic ++ (1 ∷ 0 ∷ [])) (0 ∷ []) ((0 ∷ []) ++ (k ++ (r ++ (s ++ rest)))) 10 1 refl refl refl) (omega arith) (omega arith) in
-    let second = byte_there bytes 11 0 0 0 (item_there bytes (magic ++ (1 ∷ 0 ∷ 0 ∷ [])) (0 ∷ []) (k ++ (r ++ (s ++ rest))) 11 1 refl refl refl) (omega arith) (omega arith) in
+    let front = magic ++ (number ∷ b ∷ 0 ∷ 0 ∷ []) in
+    let begun = item_there bytes [] magic ((number ∷ b ∷ 0 ∷ 0 ∷ []) ++ (k ++ (r ++ (s ++ rest)))) 0 8 refl refl refl in
+    let which = item_there bytes magic (number ∷ []) ((b ∷ 0 ∷ 0 ∷ []) ++ (k ++ (r ++ (s ++ rest)))) 8 1 refl refl refl in
+    let parameter = byte_there bytes 9 (least_b a) (most_b a) b (item_there bytes (magic ++ (number ∷ [])) (b ∷ []) ((0 ∷ 0 ∷ []) ++ (k ++ (r ++ (s ++ rest)))) 9 1 refl refl refl) range.0 range.1 in
+    let first = byte_there bytes 10 0 0 0 (item_there bytes (magic ++ (number ∷ b ∷ [])) (0 ∷ []) ((0 ∷ []) ++ (k ++ (r ++ (s ++ rest)))) 10 1 refl refl refl) (omega arith) (omega arith) in
+    let second = byte_there bytes 11 0 0 0 (item_there bytes (magic ++ (number ∷ b ∷ 0 ∷ [])) (0 ∷ []) (k ++ (r ++ (s ++ rest))) 11 1 refl refl refl) (omega arith) (omega arith) in
     let keys_there = number_there bytes 12 1 MAX_KEYS keys (item_there bytes front k (r ++ (s ++ rest)) 12 4 refl refl refl) (omega (arith, many)) some many in
     let ratio_there = number_there bytes 16 1000000 10000000 ratio (item_there bytes (front ++ k) r (s ++ rest) 16 4 refl refl refl) (omega (arith, most)) least most in
     let seed_there = number_there bytes 20 0 4294967295 seed (item_there bytes (front ++ (k ++ r)) s rest 20 4 refl refl refl) fits (omega arith) (omega (arith, fits)) in
-    rw (begun, number, b, first, second, keys_there, ratio_there, seed_there) refl
+    rw (begun, which, kind, parameter, first, second, keys_there, ratio_there, seed_there) refl
 
-pub length-header : (keys ratio seed : ℕ) → length (header 1 0 keys ratio seed) ≡ 24
-unfolding header
-length-header keys ratio seed = refl
+-- ---- CHM
 
-pub length-fields_image : (bound : ℕ) (cells : List ℕ) → length (fields_image bound cells) ≡ fields_len (width_of bound) (length cells)
+abbrev chm_header : Chm → Header
+chm_header f = record { algorithm = algorithm.Chm; b = 0; keys = f.keys; ratio = f.ratio; seed = f.seed }
+
+chm_heading : (f : Chm) → IsChm f → heading_at (chm_dump f) ≡ Ok (chm_header f)
+unfolding chm_dump
+chm_heading f is = heading_there algorithm.Chm 1 0 f.keys f.ratio f.seed (fields_image f.keys f.cells) refl (omega arith, omega arith) is.keys.0 is.keys.1 is.ratio.0 is.ratio.1 is.seed
+
+fields_same : (f : Chm) → IsChm f → fields_image f.keys f.cells ≡ list_of (fields_byte (width_of f.keys) f.cells) (fields_len (width_of f.keys) (chm_size f.keys f.ratio))
 unfolding fields_image
-length-fields_image bound cells = length-map-range_with_len _ 0 _
+fields_same f is = ap (λ (k : ℕ). list_of (fields_byte (width_of f.keys) f.cells) (fields_len (width_of f.keys) k)) is.size
 
-pub chm_dump_len : (f : Chm) → length (chm_dump f) ≡ 24 + fields_len (width_of f.keys) (length f.cells)
-unfolding chm_dump
-chm_dump_len f =
-    omega (arith, length-append (header 1 0 f.keys f.ratio f.seed) (fields_image f.keys f.cells), length-header f.keys f.ratio f.seed, length-fields_image f.keys f.cells)
+fields_sound : (f : Chm) → IsChm f → fields_fault (width_of f.keys) (chm_size f.keys f.ratio) f.keys (fields_image f.keys f.cells) ≡ None
+fields_sound f is =
+    subst (λ (l : List ℕ). fields_fault (width_of f.keys) (chm_size f.keys f.ratio) f.keys l ≡ None) (sym (fields_same f is)) (rw is.size at (fields_fault-image f.keys f.cells (omega (arith, is.keys.1)) is.below))
 
--- ---- the whole dump
-
-chm_heading : (f : Chm) → IsChm f → heading_at (chm_dump f) ≡ Ok (record { keys = f.keys; ratio = f.ratio; seed = f.seed })
-unfolding chm_dump
-chm_heading f is = heading_there f.keys f.ratio f.seed (fields_image f.keys f.cells) is.keys.0 is.keys.1 is.ratio.0 is.ratio.1 is.seed
-
-chm_image : (f : Chm) → IsChm f → item_at (chm_dump f) 24 (fields_len (width_of f.keys) (chm_size f.keys f.ratio)) ≡ Ok (fields_image f.keys f.cells)
+chm_image : (f : Chm) → IsChm f → fields_at (chm_dump f) 24 (chm_size f.keys f.ratio) f.keys ≡ Ok (fields_image f.keys f.cells)
 unfolding chm_dump
 chm_image f is =
-    item_there (chm_dump f) (header 1 0 f.keys f.ratio f.seed) (fields_image f.keys f.cells) [] 24 _
+    image_there (chm_dump f) (header 1 0 f.keys f.ratio f.seed) (fields_image f.keys f.cells) [] 24 _ _ _
     (ap (λ (l : List ℕ). header 1 0 f.keys f.ratio f.seed ++ l) (sym (append-nil (fields_image f.keys f.cells))))
-    (length-header f.keys f.ratio f.seed)
+    (length-header 1 0 f.keys f.ratio f.seed)
     (length-fields_image f.keys f.cells ∙ ap (fields_len (width_of f.keys)) is.size)
-
-chm_cells : (f : Chm) → IsChm f → cells_at (chm_dump f) 24 (chm_size f.keys f.ratio) f.keys ≡ Ok f.cells
-unfolding fields_image
-chm_cells f is =
-    let m = f.keys in
-    let n = chm_size f.keys f.ratio in
-    let small : m ≤ 67108864 = omega (arith, is.keys.1) in
-    let image = fields_image f.keys f.cells in
-    let none = rw is.size at (fields_fault-image m f.cells small is.below) in
-    let same : image ≡ list_of (fields_byte (width_of m) f.cells) (fields_len (width_of m) n) = ap (λ (k : ℕ). list_of (fields_byte (width_of m) f.cells) (fields_len (width_of m) k)) is.size in
-    cells_read (chm_dump f) m n image f.cells (chm_image f is) (rw same none) (cells_of_image m n f.cells image is.keys.1 is.size is.below same)
+    (fields_sound f is)
 
 chm_end : (f : Chm) → IsChm f → end_at (chm_dump f) (24 + fields_len (width_of f.keys) (chm_size f.keys f.ratio)) ≡ Ok tt
 chm_end f is = end_there (chm_dump f) _ (chm_dump_len f ∙ ap (λ (k : ℕ). 24 + fields_len (width_of f.keys) k) is.size)
 
-chm_spelling : (f : Chm) → IsChm f → chm_at (chm_dump f) ≡ Ok f
-unfolding chm_at
-chm_spelling f is = rw (chm_heading f is, chm_cells f is, chm_end f is) refl
+chm_spelling : (f : Chm) → IsChm f → chm_at (chm_dump f) (chm_header f) ≡ Ok f
+chm_spelling f is = chm_known (chm_dump f) (chm_header f) f.cells f is.keys.1 is.size is.below (chm_image f is ∙ ap Ok (fields_same f is)) (chm_end f is) (record { keys = refl; ratio = refl; seed = refl; cells = refl })
+
+-- ---- digits
+
+digits_image : (d p n : ℕ) (cells : List ℕ) → length cells ≡ n → packed_image d p cells ≡ list_of (packed_byte d p cells) (packed_len p n)
+unfolding packed_image
+digits_image d p n cells size = ap (λ (k : ℕ). list_of (packed_byte d p cells) (packed_len p k)) size
+
+digits_sound : (d p n : ℕ) (cells : List ℕ) → 0 < d → 0 < p → length cells ≡ n → AllBelow d cells → packed_fault d p n (packed_image d p cells) ≡ None
+digits_sound d p n cells some many size below =
+    subst (λ (l : List ℕ). packed_fault d p n l ≡ None) (sym (digits_image d p n cells size)) (rw size at (packed_fault-image d p cells some many below))
+
+-- ---- BDZ
+
+abbrev bdz_header : Bdz → Header
+bdz_header f = record { algorithm = algorithm.Bdz; b = f.shift; keys = f.keys; ratio = f.ratio; seed = f.seed }
+
+bdz_heading : (f : Bdz) → IsBdz f → heading_at (bdz_dump f) ≡ Ok (bdz_header f)
+unfolding bdz_dump
+bdz_heading f is =
+    heading_there algorithm.Bdz 2 f.shift f.keys f.ratio f.seed (packed_image 4 4 f.cells ++ ranks_image (sampled 3 f.shift f.cells)) refl is.shift is.keys.0 is.keys.1 is.ratio.0 is.ratio.1 is.seed
+
+bdz_image : (f : Bdz) → IsBdz f → packed_at (bdz_dump f) 24 4 4 (bdz_size f.keys f.ratio) ≡ Ok (packed_image 4 4 f.cells)
+unfolding bdz_dump
+bdz_image f is =
+    image_there (bdz_dump f) (header 2 f.shift f.keys f.ratio f.seed) (packed_image 4 4 f.cells) (ranks_image (sampled 3 f.shift f.cells)) 24 _ _ _ refl
+    (length-header 2 f.shift f.keys f.ratio f.seed)
+    (length-packed_image 4 4 f.cells ∙ ap (packed_len 4) is.size)
+    (digits_sound 4 4 (bdz_size f.keys f.ratio) f.cells (lit< tt) (lit< tt) is.size is.below)
+
+bdz_counted : (f : Bdz) → IsBdz f → counted (bdz_header f) f.cells ≡ Ok f
+unfolding counted
+bdz_counted f is = rw (eq-eqb _ _ is.busy) refl
+
+bdz_ranks : (f : Bdz) → IsBdz f → ranks_at (bdz_dump f) (24 + packed_len 4 (length f.cells)) (sampled 3 f.shift f.cells) ≡ Ok tt
+unfolding bdz_dump
+bdz_ranks f is =
+    let front = header 2 f.shift f.keys f.ratio f.seed ++ packed_image 4 4 f.cells in
+    let long : length (header 2 f.shift f.keys f.ratio f.seed ++ packed_image 4 4 f.cells) ≡ 24 + packed_len 4 (length f.cells) =
+    length-append (header 2 f.shift f.keys f.ratio f.seed) (packed_image 4 4 f.cells) ∙ omega (arith, length-header 2 f.shift f.keys f.ratio f.seed, length-packed_image 4 4 f.cells) in
+    ranks_there (bdz_dump f) front (sampled 3 f.shift f.cells) [] (24 + packed_len 4 (length f.cells))
+    (sym (append_assoc (header 2 f.shift f.keys f.ratio f.seed) (packed_image 4 4 f.cells) (ranks_image (sampled 3 f.shift f.cells))) ∙ ap (λ (l : List ℕ). front ++ l) (sym (append-nil (ranks_image (sampled 3 f.shift f.cells)))))
+    long
+
+bdz_end : (f : Bdz) → end_at (bdz_dump f) (24 + packed_len 4 (length f.cells) + 4 * length (sampled 3 f.shift f.cells)) ≡ Ok tt
+bdz_end f = end_there (bdz_dump f) _ (bdz_dump_len f)
+
+bdz_spelling : (f : Bdz) → IsBdz f → bdz_at (bdz_dump f) (bdz_header f) ≡ Ok f
+unfolding ranked_at
+bdz_spelling f is =
+    bdz_known (bdz_dump f) (bdz_header f) f.cells is.size is.below (bdz_image f is ∙ ap Ok (digits_image 4 4 (bdz_size f.keys f.ratio) f.cells is.size))
+    ∙ rw (bdz_counted f is, bdz_ranks f is, bdz_end f) refl
+
+-- ---- BDZ_PH
+
+abbrev bdz_ph_header : BdzPh → Header
+bdz_ph_header f = record { algorithm = algorithm.BdzPh; b = 0; keys = f.keys; ratio = f.ratio; seed = f.seed }
+
+bdz_ph_heading : (f : BdzPh) → IsBdzPh f → heading_at (bdz_ph_dump f) ≡ Ok (bdz_ph_header f)
+unfolding bdz_ph_dump
+bdz_ph_heading f is = heading_there algorithm.BdzPh 3 0 f.keys f.ratio f.seed (packed_image 3 5 f.cells) refl (omega arith, omega arith) is.keys.0 is.keys.1 is.ratio.0 is.ratio.1 is.seed
+
+bdz_ph_image : (f : BdzPh) → IsBdzPh f → packed_at (bdz_ph_dump f) 24 3 5 (bdz_size f.keys f.ratio) ≡ Ok (packed_image 3 5 f.cells)
+unfolding bdz_ph_dump
+bdz_ph_image f is =
+    image_there (bdz_ph_dump f) (header 3 0 f.keys f.ratio f.seed) (packed_image 3 5 f.cells) [] 24 _ _ _
+    (ap (λ (l : List ℕ). header 3 0 f.keys f.ratio f.seed ++ l) (sym (append-nil (packed_image 3 5 f.cells))))
+    (length-header 3 0 f.keys f.ratio f.seed)
+    (length-packed_image 3 5 f.cells ∙ ap (packed_len 5) is.size)
+    (digits_sound 3 5 (bdz_size f.keys f.ratio) f.cells (lit< tt) (lit< tt) is.size is.below)
+
+bdz_ph_spelling : (f : BdzPh) → IsBdzPh f → bdz_ph_at (bdz_ph_dump f) (bdz_ph_header f) ≡ Ok f
+bdz_ph_spelling f is =
+    bdz_ph_known (bdz_ph_dump f) (bdz_ph_header f) f.cells f is.size is.below (bdz_ph_image f is ∙ ap Ok (digits_image 3 5 (bdz_size f.keys f.ratio) f.cells is.size))
+    (end_there (bdz_ph_dump f) _ (bdz_ph_dump_len f ∙ ap (λ (k : ℕ). 24 + packed_len 5 k) is.size))
+    (record { keys = refl; ratio = refl; seed = refl; cells = refl })
+
+-- ---- functions of any algorithm
 
 pub spelling_of-dump_of : (f : Func) → IsFunction f → spelling_of (dump_of f) ≡ Ok f
 unfolding spelling_of
-spelling_of-dump_of (func.Chm f) is = rw (chm_spelling f is) refl
-
-ok_same : {A B : Type 0} {x y : A} → (let r : Result A B = Ok x in r) ≡ Ok y → x ≡ y
-ok_same is = grind (arith, is)
+spelling_of-dump_of (func.Chm f) is = rw (chm_heading f is, chm_spelling f is) refl
+spelling_of-dump_of (func.Bdz f) is = rw (bdz_heading f is, bdz_spelling f is) refl
+spelling_of-dump_of (func.BdzPh f) is = rw (bdz_ph_heading f is, bdz_ph_spelling f is) refl
 
 -- equal dumps come from equal functions
 pub same_from_dump : (f g : Func) → IsFunction f → IsFunction g → dump_of f ≡ dump_of g → f ≡ g

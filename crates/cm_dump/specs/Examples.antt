@@ -1,5 +1,6 @@
 -- Dumps that the worked examples are about.
 use Rattle.std.specs.Prelude.{ℕ, List, [], ◌∷◌, ◌++◌, codes}
+use Rattle.cm_bdz.specs.Functions.{Bdz, BdzPh}
 use Rattle.cm_spec.specs.Chm.{Chm}
 
 -- the header of a CHM function of so few keys, with the ratio 2.09 and the seed 0
@@ -13,3 +14,15 @@ one_key = record { keys = 1; ratio = 2090000; seed = 0; cells = 0 ∷ 0 ∷ 0 �
 -- a function of two keys
 abbrev pub two_keys : Chm
 two_keys = record { keys = 2; ratio = 2090000; seed = 0; cells = 0 ∷ 0 ∷ 1 ∷ 0 ∷ 0 ∷ [] }
+
+-- the header of a function by an algorithm of this number, with its parameter, of so few keys, with the ratio 1.23 and the seed 0
+abbrev pub front_of : ℕ → ℕ → ℕ → List ℕ
+front_of algorithm b keys = codes "CMPHDMP1" ++ algorithm ∷ b ∷ 0 ∷ 0 ∷ keys ∷ 0 ∷ 0 ∷ 0 ∷ 0xb0 ∷ 0xc4 ∷ 0x12 ∷ 0 ∷ 0 ∷ 0 ∷ 0 ∷ 0 ∷ []
+
+-- a BDZ function of one key
+abbrev pub bdz_of_one : Bdz
+bdz_of_one = record { keys = 1; ratio = 1230000; seed = 0; shift = 7; cells = 3 ∷ 0 ∷ 3 ∷ 3 ∷ 3 ∷ 3 ∷ 3 ∷ 3 ∷ 3 ∷ [] }
+
+-- a BDZ_PH function of two keys
+abbrev pub bdz_ph_of_two : BdzPh
+bdz_ph_of_two = record { keys = 2; ratio = 1230000; seed = 0; cells = 0 ∷ 0 ∷ 0 ∷ 0 ∷ 0 ∷ 0 ∷ 0 ∷ 0 ∷ 0 ∷ [] }

@@ -1,11 +1,14 @@
 -- The header of a dump, as it is read.
-use Rattle.std.specs.Prelude.{ℕ, List, Result, Ok, Err, ◌==◌, nat_eq, slice_index, if◌then◌else◌}
+use Rattle.std.specs.Prelude.{ℕ, ◌≤◌, List, Result, Ok, Err, ◌==◌, nat_eq, slice_index, if◌then◌else◌}
 use Rattle.std.specs.Cmp.Lexicographic.{pointwise}
 use Rattle.cm_outer.specs.declared.key_pass.TheConstants.{MAX_KEYS}
 use Rattle.cm_spec.specs.Dump.{magic}
 use Rattle.cm_dump.specs.declared.fault.LoadFault.{LoadFault}
 use Rattle.cm_dump.specs.declared.fault.LoadFault.TheVariants as faults
+use Rattle.cm_dump.specs.declared.front.Algorithm.{Algorithm}
+use Rattle.cm_dump.specs.declared.front.Algorithm.TheVariants as algorithm
 use Rattle.cm_dump.specs.declared.front.Header.{Header}
+use Rattle.cm_dump.specs.declared.front.Kind.{Kind}
 use Rattle.cm_dump.specs.Reading.{◌>>=◌, item_at, byte_at, number_at}
 
 -- the first bytes of every dump
@@ -14,27 +17,47 @@ magic_at bytes = do
   item ← item_at bytes 0 8
   if pointwise nat_eq item magic then Ok tt else Err faults.BadMagic
 
--- the number of an algorithm: 1, CHM's
-unfoldable pub algorithm_at : List ℕ → Result (Unit {0}) LoadFault
+-- the algorithm of a number: 1 is CHM's, 2 BDZ's and 3 BDZ_PH's
+abbrev pub algorithm_of : ℕ → Result Algorithm LoadFault
+algorithm_of number =
+    if number == 1 then Ok algorithm.Chm else if number == 2 then Ok algorithm.Bdz else if number == 3 then Ok algorithm.BdzPh else Err faults.BadAlgorithm
+
+-- the number of an algorithm
+unfoldable pub algorithm_at : List ℕ → Result Algorithm LoadFault
 algorithm_at bytes = do
   item ← item_at bytes 8 1
-  if slice_index item 0 == 1 then Ok tt else Err faults.BadAlgorithm
+  algorithm_of (slice_index item 0)
 
--- the magic, the algorithm's number, its parameter b, which CHM has not, and two zeros
-unfoldable pub kind_at : List ℕ → Result (Unit {0}) LoadFault
+-- the least and the greatest parameter b of an algorithm: only BDZ has one, how far apart its ranks are as a power of 2
+abbrev pub least_b : Algorithm → ℕ
+least_b algorithm.Chm = 0
+least_b algorithm.Bdz = 3
+least_b algorithm.BdzPh = 0
+
+abbrev pub most_b : Algorithm → ℕ
+most_b algorithm.Chm = 0
+most_b algorithm.Bdz = 10
+most_b algorithm.BdzPh = 0
+
+-- the parameter is in the range of its algorithm
+abbrev pub IsParameter : Algorithm → ℕ → Type 0
+IsParameter a b = (least_b a ≤ b) × (b ≤ most_b a)
+
+-- the magic, the algorithm's number, its parameter b and two zeros
+unfoldable pub kind_at : List ℕ → Result Kind LoadFault
 kind_at bytes = do
   begun ← magic_at bytes
-  chm ← algorithm_at bytes
-  b ← byte_at bytes 9 0 0
+  a ← algorithm_at bytes
+  b ← byte_at bytes 9 (least_b a) (most_b a)
   first ← byte_at bytes 10 0 0
   second ← byte_at bytes 11 0 0
-  Ok tt
+  Ok (record { algorithm = a; b = b })
 
--- the number of keys, the ratio in millionths and the seed
+-- the kind, the number of keys, the ratio in millionths and the seed
 unfoldable pub heading_at : List ℕ → Result Header LoadFault
 heading_at bytes = do
-  chm ← kind_at bytes
+  kind ← kind_at bytes
   keys ← number_at bytes 12 1 MAX_KEYS
   ratio ← number_at bytes 16 1000000 10000000
   seed ← number_at bytes 20 0 4294967295
-  Ok (record { keys = keys; ratio = ratio; seed = seed })
+  Ok (record { algorithm = kind.algorithm; b = kind.b; keys = keys; ratio = ratio; seed = seed })

@@ -2,6 +2,7 @@ pub mod Dumps
 pub mod Functions
 pub mod Reading
 pub mod Headings
+pub mod Parts
 pub mod Places
 pub mod Spelling
 pub mod Examples

@@ -1,5 +1,5 @@
 -- The items of a file, each at its offset, and the first fault.
-use Rattle.std.specs.Prelude.{◌≡◌, ◌+◌, ◌≤◌, ℕ, List, length, take, drop, Option, Result, Ok, Err, nat_lt, nat_le, slice_index, ◌&&◌, if◌then◌else◌}
+use Rattle.std.specs.Prelude.{◌≡◌, ◌+◌, ◌<◌, ◌≤◌, ℕ, List, length, take, drop, Option, Result, Ok, Err, nat_lt, nat_le, slice_index, ◌&&◌, if◌then◌else◌}
 use Rattle.std.specs.Option.{ForSome}
 use Rattle.std.specs.Int.{w32, from_le_bytes}
 use Rattle.cm_outer.specs.Causes.{Rose}
@@ -33,6 +33,11 @@ number_at bytes at low high = do
 -- nothing follows an offset
 unfoldable pub end_at : List ℕ → ℕ → Result (Unit {0}) LoadFault
 end_at bytes at = if nat_lt at (length bytes) then Err faults.Trailing else Ok tt
+
+-- A buffer got this many of the bytes from an offset on: as many as it has room for, unless they end.
+pub record Fills (bytes : List ℕ) (at got : ℕ) (buf : List ℕ) : Type 0 where
+  pub given : take got buf ≡ take got (drop at bytes)
+  pub end : got < length buf → length bytes ≡ at + got
 
 -- Want of memory, and a source that fails, may come at any time. Any other fault is the one that the bytes have.
 abbrev pub Fails : {Y : Type 0} → LoadFault → Result Y LoadFault → Type 0

@@ -1,44 +1,106 @@
 -- The function that bytes spell, or their first fault.
-use Rattle.std.specs.Prelude.{◌+◌, ◌*◌, ◌/◌, ℕ, List, Option, Some, None, Result, Ok, Err}
+use Rattle.std.specs.Prelude.{◌+◌, ◌*◌, ◌/◌, ℕ, List, [], ◌∷◌, length, nat_eq, ◌==◌, if◌then◌else◌, count_by, Option, Some, None, Result, Ok, Err}
+use Rattle.std.specs.Cmp.Lexicographic.{pointwise}
+use Rattle.std.specs.Int.{to_le_bytes, w32}
+use Rattle.cm_bdz.specs.Functions.{Bdz, BdzPh}
 use Rattle.cm_bits.specs.declared.fault.ImageFault.{ImageFault}
 use Rattle.cm_bits.specs.declared.fault.ImageFault.TheVariants as image
-use Rattle.cm_bits.specs.Fault.{bytes_number, field_cells, fields_fault}
+use Rattle.cm_bits.specs.Fault.{bytes_number, field_cells, fields_fault, packed_fault}
+use Rattle.cm_bits.specs.Held.{packed_cells}
+use Rattle.cm_rank.specs.Ranks.{sampled}
+use Rattle.cm_spec.specs.Bdz.{bdz_size}
+use Rattle.cm_spec.specs.Cells.{is_busy}
 use Rattle.cm_spec.specs.Chm.{Chm, chm_size}
-use Rattle.cm_spec.specs.Image.{width_of, fields_len}
+use Rattle.cm_spec.specs.Image.{width_of, fields_len, packed_len}
 use Rattle.cm_dump.specs.declared.fault.LoadFault.{LoadFault}
 use Rattle.cm_dump.specs.declared.fault.LoadFault.TheVariants as faults
+use Rattle.cm_dump.specs.declared.front.Algorithm.{Algorithm}
+use Rattle.cm_dump.specs.declared.front.Algorithm.TheVariants as algorithm
+use Rattle.cm_dump.specs.declared.front.Header.{Header}
 use Rattle.cm_dump.specs.declared.writer.Func.{Func}
 use Rattle.cm_dump.specs.declared.writer.Func.TheVariants as func
 use Rattle.cm_dump.specs.Reading.{◌>>=◌, item_at, end_at}
 use Rattle.cm_dump.specs.Headings.{heading_at}
 
--- the fault of an image that begins at an offset, whose cells have w bits: a bad cell is named by the byte of its lowest bit
-abbrev pub fault_at : ℕ → ℕ → ImageFault → LoadFault
-fault_at at w image.Memory = faults.Memory
-fault_at at w (image.BadCell i) = faults.BadCell (at + i * w / 8)
-fault_at at w (image.BadPadding q) = faults.BadPadding (at + q)
+-- the fault of an image that begins at an offset: a bad cell is named by the byte of its lowest bit or digit
+abbrev pub fault_at : ℕ → (ℕ → ℕ) → ImageFault → LoadFault
+fault_at at place image.Memory = faults.Memory
+fault_at at place (image.BadCell i) = faults.BadCell (at + place i)
+fault_at at place (image.BadPadding q) = faults.BadPadding (at + q)
 
--- the cells, where their image has no fault
-abbrev pub unless_bad : ℕ → ℕ → Option ImageFault → List ℕ → Result (List ℕ) LoadFault
-unless_bad at w None cells = Ok cells
-unless_bad at w (Some f) cells = Err (fault_at at w f)
+-- the image, where it has no fault
+abbrev pub unless_bad : ℕ → (ℕ → ℕ) → Option ImageFault → List ℕ → Result (List ℕ) LoadFault
+unless_bad at place None item = Ok item
+unless_bad at place (Some f) item = Err (fault_at at place f)
 
--- n cells in as many bits as the bound needs, whose image begins at an offset
-unfoldable pub cells_at : List ℕ → ℕ → ℕ → ℕ → Result (List ℕ) LoadFault
-cells_at bytes at n bound = do
-  item ← item_at bytes at (fields_len (width_of bound) n)
-  unless_bad at (width_of bound) (fields_fault (width_of bound) n bound item) (field_cells (width_of bound) n (bytes_number item))
+-- the image of so many bytes at an offset, by the byte that holds a cell's lowest bit or digit, and by the fault of bytes
+unfoldable pub image_at : List ℕ → ℕ → ℕ → (ℕ → ℕ) → (List ℕ → Option ImageFault) → Result (List ℕ) LoadFault
+image_at bytes at size place fault = do
+  item ← item_at bytes at size
+  unless_bad at place (fault item) item
 
--- the CHM function whose header and cells the bytes are
-unfoldable pub chm_at : List ℕ → Result Chm LoadFault
-chm_at bytes = do
-  heading ← heading_at bytes
-  cells ← cells_at bytes 24 (chm_size heading.keys heading.ratio) heading.keys
-  ended ← end_at bytes (24 + fields_len (width_of heading.keys) (chm_size heading.keys heading.ratio))
-  Ok (record { keys = heading.keys; ratio = heading.ratio; seed = heading.seed; cells = cells })
+-- the image of n cells in as many bits as the bound needs
+abbrev pub fields_at : List ℕ → ℕ → ℕ → ℕ → Result (List ℕ) LoadFault
+fields_at bytes at n bound = image_at bytes at (fields_len (width_of bound) n) (λ i. i * width_of bound / 8) (fields_fault (width_of bound) n bound)
+
+-- the image of n cells that are digits in base d, p of them a byte
+abbrev pub packed_at : List ℕ → ℕ → ℕ → ℕ → ℕ → Result (List ℕ) LoadFault
+packed_at bytes at d p n = image_at bytes at (packed_len p n) (λ i. i / p) (packed_fault d p n)
+
+-- the CHM function of a header and the cells after it
+unfoldable pub chm_at : List ℕ → Header → Result Chm LoadFault
+chm_at bytes h = do
+  image ← fields_at bytes 24 (chm_size h.keys h.ratio) h.keys
+  ended ← end_at bytes (24 + fields_len (width_of h.keys) (chm_size h.keys h.ratio))
+  Ok (record { keys = h.keys; ratio = h.ratio; seed = h.seed; cells = field_cells (width_of h.keys) (chm_size h.keys h.ratio) (bytes_number image) })
+
+-- the BDZ function of a header and cells, of which as many are not 3 as there are keys
+unfoldable pub counted : Header → List ℕ → Result Bdz LoadFault
+counted h cells =
+    if count_by (is_busy 3) cells == h.keys then Ok (record { keys = h.keys; ratio = h.ratio; seed = h.seed; shift = h.b; cells = cells }) else Err (faults.BadCount 24)
+
+-- the ranks are there one after another, four bytes each
+unfoldable pub ranks_at : List ℕ → ℕ → List ℕ → Result (Unit {0}) LoadFault
+ranks_at bytes at [] = Ok tt
+ranks_at bytes at (rank ∷ ranks) = do
+  item ← item_at bytes at 4
+  if pointwise nat_eq item (to_le_bytes w32 rank) then ranks_at bytes (at + 4) ranks else Err (faults.BadRank at)
+
+-- the BDZ function of a header and cells, with the ranks after them
+unfoldable pub ranked_at : List ℕ → Header → List ℕ → Result Bdz LoadFault
+ranked_at bytes h cells = do
+  f ← counted h cells
+  ranked ← ranks_at bytes (24 + packed_len 4 (length cells)) (sampled 3 f.shift f.cells)
+  ended ← end_at bytes (24 + packed_len 4 (length cells) + 4 * length (sampled 3 f.shift f.cells))
+  Ok f
+
+-- the BDZ function of a header, and the cells and ranks after it
+unfoldable pub bdz_at : List ℕ → Header → Result Bdz LoadFault
+bdz_at bytes h = do
+  image ← packed_at bytes 24 4 4 (bdz_size h.keys h.ratio)
+  ranked_at bytes h (packed_cells 4 4 (bdz_size h.keys h.ratio) image)
+
+-- the BDZ_PH function of a header and the cells after it
+unfoldable pub bdz_ph_at : List ℕ → Header → Result BdzPh LoadFault
+bdz_ph_at bytes h = do
+  image ← packed_at bytes 24 3 5 (bdz_size h.keys h.ratio)
+  ended ← end_at bytes (24 + packed_len 5 (bdz_size h.keys h.ratio))
+  Ok (record { keys = h.keys; ratio = h.ratio; seed = h.seed; cells = packed_cells 3 5 (bdz_size h.keys h.ratio) image })
+
+-- the function of a header and what is after it
+abbrev pub body_at : List ℕ → Header → Algorithm → Result Func LoadFault
+body_at bytes h algorithm.Chm = do
+  f ← chm_at bytes h
+  Ok (func.Chm f)
+body_at bytes h algorithm.Bdz = do
+  f ← bdz_at bytes h
+  Ok (func.Bdz f)
+body_at bytes h algorithm.BdzPh = do
+  f ← bdz_ph_at bytes h
+  Ok (func.BdzPh f)
 
 -- the function whose dump the bytes are, or the first fault of the bytes
 unfoldable pub spelling_of : List ℕ → Result Func LoadFault
 spelling_of bytes = do
-  f ← chm_at bytes
-  Ok (func.Chm f)
+  h ← heading_at bytes
+  body_at bytes h h.algorithm

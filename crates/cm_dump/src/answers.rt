@@ -1,24 +1,38 @@
 //! What a function of any algorithm answers.
-ghost use Rattle.cm_dump.specs.Functions.{answer_by, span_by};
+ghost use Rattle.cm_dump.specs.Functions.{answer_by, place_by, span_by};
 
 use crate::Func;
-use cm_algo::Answers;
+use cm_algo::{Answers, Place};
 
 /// A key gets what the function of its algorithm answers.
 impl Answers for Func {
     ghost span_of = { λ f. span_by f };
+
+    ghost place_of = { λ f key. place_by f key };
 
     ghost answer_of = { λ f key. answer_by f key };
 
     fn span(&self) -> u32 {
         match self {
             Func::Chm(chm) => chm.span(),
+            Func::Bdz(bdz) => bdz.span(),
+            Func::BdzPh(bdz_ph) => bdz_ph.span(),
         }
     }
 
-    fn answer(&self, key: &[u8]) -> Option<u32> {
+    fn place(&self, key: &[u8]) -> Place {
         match self {
-            Func::Chm(chm) => chm.answer(key),
+            Func::Chm(chm) => chm.place(key),
+            Func::Bdz(bdz) => bdz.place(key),
+            Func::BdzPh(bdz_ph) => bdz_ph.place(key),
+        }
+    }
+
+    fn answer_at(&self, place: &Place) -> Option<u32> {
+        match self {
+            Func::Chm(chm) => chm.answer_at(place),
+            Func::Bdz(bdz) => bdz.answer_at(place),
+            Func::BdzPh(bdz_ph) => bdz_ph.answer_at(place),
         }
     }
 }

@@ -1,12 +1,12 @@
 //! Worked examples of what bytes spell. Each function has an empty body, and its clauses are checked by the prover.
 ghost use Rattle.std.specs.Prelude.{◌≡◌, ◌++◌, [], ◌∷◌, Ok, Err, take};
-ghost use Rattle.cm_dump.specs.Examples.{front, one_key, two_keys};
+ghost use Rattle.cm_dump.specs.Examples.{bdz_of_one, bdz_ph_of_two, front, front_of, one_key, two_keys};
 ghost use Rattle.cm_dump.specs.Spelling.{spelling_of};
-ghost use Rattle.cm_dump.specs.declared.fault.LoadFault.TheVariants.{Truncated, BadMagic, BadAlgorithm, BadField, BadPadding, BadCell, Trailing};
-ghost use Rattle.cm_dump.specs.declared.writer.Func.TheVariants.{Chm};
+ghost use Rattle.cm_dump.specs.declared.fault.LoadFault.TheVariants.{Truncated, BadMagic, BadAlgorithm, BadField, BadPadding, BadCell, BadCount, BadRank, Trailing};
+ghost use Rattle.cm_dump.specs.declared.writer.Func.TheVariants.{Bdz, BdzPh, Chm};
 
-/// Functions of one key and of two.
-#[tactic(auto, unfolding(crate::specs::Spelling::spelling_of, crate::specs::Spelling::chm_at, crate::specs::Spelling::cells_at, crate::specs::Headings::heading_at, crate::specs::Headings::kind_at, crate::specs::Headings::algorithm_at, crate::specs::Headings::magic_at, crate::specs::Reading::item_at, crate::specs::Reading::byte_at, crate::specs::Reading::number_at, crate::specs::Reading::end_at, cm_bits::specs::Fault::fields_fault, cm_bits::specs::Fault::field_cells, cm_bits::specs::Fault::bytes_number, cm_spec::specs::Image::digits_sum, cm_spec::specs::Image::width_of))]
+/// CHM functions of one key and of two.
+#[tactic(auto, unfolding(crate::specs::Spelling::spelling_of, crate::specs::Spelling::chm_at, crate::specs::Spelling::image_at, crate::specs::Headings::heading_at, crate::specs::Headings::kind_at, crate::specs::Headings::algorithm_at, crate::specs::Headings::magic_at, crate::specs::Reading::item_at, crate::specs::Reading::byte_at, crate::specs::Reading::number_at, crate::specs::Reading::end_at, cm_bits::specs::Fault::fields_fault, cm_bits::specs::Fault::field_cells, cm_bits::specs::Fault::bytes_number, cm_spec::specs::Image::digits_sum, cm_spec::specs::Image::width_of))]
 pub fn spelled()
     ensures one { spelling_of (front 1 ++ 0 ∷ []) ≡ Ok (Chm one_key) }
     ensures two { spelling_of (front 2 ++ 4 ∷ []) ≡ Ok (Chm two_keys) }
@@ -17,4 +17,20 @@ pub fn spelled()
     ensures empty { spelling_of [] ≡ Err (Truncated 0) }
     ensures longer { spelling_of (front 1 ++ 0 ∷ 0 ∷ []) ≡ Err Trailing }
     ensures no_keys { spelling_of (front 0) ≡ Err (BadField 12) }
+{}
+
+/// A BDZ function of one key, and a BDZ_PH function of two.
+#[tactic(auto, unfolding(crate::specs::Spelling::spelling_of, crate::specs::Spelling::bdz_at, crate::specs::Spelling::bdz_ph_at, crate::specs::Spelling::ranked_at, crate::specs::Spelling::ranks_at, crate::specs::Spelling::counted, crate::specs::Spelling::image_at, crate::specs::Headings::heading_at, crate::specs::Headings::kind_at, crate::specs::Headings::algorithm_at, crate::specs::Headings::magic_at, crate::specs::Reading::item_at, crate::specs::Reading::byte_at, crate::specs::Reading::number_at, crate::specs::Reading::end_at, cm_bits::specs::Fault::packed_fault, cm_bits::specs::Held::packed_cells, cm_rank::specs::Ranks::sampled))]
+pub fn spelled_by_three()
+    ensures bdz { spelling_of (front_of 2 7 1 ++ 0xf3 ∷ 0xff ∷ 3 ∷ 0 ∷ 0 ∷ 0 ∷ 0 ∷ []) ≡ Ok (Bdz bdz_of_one) }
+    ensures bdz_parameter { spelling_of (front_of 2 2 1 ++ 0xf3 ∷ 0xff ∷ 3 ∷ 0 ∷ 0 ∷ 0 ∷ 0 ∷ []) ≡ Err (BadField 9) }
+    ensures bdz_padding { spelling_of (front_of 2 7 1 ++ 0xf3 ∷ 0xff ∷ 7 ∷ 0 ∷ 0 ∷ 0 ∷ 0 ∷ []) ≡ Err (BadPadding 26) }
+    ensures bdz_count { spelling_of (front_of 2 7 1 ++ 0xf0 ∷ 0xff ∷ 3 ∷ 0 ∷ 0 ∷ 0 ∷ 0 ∷ []) ≡ Err (BadCount 24) }
+    ensures bdz_rank { spelling_of (front_of 2 7 1 ++ 0xf3 ∷ 0xff ∷ 3 ∷ 1 ∷ 0 ∷ 0 ∷ 0 ∷ []) ≡ Err (BadRank 27) }
+    ensures bdz_cut { spelling_of (front_of 2 7 1 ++ 0xf3 ∷ 0xff ∷ 3 ∷ 0 ∷ 0 ∷ 0 ∷ []) ≡ Err (Truncated 30) }
+    ensures bdz_longer { spelling_of (front_of 2 7 1 ++ 0xf3 ∷ 0xff ∷ 3 ∷ 0 ∷ 0 ∷ 0 ∷ 0 ∷ 0 ∷ []) ≡ Err Trailing }
+    ensures bdz_ph { spelling_of (front_of 3 0 2 ++ 0 ∷ 0 ∷ []) ≡ Ok (BdzPh bdz_ph_of_two) }
+    ensures bdz_ph_cell { spelling_of (front_of 3 0 2 ++ 0 ∷ 243 ∷ []) ≡ Err (BadCell 25) }
+    ensures bdz_ph_padding { spelling_of (front_of 3 0 2 ++ 0 ∷ 81 ∷ []) ≡ Err (BadPadding 25) }
+    ensures no_algorithm { spelling_of (front_of 5 0 2) ≡ Err BadAlgorithm }
 {}

@@ -26,7 +26,7 @@ pub enum LoadFault {
     /// The last byte of an image, here, has padding that isn't zero.
     #[error("bad padding at {at}")]
     BadPadding { at: u64 },
-    /// The cell whose lowest bit this byte holds isn't below the bound.
+    /// The cell whose lowest bit or digit this byte holds isn't below the bound.
     #[error("bad cell at {at}")]
     BadCell { at: u64 },
     /// A number that is counted here is another than the one that was stated.

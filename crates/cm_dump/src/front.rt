@@ -4,7 +4,7 @@ ghost use Rattle.std.specs.Option.{ForSome};
 ghost use Rattle.cm_outer.specs.declared.key_pass.TheConstants.{MAX_KEYS};
 ghost use Rattle.cm_spec.specs.Rule.{IsRatio};
 ghost use Rattle.cm_dump.specs.Reading.{Answers, IsAt, HasLoadCause};
-ghost use Rattle.cm_dump.specs.Headings.{magic_at, algorithm_at, kind_at, heading_at};
+ghost use Rattle.cm_dump.specs.Headings.{IsParameter, algorithm_at, heading_at, kind_at, least_b, magic_at, most_b};
 
 use crate::LoadFault;
 use crate::items::{byte, item, number};
@@ -16,9 +16,28 @@ const MIN_RATIO: u32 = 1_000_000;
 /// The greatest ratio of vertices to keys, in millionths.
 const MAX_RATIO: u32 = 10_000_000;
 
+/// By what a function was built.
+#[derive(Clone, Copy, Debug, PartialEq, Eq)]
+pub enum Algorithm {
+    Chm,
+    Bdz,
+    BdzPh,
+}
+
+/// An algorithm and its parameter.
+#[derive(Clone, Copy, Drop)]
+pub struct Kind {
+    pub algorithm: Algorithm,
+    /// Every `2^b`-th cell of BDZ has its rank kept, with b from 3 to 10; 0 for the others.
+    pub b: u8,
+}
+
 /// What the header of a function says.
-#[derive(Drop)]
+#[derive(Clone, Copy, Drop)]
 pub struct Header {
+    pub algorithm: Algorithm,
+    /// Every `2^b`-th cell of BDZ has its rank kept, with b from 3 to 10; 0 for the others.
+    pub b: u8,
     /// How many keys the function was built over, from 1 to `MAX_KEYS`.
     pub keys: u32,
     /// The ratio of vertices to keys, in millionths.
@@ -45,39 +64,53 @@ fn magic<S: Source>(source: &mut S) -> Result<(), LoadFault>
     }
 }
 
-/// The algorithm's number.
+/// The algorithm by its number: 1 is CHM's, 2 BDZ's and 3 BDZ_PH's.
 #[tactic(auto, unfolding(crate::specs::Headings::algorithm_at))]
-fn algorithm<S: Source>(source: &mut S) -> Result<(), LoadFault>
+fn read_algorithm<S: Source>(source: &mut S) -> Result<Algorithm, LoadFault>
     requires at { IsAt (S.told source.old) (S.place source.old) 8 }
     ensures told { S.told source.new ≡ S.told source.old }
     ensures at { OnOk result (IsAt (S.told source.new) (S.place source.new) 9) }
-    ensures exact { ForSome (S.told source.old) (λ bytes. Answers (λ x. x) result (algorithm_at bytes)) }
+    ensures exact { ForSome (S.told source.old) (λ bytes. Answers (λ a. a) result (algorithm_at bytes)) }
     ensures cause { HasLoadCause (S.faults source.old) (S.faults source.new) result }
 {
     let mut buf = [0; 1];
     item(source, 8, &mut buf)?;
-    if buf[0] == 1 {
-        Ok(())
-    } else {
-        Err(LoadFault::BadAlgorithm)
+    match buf[0] {
+        1 => Ok(Algorithm::Chm),
+        2 => Ok(Algorithm::Bdz),
+        3 => Ok(Algorithm::BdzPh),
+        _ => Err(LoadFault::BadAlgorithm),
+    }
+}
+
+/// The least and the greatest parameter of an algorithm.
+fn parameters(algorithm: Algorithm) -> (u8, u8)
+    ensures least { result.0 ≡ least_b algorithm }
+    ensures most { result.1 ≡ most_b algorithm }
+{
+    match algorithm {
+        Algorithm::Chm | Algorithm::BdzPh => (0, 0),
+        Algorithm::Bdz => (3, 10),
     }
 }
 
 /// The magic, the algorithm's number, its parameter `b` and two zeros.
 #[tactic(auto, unfolding(crate::specs::Headings::kind_at))]
-fn kind<S: Source>(source: &mut S) -> Result<(), LoadFault>
+fn read_kind<S: Source>(source: &mut S) -> Result<Kind, LoadFault>
     requires at { IsAt (S.told source.old) (S.place source.old) 0 }
     ensures told { S.told source.new ≡ S.told source.old }
     ensures at { OnOk result (IsAt (S.told source.new) (S.place source.new) 12) }
-    ensures exact { ForSome (S.told source.old) (λ bytes. Answers (λ x. x) result (kind_at bytes)) }
+    ensures parameter { IfOk result (λ k. IsParameter k.algorithm k.b) }
+    ensures exact { ForSome (S.told source.old) (λ bytes. Answers (λ k. k) result (kind_at bytes)) }
     ensures cause { HasLoadCause (S.faults source.old) (S.faults source.new) result }
 {
     magic(source)?;
-    algorithm(source)?;
-    byte(source, 9, 0, 0)?;
+    let algorithm = read_algorithm(source)?;
+    let (least, most) = parameters(algorithm);
+    let b = byte(source, 9, least, most)?;
     byte(source, 10, 0, 0)?;
     byte(source, 11, 0, 0)?;
-    Ok(())
+    Ok(Kind { algorithm, b })
 }
 
 /// The header at the start of a source.
@@ -86,14 +119,21 @@ pub(crate) fn read_header<S: Source>(source: &mut S) -> Result<Header, LoadFault
     requires at { IsAt (S.told source.old) (S.place source.old) 0 }
     ensures told { S.told source.new ≡ S.told source.old }
     ensures at { OnOk result (IsAt (S.told source.new) (S.place source.new) 24) }
+    ensures parameter { IfOk result (λ h. IsParameter h.algorithm h.b) }
     ensures keys { IfOk result (λ h. (1 ≤ h.keys) × (h.keys ≤ MAX_KEYS)) }
     ensures ratio { IfOk result (λ h. IsRatio h.ratio) }
     ensures exact { ForSome (S.told source.old) (λ bytes. Answers (λ h. h) result (heading_at bytes)) }
     ensures cause { HasLoadCause (S.faults source.old) (S.faults source.new) result }
 {
-    kind(source)?;
+    let kind = read_kind(source)?;
     let keys = number(source, 12, 1, MAX_KEYS)?;
     let ratio = number(source, 16, MIN_RATIO, MAX_RATIO)?;
     let seed = number(source, 20, 0, u32::MAX)?;
-    Ok(Header { keys, ratio, seed })
+    Ok(Header {
+        algorithm: kind.algorithm,
+        b: kind.b,
+        keys,
+        ratio,
+        seed,
+    })
 }

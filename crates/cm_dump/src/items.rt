@@ -2,10 +2,33 @@
 //! what it tells.
 ghost use Rattle.std.specs.Prelude.{◌≡◌, ◌+◌, ◌<◌, ◌≤◌, ◌^◌, ℕ, List, Option, OnOk, IfOk, length};
 ghost use Rattle.std.specs.Option.{ForSome};
-ghost use Rattle.cm_dump.specs.Reading.{Answers, IsAt, HasLoadCause, item_at, byte_at, number_at, end_at};
+ghost use Rattle.cm_outer.specs.Causes.{HasCause};
+ghost use Rattle.cm_dump.specs.Reading.{Answers, Fills, IsAt, HasLoadCause, item_at, byte_at, number_at, end_at};
 
 use crate::LoadFault;
 use cm_outer::{Failed, Source};
+
+/// Fills the buffer from this offset on, in bytes from 0, where the source stands, and says how many bytes it got: fewer than
+/// it has room for only where the source's bytes end. Fails exactly where the source does.
+pub(crate) fn fill<S: Source>(source: &mut S, at: u64, buf: &mut [u8]) -> Result<usize, Failed>
+    requires room { at + length buf.old < 2 ^ 63 }
+    requires at { IsAt (S.told source.old) (S.place source.old) at }
+    ensures told { S.told source.new ≡ S.told source.old }
+    ensures inside { IfOk result (λ got. got ≤ length buf.old) }
+    ensures at { IfOk result (λ got. IsAt (S.told source.new) (S.place source.new) (at + got)) }
+    ensures fills { IfOk result (λ got. ForSome (S.told source.old) (λ bytes. Fills bytes at got buf.new)) }
+    ensures cause { HasCause (S.faults source.old) (S.faults source.new) result }
+{
+    let mut got = 0;
+    while got < buf.len() {
+        match source.read(&mut buf[got..]) {
+            Err(Failed) => return Err(Failed),
+            Ok(0) => return Ok(got),
+            Ok(n) => got += n,
+        }
+    }
+    Ok(got)
+}
 
 /// Fills the buffer with the item at this offset, in bytes from 0, where the source stands.
 pub(crate) fn item<S: Source>(source: &mut S, at: u64, buf: &mut [u8]) -> Result<(), LoadFault>
@@ -16,17 +39,17 @@ pub(crate) fn item<S: Source>(source: &mut S, at: u64, buf: &mut [u8]) -> Result
     ensures exact { ForSome (S.told source.old) (λ bytes. Answers (λ _. buf.new) result (item_at bytes at (length buf.old))) }
     ensures cause { HasLoadCause (S.faults source.old) (S.faults source.new) result }
 {
-    let mut got = 0;
-    while got < buf.len() {
-        match source.read(&mut buf[got..]) {
-            Err(Failed) => return Err(LoadFault::Read),
-            Ok(0) => return Err(LoadFault::Truncated {
-                at: at + got as u64,
-            }),
-            Ok(n) => got += n,
-        }
+    let got = match fill(source, at, buf) {
+        Ok(got) => got,
+        Err(Failed) => return Err(LoadFault::Read),
+    };
+    if got < buf.len() {
+        Err(LoadFault::Truncated {
+            at: at + got as u64,
+        })
+    } else {
+        Ok(())
     }
-    Ok(())
 }
 
 /// The byte at this offset, which is to be from `low` to `high`.

@@ -2,6 +2,8 @@
 #![tactic(auto)]
 
 mod answers;
+#[cfg(test)]
+mod bdz_tests;
 mod bulk;
 pub mod examples;
 mod fault;
@@ -9,6 +11,7 @@ mod front;
 mod image;
 mod items;
 pub mod laws;
+mod ranks;
 mod reader;
 #[cfg(test)]
 mod tests;

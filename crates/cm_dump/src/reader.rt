@@ -1,90 +1,200 @@
 //! The function that a source's bytes spell.
 ghost use Rattle.std.specs.Prelude.{◌≡◌, ◌+◌, ◌*◌, ◌/◌, ◌<◌, ◌≤◌, ◌^◌, ℕ, List, Option, OnOk, IfOk, length};
 ghost use Rattle.std.specs.Option.{ForSome};
-ghost use Rattle.cm_bits.specs.Bound.{AllBelow};
+ghost use Rattle.cm_bits.specs.declared.TheConstants.{MAX_CELLS};
 ghost use Rattle.cm_outer.specs.declared.key_pass.TheConstants.{MAX_KEYS};
-ghost use Rattle.cm_spec.specs.Chm.{chm_size};
-ghost use Rattle.cm_spec.specs.Image.{width_of, fields_len};
+ghost use Rattle.cm_spec.specs.Bdz.{bdz_size};
+ghost use Rattle.cm_spec.specs.Image.{packed_len};
+ghost use Rattle.cm_spec.specs.Lists.{list_of};
 ghost use Rattle.cm_spec.specs.Rule.{IsRatio};
-ghost use Rattle.cm_dump.specs.Functions.{IsChm, IsFunction};
-ghost use Rattle.cm_dump.specs.Places.{IsPlace};
+ghost use Rattle.cm_dump.specs.Functions.{IsBdz, IsBdzPh, IsChm, IsFunction};
+ghost use Rattle.cm_dump.specs.Places.{AreNear, IsPlace};
 ghost use Rattle.cm_dump.specs.Reading.{Answers, IsAt, HasLoadCause};
-ghost use Rattle.cm_dump.specs.Spelling.{fault_at, cells_at, chm_at, spelling_of};
+ghost use Rattle.cm_dump.specs.Spelling.{bdz_at, bdz_ph_at, chm_at, counted, fault_at, image_at, ranked_at, spelling_of};
 
 use crate::bulk::long_item;
-use crate::front::read_header;
+use crate::front::{Algorithm, Header, read_header};
 use crate::items::end;
+use crate::ranks::read_ranks;
 use crate::{Func, LoadFault};
 use cm_algo::{Built, Scheme};
-use cm_bits::{Cells, Fields, ImageFault};
+use cm_bdz::{Bdz, BdzPh, BdzPhScheme, BdzScheme, PartsFault};
+use cm_bits::{Cells, Crumbs, Fields, ImageFault, Trits};
 use cm_chm::{Chm, ChmScheme};
 use cm_outer::Source;
 use std::alloc::Global;
 
-/// The fault of the image of `Fields` that begins at this offset, in bytes from 0.
-#[tactic(auto, using(crate::proofs::CellLemmas::cell_near))]
-fn placed(at: u64, bound: u32, fault: ImageFault) -> LoadFault
+/// The fault of the image that begins at this offset, in bytes from 0.
+fn placed<C: Cells>(at: u64, bound: u32, fault: ImageFault) -> LoadFault
     requires at { at < 2 ^ 32 }
-    requires bound { (1 ≤ bound) × (bound ≤ MAX_KEYS) }
-    requires place { IsPlace fault }
-    ensures { result ≡ fault_at at (width_of bound) fault }
+    requires fit { C.fits bound }
+    requires place { IsPlace (C.cell_place bound) fault }
+    ensures { result ≡ fault_at at (C.cell_place bound) fault }
 {
     match fault {
         ImageFault::Memory => LoadFault::Memory,
         ImageFault::BadCell { cell } => LoadFault::BadCell {
-            at: at + Fields::cell_byte(bound, cell),
+            at: at + C::cell_byte(bound, cell),
         },
         ImageFault::BadPadding { byte } => LoadFault::BadPadding { at: at + byte },
     }
 }
 
-/// The `n` cells below the number of keys, after the header.
-#[tactic(auto, using(crate::proofs::CellLemmas::cells_near, crate::proofs::CellLemmas::fault_place), unfolding(crate::specs::Spelling::cells_at))]
-fn read_cells<S: Source>(
+/// The `n` cells below the bound, after the header.
+#[tactic(auto, unfolding(crate::specs::Spelling::image_at))]
+fn read_cells<C: Cells + Drop, S: Source>(
     alloc: Global,
     source: &mut S,
     n: u32,
-    keys: u32,
-) -> Result<Fields, LoadFault>
-    requires n { n ≤ 671088645 }
-    requires keys { (1 ≤ keys) × (keys ≤ MAX_KEYS) }
+    bound: u32,
+) -> Result<C, LoadFault>
+    requires n { n ≤ MAX_CELLS }
+    requires fit { C.fits bound }
+    requires room { C.image_size n bound < 2 ^ 33 }
+    requires near { AreNear (C.image_size n bound) (C.cell_place bound) (C.image_fault n bound) }
     requires at { IsAt (S.told source.old) (S.place source.old) 24 }
     ensures told { S.told source.new ≡ S.told source.old }
-    ensures at { OnOk result (IsAt (S.told source.new) (S.place source.new) (24 + fields_len (width_of keys) n)) }
-    ensures bound { IfOk result (λ t. ⟦<Fields as Cells>⟧.bound_of t ≡ keys) }
-    ensures size { IfOk result (λ t. length (⟦<Fields as Cells>⟧.cells t) ≡ n) }
-    ensures exact { ForSome (S.told source.old) (λ bytes. Answers (λ t. ⟦<Fields as Cells>⟧.cells t) result (cells_at bytes 24 n keys)) }
+    ensures at { OnOk result (IsAt (S.told source.new) (S.place source.new) (24 + C.image_size n bound)) }
+    ensures bound { IfOk result (λ t. C.bound_of t ≡ bound) }
+    ensures size { IfOk result (λ t. length (C.cells t) ≡ n) }
+    ensures exact { ForSome (S.told source.old) (λ bytes. Answers (λ t. list_of (C.image_byte bound (C.cells t)) (C.image_size n bound)) result (image_at bytes 24 (C.image_size n bound) (C.cell_place bound) (C.image_fault n bound))) }
     ensures cause { HasLoadCause (S.faults source.old) (S.faults source.new) result }
 {
-    let len = Fields::image_len(n, keys);
+    let len = C::image_len(n, bound);
     let bytes = match long_item(alloc, source, 24, len) {
         Ok(bytes) => bytes,
         Err(fault) => return Err(fault),
     };
-    match Fields::from_image(alloc, n, keys, &bytes) {
+    match C::from_image(alloc, n, bound, &bytes) {
         Ok(cells) => Ok(cells),
-        Err(fault) => Err(placed(24, keys, fault)),
+        Err(fault) => Err(placed::<C>(24, bound, fault)),
     }
 }
 
-/// The CHM function that the whole source is the dump of.
-#[tactic(auto, using(crate::proofs::CellLemmas::cells_near, crate::proofs::CellLemmas::few_cells), unfolding(crate::specs::Spelling::chm_at))]
-fn load_chm<S: Source>(alloc: Global, source: &mut S) -> Result<Chm, LoadFault>
-    requires at { IsAt (S.told source.old) (S.place source.old) 0 }
+/// The CHM function of a header, whose dump ends with the source.
+#[tactic(auto, using(crate::proofs::CellLemmas::fields_near, crate::proofs::CellLemmas::few_cells), unfolding(crate::specs::Spelling::chm_at))]
+fn load_chm<S: Source>(alloc: Global, source: &mut S, header: Header) -> Result<Chm, LoadFault>
+    requires keys { (1 ≤ header.keys) × (header.keys ≤ MAX_KEYS) }
+    requires ratio { IsRatio header.ratio }
+    requires at { IsAt (S.told source.old) (S.place source.old) 24 }
     ensures told { S.told source.new ≡ S.told source.old }
-    ensures exact { ForSome (S.told source.old) (λ bytes. Answers (λ f. f) result (chm_at bytes)) }
+    ensures exact { ForSome (S.told source.old) (λ bytes. Answers (λ f. f) result (chm_at bytes header)) }
     ensures valid { IfOk result (λ f. IsChm f) }
     ensures cause { HasLoadCause (S.faults source.old) (S.faults source.new) result }
 {
-    let header = read_header(source)?;
     let n = ChmScheme {}.size(header.keys, header.ratio);
-    let len = Fields::image_len(n, header.keys);
-    let cells = match read_cells(alloc, source, n, header.keys) {
+    let cells: Fields = match read_cells(alloc, source, n, header.keys) {
         Ok(cells) => cells,
         Err(fault) => return Err(fault),
     };
-    match end(source, 24 + len) {
+    match end(source, 24 + Fields::image_len(n, header.keys)) {
         Ok(()) => Ok(Chm::from_built(Built {
+            m: header.keys,
+            c: header.ratio,
+            seed: header.seed,
+            cells,
+        })),
+        Err(fault) => Err(fault),
+    }
+}
+
+/// The BDZ function of a header and its cells. `BadCount` is answered where the cells that aren't 3 are other in number than
+/// the keys.
+#[tactic(auto, unfolding(crate::specs::Spelling::counted))]
+fn count_cells(alloc: Global, header: Header, cells: Crumbs) -> Result<Bdz, LoadFault>
+    requires keys { (1 ≤ header.keys) × (header.keys ≤ MAX_KEYS) }
+    requires ratio { IsRatio header.ratio }
+    requires b { (3 ≤ header.b) × (header.b ≤ 10) }
+    requires size { length (⟦<Crumbs as Cells>⟧.cells cells) ≡ bdz_size header.keys header.ratio }
+    ensures exact { Answers (λ f. f) result (counted header (⟦<Crumbs as Cells>⟧.cells cells)) }
+    ensures valid { IfOk result (λ f. IsBdz f) }
+    ensures cause { (n : ℕ) → HasLoadCause n n result }
+{
+    let built = Built {
+        m: header.keys,
+        c: header.ratio,
+        seed: header.seed,
+        cells,
+    };
+    match Bdz::from_built(alloc, built, header.b) {
+        Ok(bdz) => Ok(bdz),
+        Err(PartsFault::Memory) => Err(LoadFault::Memory),
+        Err(PartsFault::BadCount) => Err(LoadFault::BadCount { at: 24 }),
+    }
+}
+
+/// The BDZ function of a header and its cells, whose dump ends with the source, after the ranks. They are counted once, for
+/// all the cells.
+#[tactic(auto, unfolding(crate::specs::Spelling::ranked_at))]
+fn load_ranked<S: Source>(
+    alloc: Global,
+    source: &mut S,
+    header: Header,
+    cells: Crumbs,
+) -> Result<Bdz, LoadFault>
+    requires keys { (1 ≤ header.keys) × (header.keys ≤ MAX_KEYS) }
+    requires ratio { IsRatio header.ratio }
+    requires b { (3 ≤ header.b) × (header.b ≤ 10) }
+    requires size { length (⟦<Crumbs as Cells>⟧.cells cells) ≡ bdz_size header.keys header.ratio }
+    requires at { IsAt (S.told source.old) (S.place source.old) (24 + packed_len 4 (length (⟦<Crumbs as Cells>⟧.cells cells))) }
+    ensures told { S.told source.new ≡ S.told source.old }
+    ensures exact { ForSome (S.told source.old) (λ bytes. Answers (λ f. f) result (ranked_at bytes header (⟦<Crumbs as Cells>⟧.cells cells))) }
+    ensures valid { IfOk result (λ f. IsBdz f) }
+    ensures cause { HasLoadCause (S.faults source.old) (S.faults source.new) result }
+{
+    let at = 24 + Crumbs::image_len(cells.len(), 4);
+    let bdz = match count_cells(alloc, header, cells) {
+        Ok(bdz) => bdz,
+        Err(fault) => return Err(fault),
+    };
+    let ranks = bdz.ranks();
+    match read_ranks(source, at, ranks) {
+        Ok(()) => {}
+        Err(fault) => return Err(fault),
+    }
+    match end(source, at + 4 * ranks.entries() as u64) {
+        Ok(()) => Ok(bdz),
+        Err(fault) => Err(fault),
+    }
+}
+
+/// The BDZ function of a header, whose dump ends with the source.
+#[tactic(auto, using(crate::proofs::CellLemmas::packed_near, crate::proofs::CellLemmas::few_vertices), unfolding(crate::specs::Spelling::bdz_at))]
+fn load_bdz<S: Source>(alloc: Global, source: &mut S, header: Header) -> Result<Bdz, LoadFault>
+    requires keys { (1 ≤ header.keys) × (header.keys ≤ MAX_KEYS) }
+    requires ratio { IsRatio header.ratio }
+    requires b { (3 ≤ header.b) × (header.b ≤ 10) }
+    requires at { IsAt (S.told source.old) (S.place source.old) 24 }
+    ensures told { S.told source.new ≡ S.told source.old }
+    ensures exact { ForSome (S.told source.old) (λ bytes. Answers (λ f. f) result (bdz_at bytes header)) }
+    ensures valid { IfOk result (λ f. IsBdz f) }
+    ensures cause { HasLoadCause (S.faults source.old) (S.faults source.new) result }
+{
+    let n = BdzScheme {}.size(header.keys, header.ratio);
+    match read_cells(alloc, source, n, 4) {
+        Ok(cells) => load_ranked(alloc, source, header, cells),
+        Err(fault) => Err(fault),
+    }
+}
+
+/// The BDZ_PH function of a header, whose dump ends with the source.
+#[tactic(auto, using(crate::proofs::CellLemmas::packed_near, crate::proofs::CellLemmas::few_vertices), unfolding(crate::specs::Spelling::bdz_ph_at))]
+fn load_bdz_ph<S: Source>(alloc: Global, source: &mut S, header: Header) -> Result<BdzPh, LoadFault>
+    requires keys { (1 ≤ header.keys) × (header.keys ≤ MAX_KEYS) }
+    requires ratio { IsRatio header.ratio }
+    requires at { IsAt (S.told source.old) (S.place source.old) 24 }
+    ensures told { S.told source.new ≡ S.told source.old }
+    ensures exact { ForSome (S.told source.old) (λ bytes. Answers (λ f. f) result (bdz_ph_at bytes header)) }
+    ensures valid { IfOk result (λ f. IsBdzPh f) }
+    ensures cause { HasLoadCause (S.faults source.old) (S.faults source.new) result }
+{
+    let n = BdzPhScheme {}.size(header.keys, header.ratio);
+    let cells: Trits = match read_cells(alloc, source, n, 3) {
+        Ok(cells) => cells,
+        Err(fault) => return Err(fault),
+    };
+    match end(source, 24 + Trits::image_len(n, 3)) {
+        Ok(()) => Ok(BdzPh::from_built(Built {
             m: header.keys,
             c: header.ratio,
             seed: header.seed,
@@ -105,8 +215,19 @@ pub fn load<S: Source>(alloc: Global, source: &mut S) -> Result<Func, LoadFault>
     ensures valid { IfOk result (λ f. IsFunction f) }
     ensures cause { HasLoadCause (S.faults source.old) (S.faults source.new) result }
 {
-    match load_chm(alloc, source) {
-        Ok(chm) => Ok(Func::Chm(chm)),
-        Err(fault) => Err(fault),
+    let header = read_header(source)?;
+    match header.algorithm {
+        Algorithm::Chm => match load_chm(alloc, source, header) {
+            Ok(chm) => Ok(Func::Chm(chm)),
+            Err(fault) => Err(fault),
+        },
+        Algorithm::Bdz => match load_bdz(alloc, source, header) {
+            Ok(bdz) => Ok(Func::Bdz(bdz)),
+            Err(fault) => Err(fault),
+        },
+        Algorithm::BdzPh => match load_bdz_ph(alloc, source, header) {
+            Ok(bdz_ph) => Ok(Func::BdzPh(bdz_ph)),
+            Err(fault) => Err(fault),
+        },
     }
 }

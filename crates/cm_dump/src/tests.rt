@@ -25,14 +25,18 @@ const FIVE: [u8; 29] = [
 ];
 
 /// A source of these bytes, whose listed reads fail.
-fn source_of(alloc: Global, bytes: &[u8], fails: &[u64]) -> Result<MemSource, AllocError>
+pub(crate) fn source_of(alloc: Global, bytes: &[u8], fails: &[u64]) -> Result<MemSource, AllocError>
     ensures start { IfOk result (λ source. source.place ≡ 0) }
 {
     Ok(MemSource::new(bytes.to_vec(alloc)?, fails.to_vec(alloc)?, Vec::new(alloc)))
 }
 
 /// Why these bytes give no function, or that they do.
-fn fault_of(alloc: Global, bytes: &[u8], fails: &[u64]) -> Result<Option<LoadFault>, AllocError> {
+pub(crate) fn fault_of(
+    alloc: Global,
+    bytes: &[u8],
+    fails: &[u64],
+) -> Result<Option<LoadFault>, AllocError> {
     let mut source = source_of(alloc, bytes, fails)?;
     match load(alloc, &mut source) {
         Ok(_) => Ok(None),
@@ -41,7 +45,7 @@ fn fault_of(alloc: Global, bytes: &[u8], fails: &[u64]) -> Result<Option<LoadFau
 }
 
 /// The first `len` of the bytes, or zeros after them, with two of them changed.
-fn changed(
+pub(crate) fn changed(
     alloc: Global,
     bytes: &[u8],
     len: usize,
@@ -58,7 +62,7 @@ fn changed(
 }
 
 /// Whether the bytes are the dump of the function that they give.
-fn is_saved_again(alloc: Global, bytes: &[u8]) -> Result<bool, AllocError> {
+pub(crate) fn is_saved_again(alloc: Global, bytes: &[u8]) -> Result<bool, AllocError> {
     let mut source = source_of(alloc, bytes, &[])?;
     let Ok(function) = load(alloc, &mut source) else {
         return Ok(false);
@@ -81,11 +85,13 @@ fn functions(rt: HostRuntime) -> Result<(), Fail> {
                 assert_eq!(rt; cells.get(i), if i == 2 { 1 } else { 0 });
             }
         }
+        Ok(_other) => assert!(rt; false),
         Err(fault) => assert!(rt; false, "{fault}"),
     }
     let mut source = source_of(alloc, &FIVE, &[])?;
     match load(alloc, &mut source) {
         Ok(Func::Chm(chm)) => assert_eq!(rt; chm.seed(), 0x0102_0304),
+        Ok(_other) => assert!(rt; false),
         Err(fault) => assert!(rt; false, "{fault}"),
     }
     assert!(rt; is_saved_again(alloc, &ONE_EMPTY)?);
@@ -101,8 +107,8 @@ fn changed_bytes(rt: HostRuntime) -> Result<(), Fail> {
         (0, b'c', LoadFault::BadMagic),
         (7, b'2', LoadFault::BadMagic),
         (8, 0, LoadFault::BadAlgorithm),
-        (8, 2, LoadFault::BadAlgorithm),
-        (8, 3, LoadFault::BadAlgorithm),
+        (8, 2, LoadFault::BadField { at: 9 }),
+        (8, 3, LoadFault::Truncated { at: 25 }),
         (8, 4, LoadFault::BadAlgorithm),
         (8, 5, LoadFault::BadAlgorithm),
         (9, 2, LoadFault::BadField { at: 9 }),

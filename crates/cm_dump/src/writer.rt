@@ -3,10 +3,12 @@ ghost use Rattle.std.specs.Prelude.{◌≡◌, ◌++◌, ◌∷◌, [], List, �
 ghost use Rattle.cm_outer.specs.Causes.{HasCause};
 ghost use Rattle.cm_outer.specs.Writing.{Writes};
 ghost use Rattle.cm_spec.specs.Dump.{header, chm_dump};
-ghost use Rattle.cm_dump.specs.Dumps.{dump_of};
+ghost use Rattle.cm_dump.specs.Dumps.{bdz_dump, bdz_ph_dump, dump_of};
 
 use crate::image::save_image;
-use cm_bits::{Cells, Fields};
+use crate::ranks::save_ranks;
+use cm_bdz::{Bdz, BdzPh};
+use cm_bits::{Cells, Crumbs, Fields, Trits};
 use cm_chm::Chm;
 use cm_outer::{Failed, Sink, write_pieces};
 
@@ -14,6 +16,8 @@ use cm_outer::{Failed, Sink, write_pieces};
 #[derive(Drop)]
 pub enum Func {
     Chm(Chm),
+    Bdz(Bdz),
+    BdzPh(BdzPh),
 }
 
 /// Writes the header of a dump: the algorithm's number, its parameter `b`, the number of keys, the ratio in millionths and the
@@ -52,6 +56,27 @@ fn save_chm<O: Sink>(chm: &Chm, out: &mut O) -> Result<(), Failed>
     save_image(chm.cells(), out)
 }
 
+/// Writes the dump of a BDZ function.
+#[tactic(auto, unfolding(crate::specs::Dumps::bdz_dump, crate::specs::Dumps::packed_image))]
+fn save_bdz<O: Sink>(bdz: &Bdz, out: &mut O) -> Result<(), Failed>
+    ensures bytes { Writes (O.written out.old) (O.written out.new) (bdz_dump bdz.now) result }
+    ensures cause { HasCause (O.faults out.old) (O.faults out.new) result }
+{
+    save_header(2, bdz.b(), bdz.keys(), bdz.c(), bdz.seed(), out)?;
+    save_image(bdz.cells(), out)?;
+    save_ranks(bdz.ranks(), out)
+}
+
+/// Writes the dump of a BDZ_PH function.
+#[tactic(auto, unfolding(crate::specs::Dumps::bdz_ph_dump, crate::specs::Dumps::packed_image))]
+fn save_bdz_ph<O: Sink>(bdz_ph: &BdzPh, out: &mut O) -> Result<(), Failed>
+    ensures bytes { Writes (O.written out.old) (O.written out.new) (bdz_ph_dump bdz_ph.now) result }
+    ensures cause { HasCause (O.faults out.old) (O.faults out.new) result }
+{
+    save_header(3, 0, bdz_ph.keys(), bdz_ph.c(), bdz_ph.seed(), out)?;
+    save_image(bdz_ph.cells(), out)
+}
+
 /// Writes the dump of a function. Fails exactly where the sink does, which has then taken a prefix of the dump. It takes no
 /// memory.
 pub fn save<O: Sink>(function: &Func, out: &mut O) -> Result<(), Failed>
@@ -60,16 +85,34 @@ pub fn save<O: Sink>(function: &Func, out: &mut O) -> Result<(), Failed>
 {
     match function {
         Func::Chm(chm) => save_chm(chm, out),
+        Func::Bdz(bdz) => save_bdz(bdz, out),
+        Func::BdzPh(bdz_ph) => save_bdz_ph(bdz_ph, out),
     }
 }
 
 /// How many bytes the dump of a CHM function has.
-#[tactic(auto, using(crate::proofs::SpellingLemmas::chm_dump_len))]
+#[tactic(auto, using(crate::proofs::DumpLemmas::chm_dump_len))]
 fn chm_len(chm: &Chm) -> u64
     ensures { result ≡ length (chm_dump chm.now) }
 {
     let cells = chm.cells();
     24 + Fields::image_len(cells.len(), cells.bound())
+}
+
+/// How many bytes the dump of a BDZ function has.
+#[tactic(auto, using(crate::proofs::DumpLemmas::bdz_dump_len))]
+fn bdz_len(bdz: &Bdz) -> u64
+    ensures { result ≡ length (bdz_dump bdz.now) }
+{
+    24 + Crumbs::image_len(bdz.cells().len(), 4) + 4 * bdz.ranks().entries() as u64
+}
+
+/// How many bytes the dump of a BDZ_PH function has.
+#[tactic(auto, using(crate::proofs::DumpLemmas::bdz_ph_dump_len))]
+fn bdz_ph_len(bdz_ph: &BdzPh) -> u64
+    ensures { result ≡ length (bdz_ph_dump bdz_ph.now) }
+{
+    24 + Trits::image_len(bdz_ph.cells().len(), 3)
 }
 
 /// How many bytes the dump of a function has. It takes no memory.
@@ -78,5 +121,7 @@ pub fn saved_len(function: &Func) -> u64
 {
     match function {
         Func::Chm(chm) => chm_len(chm),
+        Func::Bdz(bdz) => bdz_len(bdz),
+        Func::BdzPh(bdz_ph) => bdz_ph_len(bdz_ph),
     }
 }

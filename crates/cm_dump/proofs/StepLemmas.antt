@@ -1,0 +1,42 @@
+-- What is read after an item.
+use Rattle.std.proofs.Common.{◌≡◌, sym, arith, refl, Bool, true, false, Result, Ok, Err, if◌then◌else◌}
+use Rattle.cm_dump.specs.declared.fault.LoadFault.{LoadFault}
+use Rattle.cm_dump.specs.declared.fault.LoadFault.TheVariants as faults
+use Rattle.cm_dump.specs.Reading.{◌>>=◌, Fails}
+
+pub ok_err : {A B : Type 0} (x : A) (e : B) → (let r : Result A B = Ok x in r) ≡ Err e → ⊥
+ok_err x e is = grind (arith, is)
+
+pub ok_same : {A B : Type 0} {x y : A} → (let r : Result A B = Ok x in r) ≡ Ok y → x ≡ y
+ok_same is = grind (arith, is)
+
+-- a step that found no fault
+pub record Step {A B : Type 0} (r : Result A LoadFault) (f : A → Result B LoadFault) (y : B) : Type 0 where
+  pub value : A
+  pub was : r ≡ Ok value
+  pub next : f value ≡ Ok y
+
+pub step : {A B : Type 0} (r : Result A LoadFault) (f : A → Result B LoadFault) (y : B) → (r >>= f) ≡ Ok y → Step r f y
+step (Ok x) f y is = record { value = x; was = refl; next = is }
+step (Err e) f y is = absurd (ok_err y e (sym is))
+
+pub if_next : {A : Type 0} (t : Bool) (e : LoadFault) (r : Result A LoadFault) (y : A) → (if t then r else Err e) ≡ Ok y → (t ≡ true) × (r ≡ Ok y)
+if_next true e r y is = (refl, is)
+if_next false e r y is = absurd (ok_err y e (sym is))
+
+pub if_ok : {A : Type 0} (t : Bool) (e : LoadFault) (x y : A) → (if t then (let r : Result A LoadFault = Ok x in r) else Err e) ≡ Ok y → (t ≡ true) × (x ≡ y)
+if_ok t e x y is = let parts = if_next t e (Ok x) y is in (parts.0, ok_same parts.1)
+
+-- a fault of an item is one of all that is read with it
+pub fails_then : {A B : Type 0} (f : LoadFault) (r : Result A LoadFault) (next : A → Result B LoadFault) → Fails f r → Fails f (r >>= next)
+fails_then faults.Memory r next is = tt
+fails_then faults.Read r next is = tt
+fails_then (faults.Truncated a) r next is = rw is refl
+fails_then faults.BadMagic r next is = rw is refl
+fails_then faults.BadAlgorithm r next is = rw is refl
+fails_then (faults.BadField a) r next is = rw is refl
+fails_then (faults.BadPadding a) r next is = rw is refl
+fails_then (faults.BadCell a) r next is = rw is refl
+fails_then (faults.BadCount a) r next is = rw is refl
+fails_then (faults.BadRank a) r next is = rw is refl
+fails_then faults.Trailing r next is = rw is refl

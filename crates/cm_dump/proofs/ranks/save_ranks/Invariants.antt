@@ -1,0 +1,14 @@
+use Rattle.std.proofs.Common.{◌≡◌, ◌-◌, ◌≤◌, take}
+use Rattle.cm_outer.specs.Writing.{then_bytes}
+use Rattle.cm_dump.specs.Dumps.{ranks_image}
+use Rattle.cm_dump.proofs.ranks.save_ranks.Given as goal
+
+abbrev pub invariant-pieces : goal.invariant-pieces
+invariant-pieces g l = record {
+  quiet : g.O.Sink.faults l.out ≡ g.O.Sink.faults l.fn.out;
+  within : l.done ≤ l.entries;
+  bytes : g.O.Sink.written l.out ≡ then_bytes (g.O.Sink.written l.fn.out) (ranks_image (take l.done l.ranks.ranks));
+}
+
+abbrev pub decreases-pieces : goal.decreases-pieces
+decreases-pieces g l = l.entries - l.done
