@@ -1,0 +1,4 @@
+pub mod CommandLemmas
+pub mod DigitLemmas
+pub mod JobLemmas
+pub mod NameLemmas

@@ -1,0 +1,21 @@
+-- The algorithm with a name, by what is known of each name.
+use Rattle.std.specs.Prelude.{◌≡◌, ℕ, List, Bool, true, false, None, Some, Option, Decides, refl}
+use Rattle.std.proofs.Common.{arith}
+use Rattle.std.specs.Str.{bytes_eq}
+use Rattle.std.proofs.lemmas.Slice.Eq.{bytes_eq-Decides}
+use Rattle.cm_witness.specs.Names.{name_of}
+use Rattle.cm_witness.specs.declared.algorithm.Algorithm.{Algorithm}
+use Rattle.cm_witness.specs.declared.algorithm.Algorithm.TheVariants.{Chm, Bdz, BdzPh}
+use Rattle.cm_words.specs.Options.{named}
+
+not_same : (b : Bool) (P : Type 0) → Decides b P → ¬ P → b ≡ false
+not_same true P d never = absurd (never (d.0 refl))
+not_same false P d never = refl
+
+other_name : (name : List ℕ) (a : Algorithm) → (name ≡ name_of a → let none : Option Algorithm = None in none ≡ Some a)
+    → bytes_eq name (name_of a) ≡ false
+other_name name a never = not_same (bytes_eq name (name_of a)) _ (bytes_eq-Decides name (name_of a)) (λ is. let bad = never is in grind (arith, bad))
+
+pub named_none : (name : List ℕ) → ((a : Algorithm) → name ≡ name_of a → let none : Option Algorithm = None in none ≡ Some a)
+    → None ≡ named name
+named_none name never = grind (arith, other_name name Chm (never Chm), other_name name Bdz (never Bdz), other_name name BdzPh (never BdzPh))

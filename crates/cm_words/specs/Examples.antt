@@ -1,0 +1,41 @@
+-- Words and jobs that the worked examples are about.
+use Rattle.std.specs.Prelude.{ℕ, ◌==◌, ◌++◌, List, [], ◌∷◌, codes, false, None, if◌then◌else◌}
+use Rattle.clap.specs.Words.{Text}
+use Rattle.cm_witness.specs.declared.algorithm.Algorithm.TheVariants.{Chm}
+use Rattle.cm_words.specs.declared.jobs.BuildJob.{BuildJob}
+use Rattle.cm_words.specs.declared.jobs.QueryJob.{QueryJob}
+
+-- a byte more in front of the first word
+abbrev pub in_first : ℕ → List Text → List Text
+in_first b [] = (b ∷ []) ∷ []
+in_first b (word ∷ words) = (b ∷ word) ∷ words
+
+-- The words of a line: each blank (32) parts two of them, so that an empty word stands before a blank at the start,
+-- after one at the end, and between two.
+abbrev pub typed : List ℕ → List Text
+typed [] = [] ∷ []
+typed (b ∷ bs) = if b == 32 then [] ∷ typed bs else in_first b (typed bs)
+
+-- the query of `cmph keys`
+abbrev pub plain_query : QueryJob
+plain_query = record { keys = codes "keys"; function = codes "keys.mph"; first = None }
+
+-- the query of another file
+abbrev pub query_of_file : Text → QueryJob
+query_of_file path = record { keys = path; function = path ++ codes ".mph"; first = None }
+
+-- the build of `cmph -g keys`
+abbrev pub plain_build : BuildJob
+plain_build = record {
+  keys = codes "keys";
+  function = codes "keys.mph";
+  first = None;
+  algorithm = Chm;
+  c = 2090000;
+  b = 0;
+  seed = 1;
+  count = 100;
+  buffer = 1048576;
+  dir = codes ".";
+  verbose = false;
+}

@@ -1,0 +1,7 @@
+pub mod Command
+pub mod Digits
+pub mod Examples
+pub mod Limits
+pub mod Meaning
+pub mod Options
+pub mod Refusals

@@ -1,0 +1,62 @@
+-- What words mean: a job, or a fault.
+use Rattle.std.specs.Prelude.{◌++◌, Bool, true, false, List, [], ◌∷◌, codes, Option, Some, None, Ok, Err, if◌then◌else◌, unwrap_or}
+use Rattle.clap.specs.Words.{Kinds, Row, Text, fault_of, first_of, matches_of}
+use Rattle.cm_words.specs.Command.{cmph_app}
+use Rattle.cm_words.specs.Options.{Read, and_then, is_counted, is_set, values_of}
+use Rattle.cm_words.specs.declared.fault.UsageFault.TheVariants.{NoFile, Words}
+use Rattle.cm_words.specs.declared.jobs.BuildJob.{BuildJob}
+use Rattle.cm_words.specs.declared.jobs.QueryJob.{QueryJob}
+use Rattle.cm_words.specs.declared.jobs.Job.{Job}
+use Rattle.cm_words.specs.declared.jobs.Job.TheVariants.{Help, Version, Build, Query}
+use Rattle.cm_words.specs.declared.values.Values.{Values}
+
+-- the function file: the one that is named, or that of the keys file
+abbrev pub function_of : Option Text → Text → Text
+function_of given keys = unwrap_or given (keys ++ codes ".mph")
+
+abbrev pub directory_of : Option Text → Text
+directory_of given = unwrap_or given (codes ".")
+
+abbrev pub build_of : Values → Text → List Row → BuildJob
+build_of v keys rows = record {
+  keys = keys;
+  function = function_of (first_of (codes "function") rows) keys;
+  first = v.first;
+  algorithm = v.algorithm;
+  c = v.ratio;
+  b = v.bits;
+  seed = v.seed;
+  count = v.count;
+  buffer = v.buffer;
+  dir = directory_of (first_of (codes "directory") rows);
+  verbose = is_counted (codes "verbose") rows;
+}
+
+abbrev pub query_of : Values → Text → List Row → QueryJob
+query_of v keys rows = record {
+  keys = keys;
+  function = function_of (first_of (codes "function") rows) keys;
+  first = v.first;
+}
+
+-- a build or a query, where the keys file is named
+abbrev pub job_over : Option Text → Values → List Row → Read Job
+job_over None v rows = Err NoFile
+job_over (Some keys) v rows = if is_set (codes "generate") rows then Ok (Build (build_of v keys rows))
+    else Ok (Query (query_of v keys rows))
+
+-- the job of the arguments that clap found
+abbrev pub job_of_rows : List Row → Read Job
+job_of_rows rows = if is_set (codes "help") rows then Ok Help
+    else (if is_set (codes "version") rows then Ok Version
+    else and_then (values_of rows) (λ v. job_over (first_of (codes "keys") rows) v rows))
+
+-- clap has a fault for the words
+abbrev pub is_refused : Kinds → Bool
+is_refused [] = false
+is_refused (kind ∷ kinds) = true
+
+-- the job of the words, of which the first is the program's name
+unfoldable pub job_of : List Text → Read Job
+job_of words = if is_refused (fault_of cmph_app words) then Err Words
+    else job_of_rows (matches_of cmph_app words)

@@ -1,0 +1,54 @@
+//! Why words are refused.
+ghost use Rattle.std.specs.Prelude.{◌≡◌};
+ghost use Rattle.clap.specs.Words.{kind_of};
+ghost use Rattle.cm_words.specs.Refusals.{fault_of_kind};
+ghost use Rattle.cm_words.specs.declared.fault.UsageFault.TheVariants.{Memory};
+
+use clap::error::ErrorKind;
+use std::alloc::{AllocError, AllocFailed};
+use thiserror::Error;
+
+/// Why the words of a command line are no job.
+#[derive(Clone, Copy, Debug, PartialEq, Eq, Error)]
+pub enum UsageFault {
+    /// There was too little memory.
+    #[error("out of memory")]
+    Memory,
+    /// They aren't words that the command takes: an option that it doesn't have, one without its value or given twice, or
+    /// a second file.
+    #[error("bad arguments; cmph -h shows the usage")]
+    Words,
+    /// The value of the option with this letter, in ASCII, is out of form or out of its range.
+    #[error("bad value of -{}", *letter as char)]
+    BadValue { letter: u8 },
+    /// The job needs a keys file, and none is named.
+    #[error("no keys file")]
+    NoFile,
+}
+
+impl From<clap::Error> for UsageFault {
+    ghost from_gives = { λ e u. u ≡ fault_of_kind (kind_of e) };
+
+    fn from(error: clap::Error) -> Self {
+        match error.kind() {
+            ErrorKind::OutOfMemory => UsageFault::Memory,
+            _ => UsageFault::Words,
+        }
+    }
+}
+
+impl<T: Drop> From<AllocFailed<T>> for UsageFault {
+    ghost from_gives = { λ _ u. u ≡ Memory };
+
+    fn from(_: AllocFailed<T>) -> Self {
+        UsageFault::Memory
+    }
+}
+
+impl From<AllocError> for UsageFault {
+    ghost from_gives = { λ _ u. u ≡ Memory };
+
+    fn from(_: AllocError) -> Self {
+        UsageFault::Memory
+    }
+}

@@ -1,0 +1,19 @@
+//! The words of the command line of `cmph`, read as a job.
+#![tactic(auto)]
+
+mod arguments;
+pub mod examples;
+mod fault;
+mod jobs;
+mod numbers;
+mod reading;
+#[cfg(test)]
+mod tests;
+mod texts;
+mod values;
+
+pub use fault::UsageFault;
+pub use jobs::{BuildJob, Job, QueryJob};
+pub use numbers::{millionths, whole};
+pub use reading::read_words;
+pub use texts::Text;

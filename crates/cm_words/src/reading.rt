@@ -1,0 +1,117 @@
+//! The job of the words.
+ghost use Rattle.std.specs.Prelude.{◌≡◌, ◌⊎◌, IfErr, IfOk, map, option_map, string_bytes, true};
+ghost use Rattle.clap.specs.Words.{found_of, rows_of};
+ghost use Rattle.cm_words.specs.Limits.{AreValues, IsBuild, IsJob};
+ghost use Rattle.cm_words.specs.Meaning.{build_of, directory_of, function_of, job_of, job_of_rows, query_of};
+
+use crate::arguments::command;
+use crate::values::{Values, all_values, counted, flag, text};
+use crate::{BuildJob, Job, QueryJob, Text, UsageFault};
+use clap::ArgMatches;
+use std::alloc::{AllocError, Global};
+
+fn copy(alloc: Global, text: &str) -> Result<Text, AllocError>
+    ensures { IfOk result (λ t. t ≡ text.now) }
+{
+    Ok(Text::new(String::from_str(alloc, text)?))
+}
+
+/// The path of the function file: the one that is given, or that of the keys file.
+fn function(alloc: Global, given: Option<&str>, keys: &str) -> Result<Text, AllocError>
+    ensures { IfOk result (λ t. t ≡ function_of (option_map (λ s. s.now) given.entry) keys.now) }
+{
+    match given {
+        Some(path) => copy(alloc, path),
+        None => {
+            let mut path = String::from_str(alloc, keys)?;
+            path.push_str(".mph")?;
+            Ok(Text::new(path))
+        }
+    }
+}
+
+fn directory(alloc: Global, given: Option<&str>) -> Result<Text, AllocError>
+    ensures { IfOk result (λ t. t ≡ directory_of (option_map (λ s. s.now) given.entry)) }
+{
+    match given {
+        Some(path) => copy(alloc, path),
+        None => copy(alloc, "."),
+    }
+}
+
+fn build_job(
+    alloc: Global,
+    matches: &ArgMatches<'_>,
+    values: Values,
+    keys: &str,
+) -> Result<BuildJob, AllocError>
+    requires { AreValues true values }
+    ensures job { IfOk result (λ job. job ≡ build_of values keys.now (rows_of (found_of matches.now))) }
+    ensures within { IfOk result IsBuild }
+{
+    Ok(BuildJob {
+        keys: copy(alloc, keys)?,
+        function: function(alloc, text(matches, "function"), keys)?,
+        first: values.first,
+        algorithm: values.algorithm,
+        c: values.ratio,
+        b: values.bits,
+        seed: values.seed,
+        count: values.count,
+        buffer: values.buffer,
+        dir: directory(alloc, text(matches, "directory"))?,
+        verbose: counted(matches, "verbose"),
+    })
+}
+
+fn query_job(
+    alloc: Global,
+    matches: &ArgMatches<'_>,
+    values: Values,
+    keys: &str,
+) -> Result<QueryJob, AllocError>
+    ensures job { IfOk result (λ job. job ≡ query_of values keys.now (rows_of (found_of matches.now))) }
+{
+    Ok(QueryJob {
+        keys: copy(alloc, keys)?,
+        function: function(alloc, text(matches, "function"), keys)?,
+        first: values.first,
+    })
+}
+
+/// The job of the arguments that clap found.
+fn job(alloc: Global, matches: &ArgMatches<'_>) -> Result<Job, UsageFault>
+    ensures job { IfOk result (λ job. Ok job ≡ job_of_rows (rows_of (found_of matches.now))) }
+    ensures fault { IfErr result (λ fault. (fault ≡ UsageFault.Memory)
+        ⊎ (Err fault ≡ job_of_rows (rows_of (found_of matches.now)))) }
+    ensures within { IfOk result IsJob }
+{
+    if flag(matches, "help") {
+        return Ok(Job::Help);
+    }
+    if flag(matches, "version") {
+        return Ok(Job::Version);
+    }
+    let values = all_values(matches)?;
+    let Some(keys) = text(matches, "keys") else {
+        return Err(UsageFault::NoFile);
+    };
+    if flag(matches, "generate") {
+        Ok(Job::Build(build_job(alloc, matches, values, keys)?))
+    } else {
+        Ok(Job::Query(query_job(alloc, matches, values, keys)?))
+    }
+}
+
+/// Reads the words of a command line, of which the first is the program's name, as a job. It copies the paths, and
+/// answers `Memory` where there is too little for that.
+pub fn read_words(alloc: Global, words: &[String]) -> Result<Job, UsageFault>
+    ensures job { IfOk result (λ job. Ok job ≡ job_of (map (λ w. string_bytes w) words.now)) }
+    ensures fault { IfErr result (λ fault. (fault ≡ UsageFault.Memory)
+        ⊎ (Err fault ≡ job_of (map (λ w. string_bytes w) words.now))) }
+    ensures within { IfOk result IsJob }
+{
+    let command = command(alloc)?;
+    let matches = command.try_get_matches_from(words)?;
+    job(alloc, &matches)
+}

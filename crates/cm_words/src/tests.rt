@@ -1,0 +1,188 @@
+ghost use Rattle.std.specs.Prelude.{IfOk};
+ghost use Rattle.std.specs.Option.{ForSome};
+ghost use Rattle.cm_words.specs.Limits.{IsBuild, IsJob};
+
+use crate::{BuildJob, Job, UsageFault, millionths, read_words, whole};
+use cm_witness::Algorithm;
+use std::alloc::{AllocError, Global};
+use std::test::Fail;
+
+/// The words of a line, which single blanks part.
+fn words_of(alloc: Global, line: &str) -> Result<Vec<String>, AllocError> {
+    let mut words = Vec::new(alloc);
+    for word in line.split(' ') {
+        words.push(String::from_str(alloc, word)?)?;
+    }
+    Ok(words)
+}
+
+fn job_of(alloc: Global, line: &str) -> Result<Job, UsageFault>
+    ensures within { IfOk result IsJob }
+{
+    let words = words_of(alloc, line)?;
+    read_words(alloc, words.as_slice())
+}
+
+fn fault_of(alloc: Global, line: &str) -> Option<UsageFault> {
+    job_of(alloc, line).err()
+}
+
+fn build_of(alloc: Global, line: &str) -> Result<Option<BuildJob>, UsageFault>
+    ensures within { IfOk result (λ found. ForSome found IsBuild) }
+{
+    match job_of(alloc, line)? {
+        Job::Build(job) => Ok(Some(job)),
+        _other => Ok(None),
+    }
+}
+
+#[test]
+fn refuses(rt: HostRuntime) -> Result<(), Fail> {
+    let alloc = rt.alloc();
+    for (line, fault, text) in [
+        ("cmph", UsageFault::NoFile, "no keys file"),
+        ("cmph -g", UsageFault::NoFile, "no keys file"),
+        (
+            "cmph -t 2 keys",
+            UsageFault::Words,
+            "bad arguments; cmph -h shows the usage",
+        ),
+        (
+            "cmph --help",
+            UsageFault::Words,
+            "bad arguments; cmph -h shows the usage",
+        ),
+        (
+            "cmph -T 1",
+            UsageFault::Words,
+            "bad arguments; cmph -h shows the usage",
+        ),
+        (
+            "cmph -g keys more",
+            UsageFault::Words,
+            "bad arguments; cmph -h shows the usage",
+        ),
+        (
+            "cmph -f md5 keys",
+            UsageFault::BadValue { letter: b'f' },
+            "bad value of -f",
+        ),
+        (
+            "cmph -g -a bdz -b 11 keys",
+            UsageFault::BadValue { letter: b'b' },
+            "bad value of -b",
+        ),
+        (
+            "cmph -g -a brz keys",
+            UsageFault::BadValue { letter: b'a' },
+            "bad value of -a",
+        ),
+        (
+            "cmph -M 1025",
+            UsageFault::BadValue { letter: b'M' },
+            "bad value of -M",
+        ),
+    ] {
+        let found = fault_of(alloc, line);
+        assert_eq!(rt; found, Some(fault), "{line}");
+        assert_eq!(rt; format!(in alloc; "{fault}")?.as_str(), text);
+    }
+    assert_eq!(rt; read_words(alloc, &[]).err(), Some(UsageFault::NoFile));
+    Ok(())
+}
+
+#[test]
+fn reads_a_build(rt: HostRuntime) -> Result<(), Fail> {
+    let line =
+        "cmph -vg -abdz -c1.5 -s=0 -r 7 -b 4 -M 1024 -dtmp -f jenkins -k 0000000002 -mf keys";
+    let Some(job) = build_of(rt.alloc(), line)? else {
+        assert!(rt; false, "no build");
+        return Ok(());
+    };
+    assert_eq!(rt; job.keys.as_str(), "keys");
+    assert_eq!(rt; job.function.as_str(), "f");
+    assert_eq!(rt; job.first, Some(2));
+    assert_eq!(rt; job.algorithm, Algorithm::Bdz);
+    assert_eq!(rt; (job.c, job.b, job.seed, job.count), (1_500_000, 4, 0, 7));
+    assert_eq!(rt; job.buffer, 1_073_741_824);
+    assert_eq!(rt; job.dir.as_str(), "tmp");
+    assert!(rt; job.verbose);
+    Ok(())
+}
+
+#[test]
+fn has_defaults(rt: HostRuntime) -> Result<(), Fail> {
+    for (line, algorithm, c, b) in [
+        ("cmph -g keys", Algorithm::Chm, 2_090_000, 0),
+        ("cmph -g -b 11 keys", Algorithm::Chm, 2_090_000, 0),
+        ("cmph -g -a bdz keys", Algorithm::Bdz, 1_230_000, 7),
+        ("cmph -g -a bdz_ph keys", Algorithm::BdzPh, 1_230_000, 0),
+    ] {
+        let Some(job) = build_of(rt.alloc(), line)? else {
+            assert!(rt; false, "no build: {line}");
+            return Ok(());
+        };
+        assert_eq!(rt; job.algorithm, algorithm);
+        assert_eq!(rt;
+            (job.c, job.b, job.seed, job.count, job.buffer),
+            (c, b, 1, 100, 1_048_576),
+            "{line}"
+        );
+        assert_eq!(rt; job.function.as_str(), "keys.mph");
+        assert_eq!(rt; job.dir.as_str(), ".");
+        assert!(rt; job.first.is_none() && !job.verbose);
+    }
+    Ok(())
+}
+
+#[test]
+fn reads_other_jobs(rt: HostRuntime) -> Result<(), Fail> {
+    let alloc = rt.alloc();
+    match job_of(alloc, "cmph -k 1 keys")? {
+        Job::Query(job) => {
+            assert_eq!(rt; job.keys.as_str(), "keys");
+            assert_eq!(rt; job.function.as_str(), "keys.mph");
+            assert_eq!(rt; job.first, Some(1));
+        }
+        _other => assert!(rt; false, "no query"),
+    }
+    assert!(rt; matches!(job_of(alloc, "cmph -s x -V -h"), Ok(Job::Help)));
+    assert!(rt; matches!(job_of(alloc, "cmph -V"), Ok(Job::Version)));
+    Ok(())
+}
+
+#[test]
+fn reads_numbers(rt: HostRuntime) -> Result<(), Fail> {
+    for (text, number) in [
+        ("3", Some(3)),
+        ("0000000010", Some(10)),
+        ("00000000010", None),
+        ("2", None),
+        ("11", None),
+        ("4294967299", None),
+        ("", None),
+        ("+3", None),
+        ("3 ", None),
+        ("0x3", None),
+    ] {
+        assert_eq!(rt; whole(text.as_bytes(), 3, 10), number, "{text}");
+    }
+    for (text, number) in [
+        ("2.09", Some(2_090_000)),
+        ("1", Some(1_000_000)),
+        ("01.000001", Some(1_000_001)),
+        ("10.000000", Some(10_000_000)),
+        ("10.000001", None),
+        ("0.999999", None),
+        ("1.", None),
+        (".5", None),
+        ("001", None),
+        ("1.0000000", None),
+        ("1,5", None),
+        ("1.5.5", None),
+        ("", None),
+    ] {
+        assert_eq!(rt; millionths(text.as_bytes()), number, "{text}");
+    }
+    Ok(())
+}

@@ -1,0 +1,34 @@
+//! A text that contracts see as its bytes.
+ghost use Rattle.std.specs.Prelude.{◌≡◌, string_bytes};
+
+use std::marker::Model;
+
+/// A text, such as a path. Contracts see it as the list of its bytes.
+#[derive(Debug, Drop)]
+pub struct Text {
+    text: String,
+}
+
+impl Model for Text {
+    ghost use Rattle.std.specs.Prelude.{List, ℕ, string_bytes};
+
+    ghost Value = { List ℕ };
+
+    ghost view = { λ a. string_bytes a.text };
+}
+
+impl Text {
+    /// Wraps a text. It takes no memory.
+    pub fn new(text: String) -> Text
+        ensures bytes { result ≡ string_bytes text }
+    {
+        Text { text }
+    }
+
+    /// Lends the text.
+    pub fn as_str(&self) -> &str
+        ensures bytes { result.now ≡ self.now }
+    {
+        self.text.as_str()
+    }
+}
