@@ -24,7 +24,8 @@ use Rattle.cm_query.specs.declared.fault.QueryFault.TheVariants as query_fault
 use Rattle.cm_query.specs.declared.tally.Tally.{Tally}
 use Rattle.cm_tool.specs.Asked.{AskedAll, EndsKeys, EndsQuery, IsBadDump, RefusesDump, Spells, asked_all, keys_at, keys_or_none, stop_from_load, stop_from_query}
 use Rattle.cm_tool.specs.Ends.{Says, query_message_of, query_status_of}
-use Rattle.cm_tool.specs.Job.{QueryJob, Query, target_of}
+use Rattle.cm_words.specs.declared.jobs.QueryJob.{QueryJob}
+use Rattle.cm_words.specs.declared.jobs.Job.TheVariants.{Query}
 use Rattle.cm_tool.specs.Messages.{bad_dump}
 use Rattle.cm_tool.specs.Outcome as outcomes
 use Rattle.cm_tool.specs.Outcome.{Outcome, dump_outcome, fault_message, job_outcome, keys_in, loaded_outcome, noted_status, query_over, refusal}
@@ -37,78 +38,78 @@ take_keys : (keys : List (ℕ × List ℕ)) (given : ℕ) → given ≡ length k
 take_keys keys given all = take_all given keys (omega (arith, all))
 
 -- the keys that were asked for until a refusal
-pub asked_until : (f : List ℕ → Option ℕ) (files : Files) (path bytes : List ℕ) (old new : Option (List ℕ)) (given : ℕ) (fault : QueryFault) → file_at files path ≡ Some bytes
-    → StopsAt (keys_in bytes) given fault → TextAfter 10 f (keys_in bytes).keys given old new fault → EndsKeys f files path old new (notes_of f (noted_keys (keys_in bytes).keys given fault)) (Err (stop_from_query fault))
-asked_until f files path bytes old new given query_fault.Memory there stops text = (text, refl)
-asked_until f files path bytes old new given (query_fault.Key key_fault.Read) there stops text =
-    let here : keys_at files path ≡ (keys_in bytes).keys = ap keys_or_none there in
+pub asked_until : (f : List ℕ → Option ℕ) (files : Files) (job : QueryJob) (bytes : List ℕ) (old new : Option (List ℕ)) (given : ℕ) (fault : QueryFault) → file_at files job.keys ≡ Some bytes
+    → StopsAt (keys_in job.first bytes) given fault → TextAfter 10 f (keys_in job.first bytes).keys given old new fault → EndsKeys f files job old new (notes_of f (noted_keys (keys_in job.first bytes).keys given fault)) (Err (stop_from_query fault))
+asked_until f files job bytes old new given query_fault.Memory there stops text = (text, refl)
+asked_until f files job bytes old new given (query_fault.Key key_fault.Read) there stops text =
+    let here : keys_at files job ≡ (keys_in job.first bytes).keys = ap (keys_or_none job.first) there in
     (given, rw here (record { out = text ∙ ap (then_bytes old) (sym (append-nil _)); notes_are = refl }))
-asked_until f files path bytes old new given (query_fault.Key (key_fault.TooLong line)) there stops text =
-    let all = take_keys (keys_in bytes).keys given stops.all in
+asked_until f files job bytes old new given (query_fault.Key (key_fault.TooLong line)) there stops text =
+    let all = take_keys (keys_in job.first bytes).keys given stops.all in
     record { bytes = bytes; there = there; fault_is = stops.fault_is; out = text ∙ ap (λ (ks : List (ℕ × List ℕ)). then_bytes old (text_of 10 f ks)) all; notes_are = ap (notes_of f) all }
-asked_until f files path bytes old new given (query_fault.Key key_fault.TooMany) there stops text =
-    let all = take_keys (keys_in bytes).keys given stops.all in
+asked_until f files job bytes old new given (query_fault.Key key_fault.TooMany) there stops text =
+    let all = take_keys (keys_in job.first bytes).keys given stops.all in
     record { bytes = bytes; there = there; fault_is = stops.fault_is; out = text ∙ ap (λ (ks : List (ℕ × List ℕ)). then_bytes old (text_of 10 f ks)) all; notes_are = ap (notes_of f) all }
-asked_until f files path bytes old new given query_fault.Write there stops text =
-    let here : keys_at files path ≡ (keys_in bytes).keys = ap keys_or_none there in
+asked_until f files job bytes old new given query_fault.Write there stops text =
+    let here : keys_at files job ≡ (keys_in job.first bytes).keys = ap (keys_or_none job.first) there in
     (bytes, given - 1, text.0, there, rw here (record { out = text.1; notes_are = refl }))
 
 -- a keys file that can't be opened
-pub asked_none : (f : List ℕ → Option ℕ) (files : Files) (path : List ℕ) (old : Option (List ℕ)) → EndsKeys f files path old old [] (Err Read)
-asked_none f files path old = (0, record { out = then_nothing old; notes_are = refl })
+pub asked_none : (f : List ℕ → Option ℕ) (files : Files) (job : QueryJob) (old : Option (List ℕ)) → EndsKeys f files job old old [] (Err Read)
+asked_none f files job old = (0, record { out = then_nothing old; notes_are = refl })
 
 -- a write that sends on what all keys gave, and fails
-cut_after_all : (f : List ℕ → Option ℕ) (files : Files) (path : List ℕ) (old new : Option (List ℕ)) (notes : List ℕ) (fault : Option KeyFault) → AskedAll f files path old new notes fault → EndsKeys f files path old new notes (Err Write)
-cut_after_all f files path old new notes fault all =
-    let keys = (keys_in all.bytes).keys in
-    let here : keys_at files path ≡ keys = ap keys_or_none all.there in
+cut_after_all : (f : List ℕ → Option ℕ) (files : Files) (job : QueryJob) (old new : Option (List ℕ)) (notes : List ℕ) (fault : Option KeyFault) → AskedAll f files job old new notes fault → EndsKeys f files job old new notes (Err Write)
+cut_after_all f files job old new notes fault all =
+    let keys = (keys_in job.first all.bytes).keys in
+    let here : keys_at files job ≡ keys = ap (keys_or_none job.first) all.there in
     let whole : take (length keys) keys ≡ keys = take_all (length keys) keys (omega arith) in
     let out : new ≡ then_bytes old (text_of 10 f (take (length keys) keys) ++ []) = all.out ∙ ap (λ (ks : List (ℕ × List ℕ)). then_bytes old (text_of 10 f ks)) (sym whole) ∙ ap (then_bytes old) (sym (append-nil _)) in
     (all.bytes, length keys, 0, all.there, rw here (record { out = out; notes_are = all.notes_are ∙ ap (notes_of f) (sym whole) }))
 
-pub cut_after : (f : List ℕ → Option ℕ) (files : Files) (path : List ℕ) (old new : Option (List ℕ)) (notes : List ℕ) (asked : Result Tally QueryStop) → asked_all asked ≡ true → EndsKeys f files path old new notes asked → EndsKeys f files path old new notes (Err Write)
-cut_after f files path old new notes (Ok tally) whole ends = cut_after_all f files path old new notes _ ends.0
-cut_after f files path old new notes (Err Memory) whole ends = absurd (cc)
-cut_after f files path old new notes (Err NoFunction) whole ends = absurd (cc)
-cut_after f files path old new notes (Err (BadDump fault)) whole ends = absurd (cc)
-cut_after f files path old new notes (Err Read) whole ends = absurd (cc)
-cut_after f files path old new notes (Err Write) whole ends = absurd (cc)
-cut_after f files path old new notes (Err (TooLong line)) whole ends = cut_after_all f files path old new notes _ ends
-cut_after f files path old new notes (Err TooMany) whole ends = cut_after_all f files path old new notes _ ends
+pub cut_after : (f : List ℕ → Option ℕ) (files : Files) (job : QueryJob) (old new : Option (List ℕ)) (notes : List ℕ) (asked : Result Tally QueryStop) → asked_all asked ≡ true → EndsKeys f files job old new notes asked → EndsKeys f files job old new notes (Err Write)
+cut_after f files job old new notes (Ok tally) whole ends = cut_after_all f files job old new notes _ ends.0
+cut_after f files job old new notes (Err Memory) whole ends = absurd (cc)
+cut_after f files job old new notes (Err NoFunction) whole ends = absurd (cc)
+cut_after f files job old new notes (Err (BadDump fault)) whole ends = absurd (cc)
+cut_after f files job old new notes (Err Read) whole ends = absurd (cc)
+cut_after f files job old new notes (Err Write) whole ends = absurd (cc)
+cut_after f files job old new notes (Err (TooLong line)) whole ends = cut_after_all f files job old new notes _ ends
+cut_after f files job old new notes (Err TooMany) whole ends = cut_after_all f files job old new notes _ ends
 
 -- a query with its function
-pub with_function : (function : Func) (files : Files) (path : List ℕ) (old new : Option (List ℕ)) (notes : List ℕ) (asked : Result Tally QueryStop) → Spells files path function → EndsKeys (answer_by function) files path old new notes asked → EndsQuery files path old new notes asked
-with_function function files path old new notes (Ok tally) spells ends = (function, spells, ends)
-with_function function files path old new notes (Err Memory) spells ends = ends
-with_function function files path old new notes (Err NoFunction) spells ends = absurd ends
-with_function function files path old new notes (Err (BadDump fault)) spells ends = absurd ends
-with_function function files path old new notes (Err Read) spells ends = (function, spells, ends)
-with_function function files path old new notes (Err Write) spells ends = (function, spells, ends)
-with_function function files path old new notes (Err (TooLong line)) spells ends = (function, spells, ends)
-with_function function files path old new notes (Err TooMany) spells ends = (function, spells, ends)
+pub with_function : (function : Func) (files : Files) (job : QueryJob) (old new : Option (List ℕ)) (notes : List ℕ) (asked : Result Tally QueryStop) → Spells files job.function function → EndsKeys (answer_by function) files job old new notes asked → EndsQuery files job old new notes asked
+with_function function files job old new notes (Ok tally) spells ends = (function, spells, ends)
+with_function function files job old new notes (Err Memory) spells ends = ends
+with_function function files job old new notes (Err NoFunction) spells ends = absurd ends
+with_function function files job old new notes (Err (BadDump fault)) spells ends = absurd ends
+with_function function files job old new notes (Err Read) spells ends = (function, spells, ends)
+with_function function files job old new notes (Err Write) spells ends = (function, spells, ends)
+with_function function files job old new notes (Err (TooLong line)) spells ends = (function, spells, ends)
+with_function function files job old new notes (Err TooMany) spells ends = (function, spells, ends)
 
 -- and one without
-pub without_function : (files : Files) (path : List ℕ) (old : Option (List ℕ)) (stop : QueryStop) → RefusesDump files path stop → EndsQuery files path old old [] (Err stop)
-without_function files path old Memory refuses = (refl, refl)
-without_function files path old NoFunction refuses = (refl, refl)
-without_function files path old (BadDump fault) refuses = (refuses, (refl, refl))
-without_function files path old Read refuses = absurd refuses
-without_function files path old Write refuses = absurd refuses
-without_function files path old (TooLong line) refuses = absurd refuses
-without_function files path old TooMany refuses = absurd refuses
+pub without_function : (files : Files) (job : QueryJob) (old : Option (List ℕ)) (stop : QueryStop) → RefusesDump files job.function stop → EndsQuery files job old old [] (Err stop)
+without_function files job old Memory refuses = (refl, refl)
+without_function files job old NoFunction refuses = (refl, refl)
+without_function files job old (BadDump fault) refuses = (refuses, (refl, refl))
+without_function files job old Read refuses = absurd refuses
+without_function files job old Write refuses = absurd refuses
+without_function files job old (TooLong line) refuses = absurd refuses
+without_function files job old TooMany refuses = absurd refuses
 
 -- the outcome of a query whose function file spells a function and whose keys file is there
-asked_outcome : (job : QueryJob) (files : Files) (f : Func) (bytes : List ℕ) (fault : Option KeyFault) (o : Outcome) → Spells files job.keys f → file_at files job.keys ≡ Some bytes → (keys_in bytes).fault ≡ fault
-    → query_over job files (answer_by f) (keys_in bytes).keys fault ≡ o → job_outcome files (Some (Query job)) ≡ Some o
+asked_outcome : (job : QueryJob) (files : Files) (f : Func) (bytes : List ℕ) (fault : Option KeyFault) (o : Outcome) → Spells files job.function f → file_at files job.keys ≡ Some bytes → (keys_in job.first bytes).fault ≡ fault
+    → query_over job files (answer_by f) (keys_in job.first bytes).keys fault ≡ o → job_outcome files (Ok (Query job)) ≡ Some o
 unfolding outcomes.query_outcome
 asked_outcome job files f bytes fault o spells there fault_is is =
     ap (dump_outcome job files) spells.1
     ∙ ap (loaded_outcome job files) spells.2
     ∙ ap (option_map (outcomes.query_outcome job files f)) there
-    ∙ ap (λ (e : Option KeyFault). Some (query_over job files (answer_by f) (keys_in bytes).keys e)) fault_is
+    ∙ ap (λ (e : Option KeyFault). Some (query_over job files (answer_by f) (keys_in job.first bytes).keys e)) fault_is
     ∙ ap Some is
 
-bad_outcome : (job : QueryJob) (files : Files) (fault : LoadFault) → IsBadDump files job.keys fault → job_outcome files (Some (Query job)) ≡ Some (refusal 3 (bad_dump job.keys fault) files)
+bad_outcome : (job : QueryJob) (files : Files) (fault : LoadFault) → IsBadDump files job.function fault → job_outcome files (Ok (Query job)) ≡ Some (refusal 3 (bad_dump job.function fault) files)
 bad_outcome job files fault bad = ap (dump_outcome job files) bad.1 ∙ ap (loaded_outcome job files) bad.2
 
 -- the status by the notes, of which there are none exactly where so many keys count for nothing
@@ -117,12 +118,12 @@ status_noted [] n status exact none some = none (exact.0 refl)
 status_noted (b ∷ notes) n status exact none some = some (λ zero. absurd (let e : b ∷ notes ≡ [] = exact.1 zero in cc))
 
 -- a query that came to its end
-pub query_done : (job : QueryJob) (files : Files) (old new err err_new : Option (List ℕ)) (before now : ℕ) (notes : List ℕ) (tally : Tally) (status : ℕ) (left : Option Files) → EndsQuery files job.keys old new notes (Ok tally) → Says notes err err_new before now
-    → (tally.repeated + tally.unknown ≡ 0 → status ≡ 0) → (tally.repeated + tally.unknown ≢ 0 → status ≡ 1) → left ≡ Some files → Reaches (job_outcome files (Some (Query job))) status old new err err_new before now left
+pub query_done : (job : QueryJob) (files : Files) (old new err err_new : Option (List ℕ)) (before now : ℕ) (notes : List ℕ) (tally : Tally) (status : ℕ) (left : Option Files) → EndsQuery files job old new notes (Ok tally) → Says notes err err_new before now
+    → (tally.repeated + tally.unknown ≡ 0 → status ≡ 0) → (tally.repeated + tally.unknown ≢ 0 → status ≡ 1) → left ≡ Some files → Reaches (job_outcome files (Ok (Query job))) status old new err err_new before now left
 query_done job files old new err err_new before now notes tally status left ends says none some same =
     let f = answer_by ends.0 in
     let all = ends.2.0 in
-    let keys = (keys_in all.bytes).keys in
+    let keys = (keys_in job.first all.bytes).keys in
     let count = λ (t : Tally). t.repeated + t.unknown in
     let none' : count (tally_of f keys) ≡ 0 → status ≡ 0 = λ zero. none (ap count ends.2.1 ∙ zero) in
     let some' : count (tally_of f keys) ≢ 0 → status ≡ 1 = λ more. some (λ zero. more (sym (ap count ends.2.1) ∙ zero)) in
@@ -136,11 +137,11 @@ query_done job files old new err err_new before now notes tally status left ends
     }
 
 -- a query that stopped at a fault of a line
-stopped_at_line : (job : QueryJob) (files : Files) (old new err err_new : Option (List ℕ)) (before now : ℕ) (notes : List ℕ) (function : Func) (fault : KeyFault) (left : Option Files) → Spells files job.keys function → AskedAll (answer_by function) files job.keys old new notes (Some fault)
-    → Says (notes ++ fault_message job.keys fault) err err_new before now → left ≡ Some files → Reaches (job_outcome files (Some (Query job))) 8 old new err err_new before now left
+stopped_at_line : (job : QueryJob) (files : Files) (old new err err_new : Option (List ℕ)) (before now : ℕ) (notes : List ℕ) (function : Func) (fault : KeyFault) (left : Option Files) → Spells files job.function function → AskedAll (answer_by function) files job old new notes (Some fault)
+    → Says (notes ++ fault_message job.keys fault) err err_new before now → left ≡ Some files → Reaches (job_outcome files (Ok (Query job))) 8 old new err err_new before now left
 stopped_at_line job files old new err err_new before now notes function fault left spells all says same =
     let f = answer_by function in
-    let keys = (keys_in all.bytes).keys in
+    let keys = (keys_in job.first all.bytes).keys in
     record {
       outcome = query_over job files f keys (Some fault);
       is = asked_outcome job files function all.bytes (Some fault) _ spells all.there all.fault_is refl;
@@ -151,16 +152,16 @@ stopped_at_line job files old new err err_new before now notes function fault le
     }
 
 -- a query that stopped, but not for memory or a fault of a file or of out
-pub query_stopped : (job : QueryJob) (files : Files) (old new err err_new : Option (List ℕ)) (before now : ℕ) (notes : List ℕ) (stop : QueryStop) (left : Option Files) → EndsQuery files job.keys old new notes (Err stop)
-    → Says (notes ++ query_message_of job.keys stop) err err_new before now → query_status_of stop ≢ 4 → query_status_of stop ≢ 5 → query_status_of stop ≢ 6 → left ≡ Some files → Reaches (job_outcome files (Some (Query job))) (query_status_of stop) old new err err_new before now left
+pub query_stopped : (job : QueryJob) (files : Files) (old new err err_new : Option (List ℕ)) (before now : ℕ) (notes : List ℕ) (stop : QueryStop) (left : Option Files) → EndsQuery files job old new notes (Err stop)
+    → Says (notes ++ query_message_of job stop) err err_new before now → query_status_of stop ≢ 4 → query_status_of stop ≢ 5 → query_status_of stop ≢ 6 → left ≡ Some files → Reaches (job_outcome files (Ok (Query job))) (query_status_of stop) old new err err_new before now left
 query_stopped job files old new err err_new before now notes Memory left ends says a b d same = absurd (d refl)
 query_stopped job files old new err err_new before now notes NoFunction left ends says a b d same = absurd (a refl)
 query_stopped job files old new err err_new before now notes (BadDump fault) left ends says a b d same = record {
-  outcome = refusal 3 (bad_dump job.keys fault) files;
+  outcome = refusal 3 (bad_dump job.function fault) files;
   is = bad_outcome job files fault ends.0;
   status_is = refl;
   out = ends.1.0 ∙ then_nothing old;
-  err = subst (λ (ns : List ℕ). Says (ns ++ bad_dump job.keys fault) err err_new before now) ends.1.1 says;
+  err = subst (λ (ns : List ℕ). Says (ns ++ bad_dump job.function fault) err err_new before now) ends.1.1 says;
   files_are = same;
 }
 query_stopped job files old new err err_new before now notes Read left ends says a b d same = absurd (a refl)
@@ -169,7 +170,7 @@ query_stopped job files old new err err_new before now notes (TooLong line) left
 query_stopped job files old new err err_new before now notes TooMany left ends says a b d same = stopped_at_line job files old new err err_new before now notes ends.0 key_fault.TooMany left ends.1 ends.2 says same
 
 -- the message of a query that stopped goes with its status
-pub query_message_is : (job : QueryJob) (stop : QueryStop) → IsQueryMessage job (query_status_of stop) (query_message_of job.keys stop)
+pub query_message_is : (job : QueryJob) (stop : QueryStop) → IsQueryMessage job (query_status_of stop) (query_message_of job stop)
 query_message_is job Memory = record { done = λ e. absurd (omega arith); noted = λ e. absurd (omega arith); dump = λ e. absurd (omega arith); read = λ e. absurd (omega arith); write = λ e. absurd (omega arith); memory = λ e. refl; keys = λ e. absurd (omega arith) }
 query_message_is job NoFunction = record { done = λ e. absurd (omega arith); noted = λ e. absurd (omega arith); dump = λ e. absurd (omega arith); read = λ e. inr refl; write = λ e. absurd (omega arith); memory = λ e. absurd (omega arith); keys = λ e. absurd (omega arith) }
 query_message_is job (BadDump fault) = record { done = λ e. absurd (omega arith); noted = λ e. absurd (omega arith); dump = λ e. (fault, refl); read = λ e. absurd (omega arith); write = λ e. absurd (omega arith); memory = λ e. absurd (omega arith); keys = λ e. absurd (omega arith) }
@@ -183,13 +184,13 @@ pub answered_is : (job : QueryJob) (status : ℕ) → status ≤ 1 → IsQueryMe
 answered_is job status small = record { done = λ e. refl; noted = λ e. refl; dump = λ e. absurd (omega (arith, small, e)); read = λ e. absurd (omega (arith, small, e)); write = λ e. absurd (omega (arith, small, e)); memory = λ e. absurd (omega (arith, small, e)); keys = λ e. absurd (omega (arith, small, e)) }
 
 -- a query that a fault or want of memory cut short
-pub cut_short : (job : QueryJob) (files : Files) (old new err err_new : Option (List ℕ)) (before now : ℕ) (notes : List ℕ) (stop : QueryStop) → EndsQuery files job.keys old new notes (Err stop) → Says (notes ++ query_message_of job.keys stop) err err_new before now
+pub cut_short : (job : QueryJob) (files : Files) (old new err err_new : Option (List ℕ)) (before now : ℕ) (notes : List ℕ) (stop : QueryStop) → EndsQuery files job old new notes (Err stop) → Says (notes ++ query_message_of job stop) err err_new before now
     → (query_status_of stop ≡ 4) ⊎ (query_status_of stop ≡ 5) ⊎ (query_status_of stop ≡ 6) → IsCutShort files (query_status_of stop) old new err err_new before now job
-cut_short job files old new err err_new before now notes Memory ends says either = record { notes = notes; text = query_message_of job.keys Memory; message = query_message_is job Memory; says = says; answered = inl ends }
-cut_short job files old new err err_new before now notes NoFunction ends says either = record { notes = notes; text = query_message_of job.keys NoFunction; message = query_message_is job NoFunction; says = says; answered = inl ends }
+cut_short job files old new err err_new before now notes Memory ends says either = record { notes = notes; text = query_message_of job Memory; message = query_message_is job Memory; says = says; answered = inl ends }
+cut_short job files old new err err_new before now notes NoFunction ends says either = record { notes = notes; text = query_message_of job NoFunction; message = query_message_is job NoFunction; says = says; answered = inl ends }
 cut_short job files old new err err_new before now notes (BadDump fault) ends says either = absurd (omega (arith, either))
-cut_short job files old new err err_new before now notes Read ends says either = record { notes = notes; text = query_message_of job.keys Read; message = query_message_is job Read; says = says; answered = inr (ends.0, ends.2.0, 0, ends.1, ends.2.1) }
-cut_short job files old new err err_new before now notes Write ends says either = record { notes = notes; text = query_message_of job.keys Write; message = query_message_is job Write; says = says; answered = inr (ends.0, ends.2.1, ends.2.2, ends.1, ends.2.4) }
+cut_short job files old new err err_new before now notes Read ends says either = record { notes = notes; text = query_message_of job Read; message = query_message_is job Read; says = says; answered = inr (ends.0, ends.2.0, 0, ends.1, ends.2.1) }
+cut_short job files old new err err_new before now notes Write ends says either = record { notes = notes; text = query_message_of job Write; message = query_message_is job Write; says = says; answered = inr (ends.0, ends.2.1, ends.2.2, ends.1, ends.2.4) }
 cut_short job files old new err err_new before now notes (TooLong line) ends says either = absurd (omega (arith, either))
 cut_short job files old new err err_new before now notes TooMany ends says either = absurd (omega (arith, either))
 
@@ -201,15 +202,15 @@ pub says_more : {f : Bool} {a b : Option (List ℕ)} {i j : ℕ} {text : List �
 says_more {a = a} {b = b} {i = i} {j = j} {text = text} noted = subst (λ (t : List ℕ). Says t a b i j) (sym (append-nil text)) (says_all noted)
 
 -- why no function was loaded
-pub refused_dump : (files : Files) (keys dump : List ℕ) (fault : LoadFault) → file_at files (target_of keys) ≡ Some dump → Fails fault (spelling_of dump) → RefusesDump files keys (stop_from_load fault)
-refused_dump files keys dump faults.Memory there fails = tt
-refused_dump files keys dump faults.Read there fails = tt
-refused_dump files keys dump (faults.Truncated at) there fails = (dump, there, fails)
-refused_dump files keys dump faults.BadMagic there fails = (dump, there, fails)
-refused_dump files keys dump faults.BadAlgorithm there fails = (dump, there, fails)
-refused_dump files keys dump (faults.BadField at) there fails = (dump, there, fails)
-refused_dump files keys dump (faults.BadPadding at) there fails = (dump, there, fails)
-refused_dump files keys dump (faults.BadCell at) there fails = (dump, there, fails)
-refused_dump files keys dump (faults.BadCount at) there fails = (dump, there, fails)
-refused_dump files keys dump (faults.BadRank at) there fails = (dump, there, fails)
-refused_dump files keys dump faults.Trailing there fails = (dump, there, fails)
+pub refused_dump : (files : Files) (path dump : List ℕ) (fault : LoadFault) → file_at files path ≡ Some dump → Fails fault (spelling_of dump) → RefusesDump files path (stop_from_load fault)
+refused_dump files path dump faults.Memory there fails = tt
+refused_dump files path dump faults.Read there fails = tt
+refused_dump files path dump (faults.Truncated at) there fails = (dump, there, fails)
+refused_dump files path dump faults.BadMagic there fails = (dump, there, fails)
+refused_dump files path dump faults.BadAlgorithm there fails = (dump, there, fails)
+refused_dump files path dump (faults.BadField at) there fails = (dump, there, fails)
+refused_dump files path dump (faults.BadPadding at) there fails = (dump, there, fails)
+refused_dump files path dump (faults.BadCell at) there fails = (dump, there, fails)
+refused_dump files path dump (faults.BadCount at) there fails = (dump, there, fails)
+refused_dump files path dump (faults.BadRank at) there fails = (dump, there, fails)
+refused_dump files path dump faults.Trailing there fails = (dump, there, fails)

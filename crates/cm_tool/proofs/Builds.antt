@@ -1,39 +1,81 @@
 -- From a build over a pass to the function of a keys file, or to why it was refused.
-use Rattle.std.proofs.Common.{◌≡◌, ◌∙◌, ℕ, ◌≤◌, List, [], length, Option, None, Some, Err, inl, ap, sym, subst, arith}
+use Rattle.std.proofs.Common.{◌≡◌, ◌∙◌, ℕ, ◌≤◌, List, [], length, Option, None, Some, Err, inl, ap, arith}
 use Rattle.std.specs.Option.{ForSome}
 use Rattle.cm_algo.specs.Builds.{IsBuilt}
 use Rattle.cm_algo.specs.Fails.{FailsBuild}
 use Rattle.cm_algo.specs.declared.fault.BuildFault.{BuildFault}
 use Rattle.cm_algo.specs.declared.fault.BuildFault.TheVariants as build_fault
+use Rattle.cm_bdz.specs.Functions.{Bdz, BdzPh}
+use Rattle.cm_bdz.specs.Numbering.{bdz_under, bdz_ph_under}
+use Rattle.cm_dump.specs.declared.writer.Func.{Func}
+use Rattle.cm_dump.specs.declared.writer.Func.TheVariants as func
 use Rattle.cm_outer.specs.Files.{Files, file_at}
 use Rattle.cm_outer.specs.Passes.{Told}
 use Rattle.cm_outer.specs.declared.key_pass.KeyFault.TheVariants as key_fault
-use Rattle.cm_spec.specs.Built.{cells_under, chm_under, IsFirst}
+use Rattle.cm_spec.specs.Bdz.{bdz_rule, bdz_ph_rule}
+use Rattle.cm_spec.specs.Built.{cells_under, chm_under}
 use Rattle.cm_spec.specs.Chm.{Chm, chm_rule}
-use Rattle.cm_tool.specs.Job.{BuildJob}
-use Rattle.cm_tool.specs.Leaves.{IsChmOf, IsRefused, Leaves, stop_from}
-use Rattle.cm_tool.specs.Outcome.{keys_in, ratio, seeds_tried}
+use Rattle.cm_tool.specs.Jobs.{func_by, rule_by, seeds_tried}
+use Rattle.cm_tool.specs.Leaves.{IsFuncOf, IsRefused, Leaves, stop_from}
+use Rattle.cm_tool.specs.Outcome.{keys_in}
 use Rattle.cm_tool.specs.declared.stop.Stop.{Stop}
 use Rattle.cm_tool.specs.declared.stop.Stop.TheVariants.{Memory, Read, Write, Cored, Changed, NoKeys, TooLong, TooMany}
+use Rattle.cm_witness.specs.declared.algorithm.Algorithm.{Algorithm}
+use Rattle.cm_witness.specs.declared.algorithm.Algorithm.TheVariants as algorithms
+use Rattle.cm_words.specs.declared.jobs.BuildJob.{BuildJob}
 
 -- a function is known by its parts
-chm_by_parts : (f : Chm) (keys : List (ℕ × List ℕ)) (c : ℕ) → f.keys ≡ length keys → f.ratio ≡ c → f.cells ≡ cells_under chm_rule keys c f.seed → f ≡ chm_under keys c f.seed
-chm_by_parts f keys c m r cells =
+chm_by_parts : (f : Chm) (keys : List (ℕ × List ℕ)) (c seed : ℕ) → f.keys ≡ length keys → f.ratio ≡ c → f.seed ≡ seed → f.cells ≡ cells_under chm_rule keys c seed → f ≡ chm_under keys c seed
+chm_by_parts f keys c seed m r s cells =
     ap (λ (k : ℕ). let g : Chm = record { keys = k; ratio = f.ratio; seed = f.seed; cells = f.cells } in g) m
     ∙ ap (λ (k : ℕ). let g : Chm = record { keys = length keys; ratio = k; seed = f.seed; cells = f.cells } in g) r
-    ∙ ap (λ (xs : List ℕ). let g : Chm = record { keys = length keys; ratio = c; seed = f.seed; cells = xs } in g) cells
+    ∙ ap (λ (k : ℕ). let g : Chm = record { keys = length keys; ratio = c; seed = k; cells = f.cells } in g) s
+    ∙ ap (λ (xs : List ℕ). let g : Chm = record { keys = length keys; ratio = c; seed = seed; cells = xs } in g) cells
 
-pub chm_from : (told : Told) (c : ℕ) (seeds : List ℕ) (f : Chm) (m seed : ℕ) (cells : List ℕ) (k before after : ℕ) → told.fault ≡ None → 1 ≤ m → m ≤ 16777216 → IsBuilt chm_rule told.keys c seeds m seed cells k before after
-    → f.keys ≡ m → f.ratio ≡ c → f.seed ≡ seed → f.cells ≡ cells → IsChmOf told c seeds f
-chm_from told c seeds f m seed cells k before after fine some few built keys_are ratio_is seed_is cells_are = record {
+bdz_by_parts : (f : Bdz) (keys : List (ℕ × List ℕ)) (c seed shift : ℕ) → f.keys ≡ length keys → f.ratio ≡ c → f.seed ≡ seed → f.shift ≡ shift → f.cells ≡ cells_under bdz_rule keys c seed → f ≡ bdz_under keys c seed shift
+bdz_by_parts f keys c seed shift m r s b cells =
+    ap (λ (k : ℕ). let g : Bdz = record { keys = k; ratio = f.ratio; seed = f.seed; shift = f.shift; cells = f.cells } in g) m
+    ∙ ap (λ (k : ℕ). let g : Bdz = record { keys = length keys; ratio = k; seed = f.seed; shift = f.shift; cells = f.cells } in g) r
+    ∙ ap (λ (k : ℕ). let g : Bdz = record { keys = length keys; ratio = c; seed = k; shift = f.shift; cells = f.cells } in g) s
+    ∙ ap (λ (k : ℕ). let g : Bdz = record { keys = length keys; ratio = c; seed = seed; shift = k; cells = f.cells } in g) b
+    ∙ ap (λ (xs : List ℕ). let g : Bdz = record { keys = length keys; ratio = c; seed = seed; shift = shift; cells = xs } in g) cells
+
+bdz_ph_by_parts : (f : BdzPh) (keys : List (ℕ × List ℕ)) (c seed : ℕ) → f.keys ≡ length keys → f.ratio ≡ c → f.seed ≡ seed → f.cells ≡ cells_under bdz_ph_rule keys c seed → f ≡ bdz_ph_under keys c seed
+bdz_ph_by_parts f keys c seed m r s cells =
+    ap (λ (k : ℕ). let g : BdzPh = record { keys = k; ratio = f.ratio; seed = f.seed; cells = f.cells } in g) m
+    ∙ ap (λ (k : ℕ). let g : BdzPh = record { keys = length keys; ratio = k; seed = f.seed; cells = f.cells } in g) r
+    ∙ ap (λ (k : ℕ). let g : BdzPh = record { keys = length keys; ratio = c; seed = k; cells = f.cells } in g) s
+    ∙ ap (λ (xs : List ℕ). let g : BdzPh = record { keys = length keys; ratio = c; seed = seed; cells = xs } in g) cells
+
+-- a build gives the function of the told keys
+func_from : (algorithm : Algorithm) (b : ℕ) (told : Told) (c : ℕ) (seeds : List ℕ) (f : Func) (m seed : ℕ) (cells : List ℕ) (k before after : ℕ) → told.fault ≡ None → 1 ≤ m → m ≤ 16777216 → IsBuilt (rule_by algorithm) told.keys c seeds m seed cells k before after
+    → f ≡ func_by algorithm b told.keys c seed → IsFuncOf algorithm b told c seeds f
+func_from algorithm b told c seeds f m seed cells k before after fine some few built is = record {
   no_fault = fine;
   many = (omega (arith, some, built.many), omega (arith, few, built.many));
-  chosen = built.chosen ∙ ap Some (sym seed_is);
-  first = (built.place, subst (λ (s : ℕ). IsFirst chm_rule told.keys c seeds built.place s) (sym seed_is) built.first);
-  is = chm_by_parts f told.keys c (keys_are ∙ built.many) ratio_is (cells_are ∙ built.cells_are ∙ ap (λ (s : ℕ). cells_under chm_rule told.keys c s) (sym seed_is));
+  place = built.place;
+  seed = seed;
+  chosen = built.chosen;
+  first = built.first;
+  is = is;
 }
 
-pub refused_from : (job : BuildJob) (files : Files) (bytes : List ℕ) (fault : BuildFault) → file_at files job.keys ≡ Some bytes → FailsBuild chm_rule (keys_in bytes) ratio (seeds_tried job) fault → IsRefused job files (stop_from fault)
+pub chm_from : (told : Told) (c b : ℕ) (seeds : List ℕ) (f : Chm) (m seed : ℕ) (cells : List ℕ) (k before after : ℕ) → told.fault ≡ None → 1 ≤ m → m ≤ 16777216 → IsBuilt chm_rule told.keys c seeds m seed cells k before after
+    → f.keys ≡ m → f.ratio ≡ c → f.seed ≡ seed → f.cells ≡ cells → IsFuncOf algorithms.Chm b told c seeds (func.Chm f)
+chm_from told c b seeds f m seed cells k before after fine some few built keys_are ratio_is seed_is cells_are =
+    func_from algorithms.Chm b told c seeds (func.Chm f) m seed cells k before after fine some few built (ap func.Chm (chm_by_parts f told.keys c seed (keys_are ∙ built.many) ratio_is seed_is (cells_are ∙ built.cells_are)))
+
+pub bdz_from : (told : Told) (c b : ℕ) (seeds : List ℕ) (f : Bdz) (m seed : ℕ) (cells : List ℕ) (k before after : ℕ) → told.fault ≡ None → 1 ≤ m → m ≤ 16777216 → IsBuilt bdz_rule told.keys c seeds m seed cells k before after
+    → f.keys ≡ m → f.ratio ≡ c → f.seed ≡ seed → f.shift ≡ b → f.cells ≡ cells → IsFuncOf algorithms.Bdz b told c seeds (func.Bdz f)
+bdz_from told c b seeds f m seed cells k before after fine some few built keys_are ratio_is seed_is shift_is cells_are =
+    func_from algorithms.Bdz b told c seeds (func.Bdz f) m seed cells k before after fine some few built (ap func.Bdz (bdz_by_parts f told.keys c seed b (keys_are ∙ built.many) ratio_is seed_is shift_is (cells_are ∙ built.cells_are)))
+
+pub bdz_ph_from : (told : Told) (c b : ℕ) (seeds : List ℕ) (f : BdzPh) (m seed : ℕ) (cells : List ℕ) (k before after : ℕ) → told.fault ≡ None → 1 ≤ m → m ≤ 16777216 → IsBuilt bdz_ph_rule told.keys c seeds m seed cells k before after
+    → f.keys ≡ m → f.ratio ≡ c → f.seed ≡ seed → f.cells ≡ cells → IsFuncOf algorithms.BdzPh b told c seeds (func.BdzPh f)
+bdz_ph_from told c b seeds f m seed cells k before after fine some few built keys_are ratio_is seed_is cells_are =
+    func_from algorithms.BdzPh b told c seeds (func.BdzPh f) m seed cells k before after fine some few built (ap func.BdzPh (bdz_ph_by_parts f told.keys c seed (keys_are ∙ built.many) ratio_is seed_is (cells_are ∙ built.cells_are)))
+
+pub refused_from : (job : BuildJob) (files : Files) (bytes : List ℕ) (fault : BuildFault) → file_at files job.keys ≡ Some bytes → FailsBuild (rule_by job.algorithm) (keys_in job.first bytes) job.c (seeds_tried job) fault → IsRefused job files (stop_from fault)
 refused_from job files bytes build_fault.Memory there fails = tt
 refused_from job files bytes build_fault.NoKeys there fails = (bytes, there, (fails.1, fails.0))
 refused_from job files bytes (build_fault.Cored seed) there fails = (bytes, there, (fails.1, fails.0, fails.2, fails.3))

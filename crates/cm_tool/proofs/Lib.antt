@@ -1,3 +1,4 @@
 mod Asks
 mod Builds
 mod Outcomes
+mod Words

@@ -15,8 +15,8 @@ use Rattle.cm_query.specs.Texts.{notes_of, text_of}
 use Rattle.cm_query.specs.declared.fault.QueryFault.{QueryFault}
 use Rattle.cm_query.specs.declared.fault.QueryFault.TheVariants as query_fault
 use Rattle.cm_query.specs.declared.tally.Tally.{Tally}
-use Rattle.cm_tool.specs.Job.{target_of}
 use Rattle.cm_tool.specs.Outcome.{keys_in}
+use Rattle.cm_words.specs.declared.jobs.QueryJob.{QueryJob}
 use Rattle.cm_tool.specs.declared.stop.QueryStop.{QueryStop}
 use Rattle.cm_tool.specs.declared.stop.QueryStop.TheVariants.{Memory, NoFunction, BadDump, Read, Write, TooLong, TooMany}
 
@@ -62,29 +62,29 @@ stop_from_query query_fault.Write = Write
 
 -- the bytes of the function file spell the function
 abbrev pub Spells : Files → List ℕ → Func → Type 0
-Spells files keys f = (dump : List ℕ) × (file_at files (target_of keys) ≡ Some dump) × (spelling_of dump ≡ Ok f)
+Spells files path f = (dump : List ℕ) × (file_at files path ≡ Some dump) × (spelling_of dump ≡ Ok f)
 
 -- they spell none, and this is their first fault
 abbrev pub IsBadDump : Files → List ℕ → LoadFault → Type 0
-IsBadDump files keys fault = (dump : List ℕ) × (file_at files (target_of keys) ≡ Some dump) × (spelling_of dump ≡ Err fault)
+IsBadDump files path fault = (dump : List ℕ) × (file_at files path ≡ Some dump) × (spelling_of dump ≡ Err fault)
 
 -- why no function was loaded
 abbrev pub RefusesDump : Files → List ℕ → QueryStop → Type 0
-RefusesDump files keys Memory = Unit {0}
-RefusesDump files keys NoFunction = Unit {0}
-RefusesDump files keys (BadDump fault) = IsBadDump files keys fault
-RefusesDump files keys Read = ⊥
-RefusesDump files keys Write = ⊥
-RefusesDump files keys (TooLong line) = ⊥
-RefusesDump files keys TooMany = ⊥
+RefusesDump files path Memory = Unit {0}
+RefusesDump files path NoFunction = Unit {0}
+RefusesDump files path (BadDump fault) = IsBadDump files path fault
+RefusesDump files path Read = ⊥
+RefusesDump files path Write = ⊥
+RefusesDump files path (TooLong line) = ⊥
+RefusesDump files path TooMany = ⊥
 
--- the keys of a keys file, and none where there is no file
-abbrev pub keys_or_none : Option (List ℕ) → List (ℕ × List ℕ)
-keys_or_none None = []
-keys_or_none (Some bytes) = (keys_in bytes).keys
+-- the keys of a query's keys file, and none where there is no file
+abbrev pub keys_or_none : Option ℕ → Option (List ℕ) → List (ℕ × List ℕ)
+keys_or_none first None = []
+keys_or_none first (Some bytes) = (keys_in first bytes).keys
 
-abbrev pub keys_at : Files → List ℕ → List (ℕ × List ℕ)
-keys_at files path = keys_or_none (file_at files path)
+abbrev pub keys_at : Files → QueryJob → List (ℕ × List ℕ)
+keys_at files job = keys_or_none job.first (file_at files job.keys)
 
 -- The first `given` keys were answered, with their notes. Of the text of the next one, out got so many bytes.
 pub record AskedPart (f : List ℕ → Option ℕ) (keys : List (ℕ × List ℕ)) (old new : Option (List ℕ)) (notes : List ℕ) (given rest : ℕ) : Type 0 where
@@ -92,35 +92,35 @@ pub record AskedPart (f : List ℕ → Option ℕ) (keys : List (ℕ × List ℕ
   pub notes_are : notes ≡ notes_of f (take given keys)
 
 -- All keys of the keys file were answered, with their notes, up to this fault or none.
-pub record AskedAll (f : List ℕ → Option ℕ) (files : Files) (path : List ℕ) (old new : Option (List ℕ)) (notes : List ℕ) (fault : Option KeyFault) : Type 0 where
+pub record AskedAll (f : List ℕ → Option ℕ) (files : Files) (job : QueryJob) (old new : Option (List ℕ)) (notes : List ℕ) (fault : Option KeyFault) : Type 0 where
   pub bytes : List ℕ
-  pub there : file_at files path ≡ Some bytes
-  pub fault_is : (keys_in bytes).fault ≡ fault
-  pub out : new ≡ then_bytes old (text_of 10 f (keys_in bytes).keys)
-  pub notes_are : notes ≡ notes_of f (keys_in bytes).keys
+  pub there : file_at files job.keys ≡ Some bytes
+  pub fault_is : (keys_in job.first bytes).fault ≡ fault
+  pub out : new ≡ then_bytes old (text_of 10 f (keys_in job.first bytes).keys)
+  pub notes_are : notes ≡ notes_of f (keys_in job.first bytes).keys
 
 -- neither out nor err got anything before the message
 abbrev pub GotNothing : Option (List ℕ) → Option (List ℕ) → List ℕ → Type 0
 GotNothing old new notes = (new ≡ old) × (notes ≡ [])
 
 -- how the keys of a keys file were asked for, under a function
-abbrev pub EndsKeys : (List ℕ → Option ℕ) → Files → List ℕ → Option (List ℕ) → Option (List ℕ) → List ℕ → Result Tally QueryStop → Type 0
-EndsKeys f files path old new notes (Ok tally) = (all : AskedAll f files path old new notes None) × (tally ≡ tally_of f (keys_in all.bytes).keys)
-EndsKeys f files path old new notes (Err Memory) = GotNothing old new notes
-EndsKeys f files path old new notes (Err NoFunction) = ⊥
-EndsKeys f files path old new notes (Err (BadDump fault)) = ⊥
-EndsKeys f files path old new notes (Err Read) = (given : ℕ) × AskedPart f (keys_at files path) old new notes given 0
-EndsKeys f files path old new notes (Err Write) = (bytes : List ℕ) × (given : ℕ) × (rest : ℕ) × (file_at files path ≡ Some bytes) × AskedPart f (keys_at files path) old new notes given rest
-EndsKeys f files path old new notes (Err (TooLong line)) = AskedAll f files path old new notes (Some (key_fault.TooLong line))
-EndsKeys f files path old new notes (Err TooMany) = AskedAll f files path old new notes (Some key_fault.TooMany)
+abbrev pub EndsKeys : (List ℕ → Option ℕ) → Files → QueryJob → Option (List ℕ) → Option (List ℕ) → List ℕ → Result Tally QueryStop → Type 0
+EndsKeys f files job old new notes (Ok tally) = (all : AskedAll f files job old new notes None) × (tally ≡ tally_of f (keys_in job.first all.bytes).keys)
+EndsKeys f files job old new notes (Err Memory) = GotNothing old new notes
+EndsKeys f files job old new notes (Err NoFunction) = ⊥
+EndsKeys f files job old new notes (Err (BadDump fault)) = ⊥
+EndsKeys f files job old new notes (Err Read) = (given : ℕ) × AskedPart f (keys_at files job) old new notes given 0
+EndsKeys f files job old new notes (Err Write) = (bytes : List ℕ) × (given : ℕ) × (rest : ℕ) × (file_at files job.keys ≡ Some bytes) × AskedPart f (keys_at files job) old new notes given rest
+EndsKeys f files job old new notes (Err (TooLong line)) = AskedAll f files job old new notes (Some (key_fault.TooLong line))
+EndsKeys f files job old new notes (Err TooMany) = AskedAll f files job old new notes (Some key_fault.TooMany)
 
 -- how a query over files ended
-abbrev pub EndsQuery : Files → List ℕ → Option (List ℕ) → Option (List ℕ) → List ℕ → Result Tally QueryStop → Type 0
-EndsQuery files path old new notes (Ok tally) = (f : Func) × Spells files path f × EndsKeys (answer_by f) files path old new notes (Ok tally)
-EndsQuery files path old new notes (Err Memory) = GotNothing old new notes
-EndsQuery files path old new notes (Err NoFunction) = GotNothing old new notes
-EndsQuery files path old new notes (Err (BadDump fault)) = IsBadDump files path fault × GotNothing old new notes
-EndsQuery files path old new notes (Err Read) = (f : Func) × Spells files path f × EndsKeys (answer_by f) files path old new notes (Err Read)
-EndsQuery files path old new notes (Err Write) = (f : Func) × Spells files path f × EndsKeys (answer_by f) files path old new notes (Err Write)
-EndsQuery files path old new notes (Err (TooLong line)) = (f : Func) × Spells files path f × EndsKeys (answer_by f) files path old new notes (Err (TooLong line))
-EndsQuery files path old new notes (Err TooMany) = (f : Func) × Spells files path f × EndsKeys (answer_by f) files path old new notes (Err TooMany)
+abbrev pub EndsQuery : Files → QueryJob → Option (List ℕ) → Option (List ℕ) → List ℕ → Result Tally QueryStop → Type 0
+EndsQuery files job old new notes (Ok tally) = (f : Func) × Spells files job.function f × EndsKeys (answer_by f) files job old new notes (Ok tally)
+EndsQuery files job old new notes (Err Memory) = GotNothing old new notes
+EndsQuery files job old new notes (Err NoFunction) = GotNothing old new notes
+EndsQuery files job old new notes (Err (BadDump fault)) = IsBadDump files job.function fault × GotNothing old new notes
+EndsQuery files job old new notes (Err Read) = (f : Func) × Spells files job.function f × EndsKeys (answer_by f) files job old new notes (Err Read)
+EndsQuery files job old new notes (Err Write) = (f : Func) × Spells files job.function f × EndsKeys (answer_by f) files job old new notes (Err Write)
+EndsQuery files job old new notes (Err (TooLong line)) = (f : Func) × Spells files job.function f × EndsKeys (answer_by f) files job old new notes (Err (TooLong line))
+EndsQuery files job old new notes (Err TooMany) = (f : Func) × Spells files job.function f × EndsKeys (answer_by f) files job old new notes (Err TooMany)

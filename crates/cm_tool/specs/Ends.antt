@@ -5,7 +5,11 @@ use Rattle.cm_tool.specs.declared.stop.Stop.{Stop}
 use Rattle.cm_tool.specs.declared.stop.Stop.TheVariants.{Memory, Read, Write, Cored, Changed, NoKeys, TooLong, TooMany}
 use Rattle.cm_tool.specs.declared.stop.QueryStop.{QueryStop}
 use Rattle.cm_tool.specs.declared.stop.QueryStop.TheVariants as query_stop
-use Rattle.cm_tool.specs.Messages.{bad_dump, cannot_load, cannot_write_out, no_seed, out_of_memory, cannot_read, cannot_write, keys_changed, no_keys, line_too_long, too_many_keys}
+use Rattle.cm_words.specs.declared.fault.UsageFault.{UsageFault}
+use Rattle.cm_words.specs.declared.fault.UsageFault.TheVariants as usage
+use Rattle.cm_words.specs.declared.jobs.BuildJob.{BuildJob}
+use Rattle.cm_words.specs.declared.jobs.QueryJob.{QueryJob}
+use Rattle.cm_tool.specs.Messages.{bad_dump, cannot_write_out, no_seed, out_of_memory, cannot_read, cannot_write, keys_changed, no_keys, line_too_long, too_many_keys}
 
 -- the status of a build that stopped
 abbrev pub status_of : Stop → ℕ
@@ -19,15 +23,15 @@ status_of (TooLong line) = 8
 status_of TooMany = 8
 
 -- its message
-abbrev pub message_of : List ℕ → Stop → List ℕ
-message_of keys Memory = out_of_memory
-message_of keys Read = cannot_read keys
-message_of keys Write = cannot_write keys
-message_of keys Cored = no_seed
-message_of keys (Changed first again) = keys_changed keys first again
-message_of keys NoKeys = no_keys keys
-message_of keys (TooLong line) = line_too_long keys line
-message_of keys TooMany = too_many_keys keys
+abbrev pub message_of : BuildJob → Stop → List ℕ
+message_of job Memory = out_of_memory
+message_of job Read = cannot_read job.keys
+message_of job Write = cannot_write job.function
+message_of job Cored = no_seed
+message_of job (Changed first again) = keys_changed job.keys first again
+message_of job NoKeys = no_keys job.keys
+message_of job (TooLong line) = line_too_long job.keys line
+message_of job TooMany = too_many_keys job.keys
 
 -- the status of a query that stopped
 abbrev pub query_status_of : QueryStop → ℕ
@@ -40,14 +44,21 @@ query_status_of (query_stop.TooLong line) = 8
 query_status_of query_stop.TooMany = 8
 
 -- its message
-abbrev pub query_message_of : List ℕ → QueryStop → List ℕ
-query_message_of keys query_stop.Memory = out_of_memory
-query_message_of keys query_stop.NoFunction = cannot_load keys
-query_message_of keys (query_stop.BadDump fault) = bad_dump keys fault
-query_message_of keys query_stop.Read = cannot_read keys
-query_message_of keys query_stop.Write = cannot_write_out
-query_message_of keys (query_stop.TooLong line) = line_too_long keys line
-query_message_of keys query_stop.TooMany = too_many_keys keys
+abbrev pub query_message_of : QueryJob → QueryStop → List ℕ
+query_message_of job query_stop.Memory = out_of_memory
+query_message_of job query_stop.NoFunction = cannot_read job.function
+query_message_of job (query_stop.BadDump fault) = bad_dump job.function fault
+query_message_of job query_stop.Read = cannot_read job.keys
+query_message_of job query_stop.Write = cannot_write_out
+query_message_of job (query_stop.TooLong line) = line_too_long job.keys line
+query_message_of job query_stop.TooMany = too_many_keys job.keys
+
+-- the status of words that ask for no job
+abbrev pub usage_status_of : UsageFault → ℕ
+usage_status_of usage.Memory = 6
+usage_status_of usage.Words = 2
+usage_status_of (usage.BadValue letter) = 2
+usage_status_of usage.NoFile = 2
 
 -- err got the text, or a front of it where its own count rose
 pub record Says (text : List ℕ) (old new : Option (List ℕ)) (before now : ℕ) : Type 0 where

@@ -1,17 +1,41 @@
--- Jobs as the code holds them.
-use Rattle.cm_tool.specs.declared.job.BuildJob.{BuildJob as HeldBuildJob}
-use Rattle.cm_tool.specs.declared.job.QueryJob.{QueryJob as HeldQueryJob}
-use Rattle.cm_tool.specs.declared.job.Job.{Job as HeldJob}
-use Rattle.cm_tool.specs.declared.job.Job.TheVariants as held
-use Rattle.cm_tool.specs.Job.{BuildJob, QueryJob, Job, Build, Query}
+-- What a build is about: its seeds, its rule and its function.
+use Rattle.std.specs.Prelude.{ℕ, ◌+◌, ◌%◌, ◌^◌, List, length}
+use Rattle.cm_bdz.specs.Numbering.{bdz_under, bdz_ph_under}
+use Rattle.cm_dump.specs.declared.writer.Func.{Func}
+use Rattle.cm_dump.specs.declared.writer.Func.TheVariants as func
+use Rattle.cm_spec.specs.Bdz.{bdz_rule, bdz_ph_rule}
+use Rattle.cm_spec.specs.Built.{chm_under}
+use Rattle.cm_spec.specs.Chm.{chm_rule}
+use Rattle.cm_spec.specs.Lists.{list_of}
+use Rattle.cm_spec.specs.Rule.{Rule}
+use Rattle.cm_tool.specs.declared.built.Summary.{Summary}
+use Rattle.cm_witness.specs.declared.algorithm.Algorithm.{Algorithm}
+use Rattle.cm_witness.specs.declared.algorithm.Algorithm.TheVariants.{Chm, Bdz, BdzPh, Brz}
+use Rattle.cm_words.specs.declared.jobs.BuildJob.{BuildJob}
 
--- the job that a borrowed one stands for
-abbrev pub build_seen : HeldBuildJob → BuildJob
-build_seen job = record { keys = job.keys.now; seed = job.seed }
+-- the seeds of a job: so many from the first on, modulo 2 ^ 32
+abbrev pub seeds_of : ℕ → ℕ → List ℕ
+seeds_of first count = list_of (λ i. (first + i) % 2 ^ 32) count
 
-abbrev pub query_seen : HeldQueryJob → QueryJob
-query_seen job = record { keys = job.keys.now }
+abbrev pub seeds_tried : BuildJob → List ℕ
+seeds_tried job = seeds_of job.seed job.count
 
-abbrev pub job_seen : HeldJob → Job
-job_seen (held.Build job) = Build (build_seen job)
-job_seen (held.Query job) = Query (query_seen job)
+-- the rule of an algorithm; the buckets of BRZ are built by BDZ's
+abbrev pub rule_by : Algorithm → Rule
+rule_by Chm = chm_rule
+rule_by Bdz = bdz_rule
+rule_by BdzPh = bdz_ph_rule
+rule_by Brz = bdz_rule
+
+-- the function of keys by an algorithm with its parameter b, for a ratio in millionths, under a seed
+abbrev pub func_by : Algorithm → ℕ → List (ℕ × List ℕ) → ℕ → ℕ → Func
+func_by Chm b keys c seed = func.Chm (chm_under keys c seed)
+func_by Bdz b keys c seed = func.Bdz (bdz_under keys c seed b)
+func_by BdzPh b keys c seed = func.BdzPh (bdz_ph_under keys c seed)
+func_by Brz b keys c seed = func.Bdz (bdz_under keys c seed b)
+
+-- how many keys and cells a function has, and its seed
+abbrev pub summary_of : Func → Summary
+summary_of (func.Chm f) = record { keys = f.keys; cells = length f.cells; seed = f.seed }
+summary_of (func.Bdz f) = record { keys = f.keys; cells = length f.cells; seed = f.seed }
+summary_of (func.BdzPh f) = record { keys = f.keys; cells = length f.cells; seed = f.seed }

@@ -8,13 +8,16 @@ use Rattle.cm_algo.specs.declared.fault.BuildFault.TheVariants as build_fault
 use Rattle.cm_outer.specs.Passes.{Told}
 use Rattle.cm_outer.specs.declared.key_pass.KeyFault.{KeyFault}
 use Rattle.cm_outer.specs.declared.key_pass.KeyFault.TheVariants as key_fault
-use Rattle.cm_spec.specs.Built.{first_seed, chm_under, IsFirst, AllCored}
-use Rattle.cm_spec.specs.Chm.{Chm, chm_rule}
-use Rattle.cm_spec.specs.Dump.{chm_dump}
+use Rattle.cm_spec.specs.Built.{first_seed, IsFirst, AllCored}
 use Rattle.cm_spec.specs.Rule.{IsCount}
-use Rattle.cm_dump.specs.Functions.{IsChm}
-use Rattle.cm_tool.specs.Job.{BuildJob, target_of}
-use Rattle.cm_tool.specs.Outcome.{keys_in, ratio, seeds_tried}
+use Rattle.cm_dump.specs.Dumps.{dump_of}
+use Rattle.cm_dump.specs.Functions.{IsFunction}
+use Rattle.cm_dump.specs.declared.writer.Func.{Func}
+use Rattle.cm_tool.specs.Jobs.{func_by, rule_by, seeds_tried, summary_of}
+use Rattle.cm_tool.specs.Outcome.{keys_in}
+use Rattle.cm_tool.specs.declared.built.Summary.{Summary}
+use Rattle.cm_witness.specs.declared.algorithm.Algorithm.{Algorithm}
+use Rattle.cm_words.specs.declared.jobs.BuildJob.{BuildJob}
 use Rattle.cm_tool.specs.declared.stop.Stop.{Stop}
 use Rattle.cm_tool.specs.declared.stop.Stop.TheVariants.{Memory, Read, Write, Cored, Changed, NoKeys, TooLong, TooMany}
 
@@ -30,17 +33,19 @@ HasStopCause r r' w w' (Err NoKeys) = (r' ≡ r) × (w' ≡ w)
 HasStopCause r r' w w' (Err (TooLong line)) = (r' ≡ r) × (w' ≡ w)
 HasStopCause r r' w w' (Err TooMany) = (r' ≡ r) × (w' ≡ w)
 
--- the function of told keys: that of the first seed whose graph has an empty 2-core
-pub record IsChmOf (told : Told) (c : ℕ) (seeds : List ℕ) (f : Chm) : Type 0 where
+-- the function of told keys by an algorithm: that of the first seed whose graph has an empty 2-core
+pub record IsFuncOf (algorithm : Algorithm) (b : ℕ) (told : Told) (c : ℕ) (seeds : List ℕ) (f : Func) : Type 0 where
   pub no_fault : told.fault ≡ None
   pub many : IsCount (length told.keys)
-  pub chosen : first_seed chm_rule told.keys c seeds ≡ Some f.seed
-  pub first : (place : ℕ) × IsFirst chm_rule told.keys c seeds place f.seed
-  pub is : f ≡ chm_under told.keys c f.seed
+  pub place : ℕ
+  pub seed : ℕ
+  pub chosen : first_seed (rule_by algorithm) told.keys c seeds ≡ Some seed
+  pub first : IsFirst (rule_by algorithm) told.keys c seeds place seed
+  pub is : f ≡ func_by algorithm b told.keys c seed
 
--- the function of the keys in these bytes
-abbrev pub IsFunctionOf : BuildJob → List ℕ → Chm → Type 0
-IsFunctionOf job bytes f = IsChmOf (keys_in bytes) ratio (seeds_tried job) f
+-- the function of a job over the keys in these bytes
+abbrev pub IsFunctionOf : BuildJob → List ℕ → Func → Type 0
+IsFunctionOf job bytes f = IsFuncOf job.algorithm job.b (keys_in job.first bytes) job.c (seeds_tried job) f
 
 -- why a refused pass stops a job
 abbrev pub stop_from_key : KeyFault → Stop
@@ -72,7 +77,7 @@ abbrev pub Refuses : BuildJob → Told → Stop → Type 0
 Refuses job told Memory = Unit {0}
 Refuses job told Read = Unit {0}
 Refuses job told Write = ⊥
-Refuses job told Cored = (told.fault ≡ None) × (0 < length told.keys) × (first_seed chm_rule told.keys ratio (seeds_tried job) ≡ None) × AllCored chm_rule told.keys ratio (seeds_tried job)
+Refuses job told Cored = (told.fault ≡ None) × (0 < length told.keys) × (first_seed (rule_by job.algorithm) told.keys job.c (seeds_tried job) ≡ None) × AllCored (rule_by job.algorithm) told.keys job.c (seeds_tried job)
 Refuses job told (Changed first again) = ⊥
 Refuses job told NoKeys = (told.fault ≡ None) × (told.keys ≡ [])
 Refuses job told (TooLong line) = told.fault ≡ Some (key_fault.TooLong line)
@@ -83,24 +88,33 @@ abbrev pub IsRefused : BuildJob → Files → Stop → Type 0
 IsRefused job files Memory = Unit {0}
 IsRefused job files Read = Unit {0}
 IsRefused job files Write = ⊥
-IsRefused job files Cored = (bytes : List ℕ) × (file_at files job.keys ≡ Some bytes) × Refuses job (keys_in bytes) Cored
+IsRefused job files Cored = (bytes : List ℕ) × (file_at files job.keys ≡ Some bytes) × Refuses job (keys_in job.first bytes) Cored
 IsRefused job files (Changed first again) = ⊥
-IsRefused job files NoKeys = (bytes : List ℕ) × (file_at files job.keys ≡ Some bytes) × Refuses job (keys_in bytes) NoKeys
-IsRefused job files (TooLong line) = (bytes : List ℕ) × (file_at files job.keys ≡ Some bytes) × Refuses job (keys_in bytes) (TooLong line)
-IsRefused job files TooMany = (bytes : List ℕ) × (file_at files job.keys ≡ Some bytes) × Refuses job (keys_in bytes) TooMany
+IsRefused job files NoKeys = (bytes : List ℕ) × (file_at files job.keys ≡ Some bytes) × Refuses job (keys_in job.first bytes) NoKeys
+IsRefused job files (TooLong line) = (bytes : List ℕ) × (file_at files job.keys ≡ Some bytes) × Refuses job (keys_in job.first bytes) (TooLong line)
+IsRefused job files TooMany = (bytes : List ℕ) × (file_at files job.keys ≡ Some bytes) × Refuses job (keys_in job.first bytes) TooMany
 
 -- the bytes are the dump of the function of the keys file
-abbrev pub Saves : BuildJob → Files → List ℕ → Type 0
-Saves job files dump = (bytes : List ℕ) × (f : Chm) × (file_at files job.keys ≡ Some bytes) × IsFunctionOf job bytes f × (dump ≡ chm_dump f) × IsChm f
+pub record Saves (job : BuildJob) (files : Files) (dump : List ℕ) : Type 0 where
+  pub bytes : List ℕ
+  pub f : Func
+  pub there : file_at files job.keys ≡ Some bytes
+  pub made : IsFunctionOf job bytes f
+  pub dump_is : dump ≡ dump_of f
+  pub valid : IsFunction f
+
+-- and this is what is said of the function
+abbrev pub SavesAs : BuildJob → Files → List ℕ → Summary → Type 0
+SavesAs job files dump s = (saves : Saves job files dump) × (s ≡ summary_of saves.f)
 
 -- the files are as before, or the function file holds a front of the dump
 abbrev pub IsPart : BuildJob → List ℕ → Option Files → Option Files → Type 0
-IsPart job dump old new = (new ≡ old) ⊎ ((n : ℕ) × (new ≡ with_file (target_of job.keys) (take n dump) old))
+IsPart job dump old new = (new ≡ old) ⊎ ((n : ℕ) × (new ≡ with_file job.function (take n dump) old))
 
 -- what each end of a build leaves of the files
-abbrev pub Leaves : BuildJob → Option Files → Option Files → Result (Unit {0}) Stop → Type 0
-Leaves job old new (Ok _) = (dump : List ℕ) × (new ≡ with_file (target_of job.keys) dump old) × ForSome old (λ files. Saves job files dump)
-Leaves job old new (Err Memory) = (new ≡ old) ⊎ (new ≡ with_file (target_of job.keys) [] old)
+abbrev pub Leaves : BuildJob → Option Files → Option Files → Result Summary Stop → Type 0
+Leaves job old new (Ok s) = (dump : List ℕ) × (new ≡ with_file job.function dump old) × ForSome old (λ files. SavesAs job files dump s)
+Leaves job old new (Err Memory) = (new ≡ old) ⊎ (new ≡ with_file job.function [] old)
 Leaves job old new (Err Read) = new ≡ old
 Leaves job old new (Err Write) = (dump : List ℕ) × IsPart job dump old new × ForSome old (λ files. Saves job files dump)
 Leaves job old new (Err Cored) = (new ≡ old) × ForSome old (λ files. IsRefused job files Cored)

@@ -1,7 +1,7 @@
-pub mod Ends
-pub mod Job
 pub mod Jobs
 pub mod Messages
+pub mod Texts
+pub mod Ends
 pub mod Stores
 pub mod Outcome
 pub mod Leaves

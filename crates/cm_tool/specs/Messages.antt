@@ -1,28 +1,32 @@
 -- What is said on err.
-use Rattle.std.specs.Prelude.{ℕ, List, [], ◌∷◌, Option, None, Some, codes, decimal}
+use Rattle.std.specs.Prelude.{ℕ, List, [], ◌∷◌, Option, None, Some, codes, decimal, if◌then◌else◌}
 use Rattle.cm_dump.specs.declared.fault.LoadFault.{LoadFault}
 use Rattle.cm_dump.specs.declared.fault.LoadFault.TheVariants as faults
 use Rattle.cm_outer.specs.Writing.{joined}
-
-abbrev pub bad_arguments : List ℕ
-bad_arguments = joined (codes "cmph: bad arguments; cmph -h shows the usage\n" ∷ [])
-
-abbrev pub no_seed : List ℕ
-no_seed = joined (codes "cmph: no seed of the list gives an empty core\n" ∷ [])
+use Rattle.cm_tool.specs.declared.built.Summary.{Summary}
+use Rattle.cm_witness.specs.Names.{name_of}
+use Rattle.cm_words.specs.declared.fault.UsageFault.{UsageFault}
+use Rattle.cm_words.specs.declared.fault.UsageFault.TheVariants as usage
+use Rattle.cm_words.specs.declared.jobs.BuildJob.{BuildJob}
 
 abbrev pub out_of_memory : List ℕ
 out_of_memory = joined (codes "cmph: out of memory\n" ∷ [])
 
+-- what is wrong with words that ask for no job
+abbrev pub usage_message : UsageFault → List ℕ
+usage_message usage.Memory = out_of_memory
+usage_message usage.Words = joined (codes "cmph: bad arguments; cmph -h shows the usage\n" ∷ [])
+usage_message (usage.BadValue letter) = joined (codes "cmph: bad value of -" ∷ (letter ∷ []) ∷ codes "\n" ∷ [])
+usage_message usage.NoFile = joined (codes "cmph: no keys file\n" ∷ [])
+
+abbrev pub no_seed : List ℕ
+no_seed = joined (codes "cmph: no seed of the list gives an empty core\n" ∷ [])
+
 abbrev pub cannot_read : List ℕ → List ℕ
 cannot_read file = joined (codes "cmph: " ∷ file ∷ codes ": cannot read\n" ∷ [])
 
--- of the function file, whose path is the keys file's and `.mph`
 abbrev pub cannot_write : List ℕ → List ℕ
-cannot_write keys = joined (codes "cmph: " ∷ keys ∷ codes ".mph: cannot write\n" ∷ [])
-
--- of the function file
-abbrev pub cannot_load : List ℕ → List ℕ
-cannot_load keys = joined (codes "cmph: " ∷ keys ∷ codes ".mph: cannot read\n" ∷ [])
+cannot_write file = joined (codes "cmph: " ∷ file ∷ codes ": cannot write\n" ∷ [])
 
 abbrev pub cannot_write_out : List ℕ
 cannot_write_out = joined (codes "cmph: cannot write standard output\n" ∷ [])
@@ -61,7 +65,7 @@ place_text None = []
 place_text (Some at) = decimal at
 
 abbrev pub bad_dump : List ℕ → LoadFault → List ℕ
-bad_dump keys fault = joined (codes "cmph: " ∷ keys ∷ codes ".mph: bad dump: " ∷ fault_words fault ∷ place_text (fault_place fault) ∷ codes "\n" ∷ [])
+bad_dump file fault = joined (codes "cmph: " ∷ file ∷ codes ": bad dump: " ∷ fault_words fault ∷ place_text (fault_place fault) ∷ codes "\n" ∷ [])
 
 abbrev pub keys_changed : List ℕ → ℕ → ℕ → List ℕ
 keys_changed file first again = joined (codes "cmph: " ∷ file ∷ codes ": keys changed: " ∷ decimal first ∷ codes ", then " ∷ decimal again ∷ codes "\n" ∷ [])
@@ -74,3 +78,10 @@ line_too_long file line = joined (codes "cmph: " ∷ file ∷ codes ": line " �
 
 abbrev pub too_many_keys : List ℕ → List ℕ
 too_many_keys file = joined (codes "cmph: " ∷ file ∷ codes ": more than 16777216 keys\n" ∷ [])
+
+-- what is said of a function that was built, where that is asked for
+abbrev pub built : BuildJob → Summary → List ℕ
+built job s = joined (codes "cmph: " ∷ name_of job.algorithm ∷ codes " keys " ∷ decimal s.keys ∷ codes " cells " ∷ decimal s.cells ∷ codes " seed " ∷ decimal s.seed ∷ codes "\n" ∷ [])
+
+abbrev pub built_message : BuildJob → Summary → List ℕ
+built_message job s = if job.verbose then built job s else []

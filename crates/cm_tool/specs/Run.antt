@@ -1,6 +1,9 @@
 -- What the top call promises, in words over the command line and the files.
-use Rattle.std.specs.Prelude.{◌≡◌, ◌≢◌, ◌⊎◌, ℕ, List, [], ◌∷◌, ◌++◌, Option, None, Some, Ok, true}
+use Rattle.std.specs.Prelude.{◌≡◌, ◌≢◌, ◌⊎◌, ℕ, List, [], ◌∷◌, ◌++◌, length, Option, Some, Ok, Err, true}
+use Rattle.cm_bdz.specs.Functions.{bdz_answer, bdz_ph_answer}
+use Rattle.cm_bdz.specs.Numbering.{AnswersApart}
 use Rattle.cm_chm.specs.Numbering.{AnswersNumbers}
+use Rattle.cm_dump.specs.Dumps.{dump_of}
 use Rattle.cm_dump.specs.Functions.{answer_by}
 use Rattle.cm_dump.specs.Spelling.{spelling_of}
 use Rattle.cm_dump.specs.declared.fault.LoadFault.{LoadFault}
@@ -9,42 +12,83 @@ use Rattle.cm_dump.specs.declared.writer.Func.TheVariants as func
 use Rattle.cm_outer.specs.Files.{Files, file_at}
 use Rattle.cm_outer.specs.Writing.{then_bytes}
 use Rattle.cm_spec.specs.Built.{IsFirst, AllCored}
-use Rattle.cm_spec.specs.Chm.{Chm, chm_rule}
 use Rattle.cm_spec.specs.Lists.{has}
 use Rattle.cm_tool.specs.Asked.{AskedPart, GotNothing, Spells, keys_at}
 use Rattle.cm_tool.specs.Ends.{Says}
-use Rattle.cm_tool.specs.Job.{BuildJob, QueryJob, Job, Build, Query, target_of}
+use Rattle.cm_tool.specs.Jobs.{rule_by, seeds_tried}
 use Rattle.cm_tool.specs.Leaves.{IsPart}
-use Rattle.cm_tool.specs.Messages.{bad_arguments, bad_dump, no_seed, out_of_memory, cannot_load, cannot_read, cannot_write, cannot_write_out, keys_changed, no_keys, line_too_long, too_many_keys}
-use Rattle.cm_tool.specs.Outcome.{Outcome, job_outcome, keys_in, ratio, saving, seeds_tried}
+use Rattle.cm_tool.specs.Messages.{bad_dump, built_message, no_seed, out_of_memory, cannot_read, cannot_write, cannot_write_out, keys_changed, no_keys, line_too_long, too_many_keys, usage_message}
+use Rattle.cm_tool.specs.Outcome.{Outcome, job_outcome, keys_in, saving}
+use Rattle.cm_tool.specs.Texts.{help_text, version_text}
+use Rattle.cm_tool.specs.declared.built.Summary.{Summary}
+use Rattle.cm_witness.specs.declared.algorithm.Algorithm.{Algorithm}
+use Rattle.cm_witness.specs.declared.algorithm.Algorithm.TheVariants.{Chm, Bdz, BdzPh}
+use Rattle.cm_words.specs.Options.{Read as Reading}
+use Rattle.cm_words.specs.declared.fault.UsageFault.{UsageFault}
+use Rattle.cm_words.specs.declared.jobs.BuildJob.{BuildJob}
+use Rattle.cm_words.specs.declared.jobs.QueryJob.{QueryJob}
+use Rattle.cm_words.specs.declared.jobs.Job.{Job}
+use Rattle.cm_words.specs.declared.jobs.Job.TheVariants.{Help, Version, Build, Query}
 
 -- the statuses there are
 abbrev pub IsStatus : ℕ → Type 0
 IsStatus status = has (0 ∷ 1 ∷ 2 ∷ 3 ∷ 4 ∷ 5 ∷ 6 ∷ 7 ∷ 8 ∷ []) status ≡ true
 
 -- this holds of the build, where the words ask for one
-abbrev pub ForBuild : Option Job → (BuildJob → Type 0) → Type 0
-ForBuild None P = Unit {0}
-ForBuild (Some (Build job)) P = P job
-ForBuild (Some (Query job)) P = Unit {0}
+abbrev pub ForBuild : Reading Job → (BuildJob → Type 0) → Type 0
+ForBuild (Err fault) P = Unit {0}
+ForBuild (Ok Help) P = Unit {0}
+ForBuild (Ok Version) P = Unit {0}
+ForBuild (Ok (Build job)) P = P job
+ForBuild (Ok (Query job)) P = Unit {0}
 
 -- this holds of the query, where they ask for one
-abbrev pub ForQuery : Option Job → (QueryJob → Type 0) → Type 0
-ForQuery None P = Unit {0}
-ForQuery (Some (Build job)) P = Unit {0}
-ForQuery (Some (Query job)) P = P job
+abbrev pub ForQuery : Reading Job → (QueryJob → Type 0) → Type 0
+ForQuery (Err fault) P = Unit {0}
+ForQuery (Ok Help) P = Unit {0}
+ForQuery (Ok Version) P = Unit {0}
+ForQuery (Ok (Build job)) P = Unit {0}
+ForQuery (Ok (Query job)) P = P job
+
+-- this holds of the text that they ask for, where they do
+abbrev pub ForText : Reading Job → (List ℕ → Type 0) → Type 0
+ForText (Err fault) P = Unit {0}
+ForText (Ok Help) P = P help_text
+ForText (Ok Version) P = P version_text
+ForText (Ok (Build job)) P = Unit {0}
+ForText (Ok (Query job)) P = Unit {0}
 
 -- they ask for a build, of which this holds
-abbrev pub IfBuild : Option Job → (BuildJob → Type 0) → Type 0
-IfBuild None P = ⊥
-IfBuild (Some (Build job)) P = P job
-IfBuild (Some (Query job)) P = ⊥
+abbrev pub IfBuild : Reading Job → (BuildJob → Type 0) → Type 0
+IfBuild (Err fault) P = ⊥
+IfBuild (Ok Help) P = ⊥
+IfBuild (Ok Version) P = ⊥
+IfBuild (Ok (Build job)) P = P job
+IfBuild (Ok (Query job)) P = ⊥
+
+-- this holds, unless they ask for a build
+abbrev pub UnlessBuild : Reading Job → Type 0 → Type 0
+UnlessBuild (Err fault) P = P
+UnlessBuild (Ok Help) P = P
+UnlessBuild (Ok Version) P = P
+UnlessBuild (Ok (Build job)) P = Unit {0}
+UnlessBuild (Ok (Query job)) P = P
 
 -- this holds, unless they ask for a query
-abbrev pub UnlessQuery : Option Job → Type 0 → Type 0
-UnlessQuery None P = P
-UnlessQuery (Some (Build job)) P = P
-UnlessQuery (Some (Query job)) P = Unit {0}
+abbrev pub UnlessQuery : Reading Job → Type 0 → Type 0
+UnlessQuery (Err fault) P = P
+UnlessQuery (Ok Help) P = P
+UnlessQuery (Ok Version) P = P
+UnlessQuery (Ok (Build job)) P = P
+UnlessQuery (Ok (Query job)) P = Unit {0}
+
+-- this holds, unless they ask for what is written to out
+abbrev pub UnlessOut : Reading Job → Type 0 → Type 0
+UnlessOut (Err fault) P = P
+UnlessOut (Ok Help) P = Unit {0}
+UnlessOut (Ok Version) P = Unit {0}
+UnlessOut (Ok (Build job)) P = P
+UnlessOut (Ok (Query job)) P = Unit {0}
 
 -- the outcome is what came
 pub record Reaches (found : Option Outcome) (status : ℕ) (out_old out_new err_old err_new : Option (List ℕ)) (err_before err_now : ℕ) (files_new : Option Files) : Type 0 where
@@ -57,31 +101,45 @@ pub record Reaches (found : Option Outcome) (status : ℕ) (out_old out_new err_
 
 -- a build took the first seed whose graph of the keys has an empty 2-core
 abbrev pub TookFirst : Files → BuildJob → Type 0
-TookFirst files job = (bytes : List ℕ) × (place : ℕ) × (seed : ℕ) × (file_at files job.keys ≡ Some bytes) × IsFirst chm_rule (keys_in bytes).keys ratio (seeds_tried job) place seed
+TookFirst files job = (bytes : List ℕ) × (place : ℕ) × (seed : ℕ) × (file_at files job.keys ≡ Some bytes) × IsFirst (rule_by job.algorithm) (keys_in job.first bytes).keys job.c (seeds_tried job) place seed
 
--- the function file holds bytes that spell a function, which answers each key with its number
+-- what the answers of a function to the keys that it was built over are: by CHM the keys' own numbers, by BDZ all numbers below
+-- that of the keys, by BDZ_PH distinct numbers below that of the cells
+abbrev pub AnswersOf : List (ℕ × List ℕ) → Func → Type 0
+AnswersOf keys (func.Chm f) = AnswersNumbers keys f
+AnswersOf keys (func.Bdz f) = AnswersApart keys (bdz_answer f) (length keys)
+AnswersOf keys (func.BdzPh f) = AnswersApart keys (λ key. Some (bdz_ph_answer f key)) (length f.cells)
+
+-- the function is one of the algorithm
+abbrev pub IsBy : Algorithm → Func → Type 0
+IsBy Chm (func.Chm f) = Unit {0}
+IsBy Bdz (func.Bdz f) = Unit {0}
+IsBy BdzPh (func.BdzPh f) = Unit {0}
+IsBy algorithm f = ⊥
+
+-- the function file holds bytes that spell a function of the job's algorithm, with the answers that it is for
 abbrev pub SavedNumbers : Files → Option Files → BuildJob → Type 0
-SavedNumbers files new job = (bytes dump : List ℕ) × (f : Chm) × (after : Files) × (file_at files job.keys ≡ Some bytes) × (new ≡ Some after) × (file_at after (target_of job.keys) ≡ Some dump) × (spelling_of dump ≡ Ok (func.Chm f)) × AnswersNumbers (keys_in bytes).keys f
+SavedNumbers files new job = (bytes dump : List ℕ) × (f : Func) × (after : Files) × (file_at files job.keys ≡ Some bytes) × (new ≡ Some after) × (file_at after job.function ≡ Some dump) × (spelling_of dump ≡ Ok f) × IsBy job.algorithm f × AnswersOf (keys_in job.first bytes).keys f
 
 -- under every seed the graph of the keys has a 2-core with an edge
 abbrev pub IsCored : Files → BuildJob → Type 0
-IsCored files job = (bytes : List ℕ) × (file_at files job.keys ≡ Some bytes) × AllCored chm_rule (keys_in bytes).keys ratio (seeds_tried job)
+IsCored files job = (bytes : List ℕ) × (file_at files job.keys ≡ Some bytes) × AllCored (rule_by job.algorithm) (keys_in job.first bytes).keys job.c (seeds_tried job)
 
--- the outcome saves a dump, and the function file holds a front of it, or the files are as before
+-- the outcome saves a function, and the function file holds a front of its dump, or the files are as before
 abbrev pub SavedPart : Files → Option Files → Option Files → BuildJob → Type 0
-SavedPart files old new job = (dump : List ℕ) × (job_outcome files (Some (Build job)) ≡ Some (saving job files dump)) × IsPart job dump old new
+SavedPart files old new job = (f : Func) × (job_outcome files (Ok (Build job)) ≡ Some (saving job files f)) × IsPart job (dump_of f) old new
 
 -- A query that a fault or want of memory cut short. Out and err got nothing; or else the first keys were answered, with their notes, and out may have a front of the text of one key more.
 abbrev pub AnsweredPart : Files → Option (List ℕ) → Option (List ℕ) → List ℕ → QueryJob → Type 0
 AnsweredPart files old new notes job = GotNothing old new notes
-    ⊎ ((f : Func) × (given : ℕ) × (rest : ℕ) × Spells files job.keys f × AskedPart (answer_by f) (keys_at files job.keys) old new notes given rest)
+    ⊎ ((f : Func) × (given : ℕ) × (rest : ℕ) × Spells files job.function f × AskedPart (answer_by f) (keys_at files job) old new notes given rest)
 
 -- the message of a build that goes with a status
 pub record IsBuildMessage (job : BuildJob) (status : ℕ) (text : List ℕ) : Type 0 where
-  pub done : status ≡ 0 → text ≡ []
+  pub done : status ≡ 0 → (s : Summary) × (text ≡ built_message job s)
   pub cored : status ≡ 1 → text ≡ no_seed
   pub read : status ≡ 4 → text ≡ cannot_read job.keys
-  pub write : status ≡ 5 → text ≡ cannot_write job.keys
+  pub write : status ≡ 5 → text ≡ cannot_write job.function
   pub memory : status ≡ 6 → text ≡ out_of_memory
   pub changed : status ≡ 7 → (first : ℕ) × (again : ℕ) × (again ≢ first) × (text ≡ keys_changed job.keys first again)
   pub keys : status ≡ 8 → (text ≡ no_keys job.keys) ⊎ (text ≡ too_many_keys job.keys) ⊎ ((line : ℕ) × (text ≡ line_too_long job.keys line))
@@ -90,8 +148,8 @@ pub record IsBuildMessage (job : BuildJob) (status : ℕ) (text : List ℕ) : Ty
 pub record IsQueryMessage (job : QueryJob) (status : ℕ) (text : List ℕ) : Type 0 where
   pub done : status ≡ 0 → text ≡ []
   pub noted : status ≡ 1 → text ≡ []
-  pub dump : status ≡ 3 → (fault : LoadFault) × (text ≡ bad_dump job.keys fault)
-  pub read : status ≡ 4 → (text ≡ cannot_read job.keys) ⊎ (text ≡ cannot_load job.keys)
+  pub dump : status ≡ 3 → (fault : LoadFault) × (text ≡ bad_dump job.function fault)
+  pub read : status ≡ 4 → (text ≡ cannot_read job.keys) ⊎ (text ≡ cannot_read job.function)
   pub write : status ≡ 5 → text ≡ cannot_write_out
   pub memory : status ≡ 6 → text ≡ out_of_memory
   pub keys : status ≡ 8 → (text ≡ too_many_keys job.keys) ⊎ ((line : ℕ) × (text ≡ line_too_long job.keys line))
@@ -104,8 +162,21 @@ pub record IsCutShort (files : Files) (status : ℕ) (out_old out_new err_old er
   pub says : Says (notes ++ text) err_old err_new err_before err_now
   pub answered : AnsweredPart files out_old out_new notes job
 
+-- that of a text that is printed
+pub record IsPrintMessage (status : ℕ) (text : List ℕ) : Type 0 where
+  pub done : status ≡ 0 → text ≡ []
+  pub write : status ≡ 5 → text ≡ cannot_write_out
+  pub memory : status ≡ 6 → text ≡ out_of_memory
+
+-- that of words that ask for no job
+pub record IsUsageMessage (fault : UsageFault) (status : ℕ) (text : List ℕ) : Type 0 where
+  pub refused : status ≡ 2 → text ≡ usage_message fault
+  pub memory : status ≡ 6 → text ≡ out_of_memory
+
 -- the message of what the words ask for
-abbrev pub IsMessage : Option Job → ℕ → List ℕ → Type 0
-IsMessage None status text = text ≡ bad_arguments
-IsMessage (Some (Build job)) status text = IsBuildMessage job status text
-IsMessage (Some (Query job)) status text = IsQueryMessage job status text
+abbrev pub IsMessage : Reading Job → ℕ → List ℕ → Type 0
+IsMessage (Err fault) status text = IsUsageMessage fault status text
+IsMessage (Ok Help) status text = IsPrintMessage status text
+IsMessage (Ok Version) status text = IsPrintMessage status text
+IsMessage (Ok (Build job)) status text = IsBuildMessage job status text
+IsMessage (Ok (Query job)) status text = IsQueryMessage job status text

@@ -6,12 +6,14 @@ ghost use Rattle.cm_outer.specs.Files.{Files};
 ghost use Rattle.cm_outer.specs.Noting.{Noted};
 ghost use Rattle.cm_tool.specs.Asked.{EndsKeys, HasQueryStopCause, asked_all, stop_from_query};
 ghost use Rattle.cm_tool.specs.declared.stop.QueryStop.{QueryStop};
+ghost use Rattle.cm_words.specs.declared.jobs.QueryJob.{QueryJob};
 
 use crate::stop::QueryStop;
 use cm_dump::Func;
 use cm_keys::Keys;
 use cm_outer::{Disk, DiskFault, Failed, KeyFault, Notes, Sink};
 use cm_query::{QueryFault, Tally, query};
+use cm_words::QueryJob;
 use std::alloc::Global;
 
 /// Why a refused query of a pass stops a job.
@@ -31,7 +33,7 @@ fn stop_of_query(fault: QueryFault) -> QueryStop
 pub(crate) fn ask_keys<D: Disk, O: Sink, E: Sink>(
     alloc: Global,
     function: &Func,
-    keys: &str,
+    job: &QueryJob,
     disk: &mut D,
     out: &mut O,
     err: &mut E,
@@ -43,14 +45,14 @@ pub(crate) fn ask_keys<D: Disk, O: Sink, E: Sink>(
     ensures within { IfOk result (λ tally. tally.repeated + tally.unknown ≤ tally.lines) }
     ensures says { (text : List ℕ) × Noted notes.old notes.new (E.written err.old) (E.written err.new) (E.faults err.old) (E.faults err.new) text }
     ensures told { ForSome (D.files disk.old) (λ files. (text : List ℕ) × Noted notes.old notes.new (E.written err.old) (E.written err.new) (E.faults err.old) (E.faults err.new) text
-        × EndsKeys (answer_by function.now) files keys.now (O.written out.old) (O.written out.new) text result) }
+        × EndsKeys (answer_by function.now) files job.now (O.written out.old) (O.written out.new) text result) }
 {
-    let reader = match disk.open(keys) {
+    let reader = match disk.open(job.keys.as_str()) {
         Ok(reader) => reader,
         Err(DiskFault::Memory) => return Err(QueryStop::Memory),
         Err(DiskFault::Failed) => return Err(QueryStop::Read),
     };
-    let mut pass = Keys::new(reader, None);
+    let mut pass = Keys::new(reader, job.first);
     let asked = query(alloc, function, &mut pass, out, err, notes);
     disk.shut(pass.into_source());
     match asked {
@@ -76,7 +78,7 @@ pub(crate) fn send_on<O: Sink>(
 ) -> Result<Tally, QueryStop>
     ensures cause { (r : ℕ) (r' : ℕ) (w : ℕ) (w' : ℕ) (o : ℕ) → HasQueryStopCause r r' w w' o (O.faults out.old) asked → HasQueryStopCause r r' w w' o (O.faults out.new) result }
     ensures memory { result ≡ Err QueryStop.Memory → (asked ≡ Err QueryStop.Memory) × (out.new ≡ out.old) }
-    ensures ends { (f : List ℕ → Option ℕ) (files : Files) (path : List ℕ) (old : Option (List ℕ)) (notes : List ℕ) → EndsKeys f files path old (O.written out.old) notes asked → EndsKeys f files path old (O.written out.new) notes result }
+    ensures ends { (f : List ℕ → Option ℕ) (files : Files) (job : QueryJob) (old : Option (List ℕ)) (notes : List ℕ) → EndsKeys f files job old (O.written out.old) notes asked → EndsKeys f files job old (O.written out.new) notes result }
 {
     if is_whole(asked) {
         match out.write(&[]) {

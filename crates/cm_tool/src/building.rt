@@ -1,58 +1,52 @@
-//! A function, built from a keys file.
-ghost use Rattle.std.specs.Prelude.{◌≡◌, ◌<◌, ◌≤◌, ℕ, List, length, Some, None, IfOk, IfErr};
+//! Builds.
+ghost use Rattle.std.specs.Prelude.{◌≡◌, ◌≢◌, ◌<◌, ◌≤◌, ◌⊎◌, ◌↔◌, ◌^◌, ℕ, List, [], Option, None, Some, Ok, IfOk, IfErr};
 ghost use Rattle.std.specs.Option.{ForSome};
-ghost use Rattle.cm_dump.specs.Functions.{IsChm};
-ghost use Rattle.cm_algo.specs.Fails.{HasBuildCause, FailsBuild, Differ};
-ghost use Rattle.cm_outer.specs.Files.{file_at};
-ghost use Rattle.cm_outer.specs.Passes.{Told};
-ghost use Rattle.cm_spec.specs.Chm.{chm_rule};
-ghost use Rattle.cm_tool.specs.Jobs.{build_seen};
-ghost use Rattle.cm_tool.specs.Leaves.{HasStopCause, IsChmOf, IsFunctionOf, IsRefused, Leaves, stop_from, stop_from_key, Differs};
+ghost use Rattle.cm_dump.specs.Functions.{IsFunction};
+ghost use Rattle.cm_outer.specs.Files.{file_at, with_file};
+ghost use Rattle.cm_tool.specs.Ends.{Says};
+ghost use Rattle.cm_tool.specs.Jobs.{seeds_of};
+ghost use Rattle.cm_tool.specs.Leaves.{Differs, HasStopCause, IsFunctionOf, IsRefused, Leaves, stop_from, stop_from_key};
+ghost use Rattle.cm_tool.specs.Outcome.{job_outcome};
+ghost use Rattle.cm_tool.specs.Run.{IsBuildMessage, IsCored, IsStatus, Reaches, SavedNumbers, SavedPart, TookFirst};
+ghost use Rattle.cm_words.specs.Limits.{IsBuild};
+ghost use Rattle.cm_words.specs.declared.jobs.Job.TheVariants.{Build};
 
-use crate::job::{BuildJob, seeds, target};
+use crate::built::{Summary, sum_up};
+use crate::functions::func_of;
+use crate::report::{report, say_built};
 use crate::stop::Stop;
 use crate::storing::store;
-use cm_algo::{BuildFault, build};
-use cm_chm::{Chm, ChmScheme};
+use arrayvec::ArrayVec;
+use cm_algo::BuildFault;
 use cm_dump::Func;
-use cm_graph::{Steps, Xored};
 use cm_keys::Keys;
-use cm_outer::{Disk, DiskFault, KeyFault, KeyPass, Source};
+use cm_outer::{Disk, DiskFault, KeyFault, Sink};
+use cm_words::BuildJob;
 use std::alloc::Global;
 use std::marker::Brand;
-use std::sync::ledger::{Blank, Ledger};
+use std::sync::ledger::Blank;
 
-/// The ratio of vertices to keys, in millionths.
-const RATIO: u32 = 2_090_000;
-
-/// Builds a CHM function over a pass of keys.
-fn chm_of<P: KeyPass, L: Ledger>(
-    alloc: Global,
-    keys: &mut P,
-    seeds: &[u32],
-    blank: Blank,
-) -> Result<Chm, BuildFault>
-    requires name { blank.name ≡ L.name }
-    requires parts { blank.parts ≡ L.parts }
-    requires some { 0 < blank.parts }
-    requires seeds { 0 < length seeds.now }
-    ensures told { P.told keys.new ≡ P.told keys.old }
-    ensures cause { HasBuildCause (P.faults keys.old) (P.faults keys.new) result }
-    ensures made { IfOk result (λ f. ForSome (P.told keys.old) (λ told. IsChmOf told 2090000 seeds.now f)) }
-    ensures valid { IfOk result IsChm }
-    ensures fault { IfErr result (λ e. ForSome (P.told keys.old) (λ told. FailsBuild chm_rule told 2090000 seeds.now e)) }
-    ensures differ { IfErr result Differ }
+/// So many seeds, from the first on.
+fn seeds(first: u32, count: u32) -> ArrayVec<u32, 1000>
+    requires room { count ≤ 1000 }
+    ensures { result.items ≡ seeds_of first count }
 {
-    let mut steps = Steps::<L>::new(blank);
-    let built = build::<ChmScheme, Xored<2>, P, 2, L>(
-        alloc,
-        &ChmScheme {},
-        keys,
-        RATIO,
-        seeds,
-        &mut steps,
-    )?;
-    Ok(Chm::from_built(built))
+    let mut seeds = ArrayVec::new();
+    for i in 0..count {
+        seeds.push(first.wrapping_add(i));
+    }
+    seeds
+}
+
+/// Why a refused pass stops a job.
+fn stop_of_key(fault: KeyFault) -> Stop
+    ensures stop { result ≡ stop_from_key fault }
+{
+    match fault {
+        KeyFault::Read => Stop::Read,
+        KeyFault::TooLong { line } => Stop::TooLong { line },
+        KeyFault::TooMany => Stop::TooMany,
+    }
 }
 
 /// Why a refused build stops a job.
@@ -68,35 +62,26 @@ fn stop_of(fault: BuildFault) -> Stop
     }
 }
 
-/// Why a refused pass stops a job.
-fn stop_of_key(fault: KeyFault) -> Stop
-    ensures stop { result ≡ stop_from_key fault }
-{
-    match fault {
-        KeyFault::Read => Stop::Read,
-        KeyFault::TooLong { line } => Stop::TooLong { line },
-        KeyFault::TooMany => Stop::TooMany,
-    }
-}
-
 /// Builds the function of a keys file.
-fn function_of<D: Disk>(alloc: Global, job: &BuildJob, disk: &mut D) -> Result<Chm, Stop>
+fn function_of<D: Disk>(alloc: Global, job: &BuildJob, disk: &mut D) -> Result<Func, Stop>
+    requires job { IsBuild job.now }
     ensures files { D.files disk.new ≡ D.files disk.old }
     ensures cause { HasStopCause (D.read_faults disk.old) (D.read_faults disk.new) (D.write_faults disk.old) (D.write_faults disk.new) result }
-    ensures made { IfOk result (λ f. ForSome (D.files disk.old) (λ files. (bytes : List ℕ) × (file_at files job.now.keys.now ≡ Some bytes) × IsFunctionOf (build_seen job.now) bytes f)) }
-    ensures valid { IfOk result IsChm }
-    ensures refused { IfErr result (λ stop. ForSome (D.files disk.old) (λ files. IsRefused (build_seen job.now) files stop)) }
+    ensures made { IfOk result (λ f. ForSome (D.files disk.old) (λ files. (bytes : List ℕ) × (file_at files job.now.keys ≡ Some bytes) × IsFunctionOf job.now bytes f)) }
+    ensures valid { IfOk result IsFunction }
+    ensures refused { IfErr result (λ stop. ForSome (D.files disk.old) (λ files. IsRefused job.now files stop)) }
     ensures differ { IfErr result Differs }
 {
-    let reader = match disk.open(job.keys) {
+    let reader = match disk.open(job.keys.as_str()) {
         Ok(reader) => reader,
         Err(DiskFault::Memory) => return Err(Stop::Memory),
         Err(DiskFault::Failed) => return Err(Stop::Read),
     };
-    let mut keys = Keys::new(reader, None);
-    let tried = seeds(job.seed);
-    let outcome = chm_of::<Keys<D::Reader>, Brand>(
+    let mut keys = Keys::new(reader, job.first);
+    let tried = seeds(job.seed, job.count);
+    let outcome = func_of::<Keys<D::Reader>, Brand>(
         alloc,
+        job,
         &mut keys,
         tried.as_slice(),
         Blank::new(1),
@@ -109,21 +94,52 @@ fn function_of<D: Disk>(alloc: Global, job: &BuildJob, disk: &mut D) -> Result<C
 }
 
 /// Builds the function of a keys file, and saves it as the function file. This is created only after the build has succeeded.
-pub(crate) fn build_file<D: Disk>(alloc: Global, job: &BuildJob, disk: &mut D) -> Result<(), Stop>
+fn build_file<D: Disk>(alloc: Global, job: &BuildJob, disk: &mut D) -> Result<Summary, Stop>
+    requires job { IsBuild job.now }
     ensures cause { HasStopCause (D.read_faults disk.old) (D.read_faults disk.new) (D.write_faults disk.old) (D.write_faults disk.new) result }
-    ensures leaves { Leaves (build_seen job.now) (D.files disk.old) (D.files disk.new) result }
+    ensures leaves { Leaves job.now (D.files disk.old) (D.files disk.new) result }
     ensures differ { IfErr result Differs }
 {
-    let Ok(path) = target(alloc, job.keys) else {
-        return Err(Stop::Memory);
-    };
     let function = match function_of(alloc, job, disk) {
-        Ok(function) => Func::Chm(function),
+        Ok(function) => function,
         Err(stop) => return Err(stop),
     };
-    match store(path.as_str(), &function, disk) {
-        Ok(()) => Ok(()),
+    match store(job.function.as_str(), &function, disk) {
+        Ok(()) => Ok(sum_up(&function)),
         Err(DiskFault::Memory) => Err(Stop::Memory),
         Err(DiskFault::Failed) => Err(Stop::Write),
+    }
+}
+
+/// Does a build, and answers its status.
+pub(crate) fn run_build<D: Disk, E: Sink>(
+    alloc: Global,
+    job: &BuildJob,
+    disk: &mut D,
+    err: &mut E,
+) -> u8
+    requires job { IsBuild job.now }
+    ensures status { IsStatus result }
+    ensures known { (result ≢ 2) × (result ≢ 3) }
+    ensures read { D.read_faults disk.old < 2 ^ 63 → ((result ≡ 4) ↔ (D.read_faults disk.old < D.read_faults disk.new)) }
+    ensures write { D.write_faults disk.old < 2 ^ 63 → ((result ≡ 5) ↔ (D.write_faults disk.old < D.write_faults disk.new)) }
+    ensures outcome { (out : Option (List ℕ)) → result ≢ 4 → result ≢ 5 → result ≢ 6 → ForSome (D.files disk.old) (λ files.
+        Reaches (job_outcome files (Ok (Build job.now))) result out out (E.written err.old) (E.written err.new) (E.faults err.old) (E.faults err.new) (D.files disk.new)) }
+    ensures first { result ≡ 0 → ForSome (D.files disk.old) (λ files. TookFirst files job.now) }
+    ensures cored { result ≡ 1 → ForSome (D.files disk.old) (λ files. IsCored files job.now) }
+    ensures numbers { result ≡ 0 → ForSome (D.files disk.old) (λ files. SavedNumbers files (D.files disk.new) job.now) }
+    ensures unchanged { ForSome (D.files disk.old) (λ _. result ≢ 7) }
+    ensures missing { ForSome (D.files disk.old) (λ files. job_outcome files (Ok (Build job.now)) ≡ None → (result ≡ 4) ⊎ (result ≡ 6)) }
+    ensures kept { result ≢ 0 → result ≢ 5 → result ≢ 6 → D.files disk.new ≡ D.files disk.old }
+    ensures part { result ≡ 5 → ForSome (D.files disk.old) (λ files. SavedPart files (D.files disk.old) (D.files disk.new) job.now) }
+    ensures memory { result ≡ 6 → (D.files disk.new ≡ D.files disk.old) ⊎ (D.files disk.new ≡ with_file job.now.function [] (D.files disk.old)) }
+    ensures err { (text : List ℕ) × IsBuildMessage job.now result text × Says text (E.written err.old) (E.written err.new) (E.faults err.old) (E.faults err.new) }
+{
+    match build_file(alloc, job, disk) {
+        Ok(summary) => {
+            say_built(job, summary, err);
+            0
+        }
+        Err(stop) => report(job, stop, err),
     }
 }

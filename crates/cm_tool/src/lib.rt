@@ -3,18 +3,23 @@
 
 mod asking;
 mod building;
-mod job;
+mod built;
+mod functions;
 mod loading;
+mod printing;
 mod querying;
 mod report;
 mod stop;
 mod storing;
 mod top;
 
+pub use crate::printing::{print_help, print_version};
 pub use crate::top::run;
 
 #[cfg(test)]
 mod build_tests;
+#[cfg(test)]
+mod command_tests;
 #[cfg(test)]
 mod query_tests;
 #[cfg(test)]

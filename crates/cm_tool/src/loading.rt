@@ -3,7 +3,6 @@ ghost use Rattle.std.specs.Prelude.{◌≡◌, ℕ, IfOk, IfErr};
 ghost use Rattle.std.specs.Option.{ForSome};
 ghost use Rattle.cm_tool.specs.Asked.{HasQueryStopCause, RefusesDump, Spells, stop_from_load};
 
-use crate::job::target;
 use crate::stop::QueryStop;
 use cm_dump::{Func, LoadFault, load};
 use cm_outer::{Disk, DiskFault};
@@ -20,17 +19,14 @@ fn stop_of_load(fault: LoadFault) -> QueryStop
     }
 }
 
-/// Loads the function of a keys file.
-pub(crate) fn load_file<D: Disk>(alloc: Global, keys: &str, disk: &mut D) -> Result<Func, QueryStop>
+/// Loads the function of a function file.
+pub(crate) fn load_file<D: Disk>(alloc: Global, path: &str, disk: &mut D) -> Result<Func, QueryStop>
     ensures files { D.files disk.new ≡ D.files disk.old }
     ensures cause { (o : ℕ) → HasQueryStopCause (D.read_faults disk.old) (D.read_faults disk.new) (D.write_faults disk.old) (D.write_faults disk.new) o o result }
-    ensures spelled { IfOk result (λ f. ForSome (D.files disk.old) (λ files. Spells files keys.now f)) }
-    ensures refused { IfErr result (λ stop. ForSome (D.files disk.old) (λ files. RefusesDump files keys.now stop)) }
+    ensures spelled { IfOk result (λ f. ForSome (D.files disk.old) (λ files. Spells files path.now f)) }
+    ensures refused { IfErr result (λ stop. ForSome (D.files disk.old) (λ files. RefusesDump files path.now stop)) }
 {
-    let Ok(path) = target(alloc, keys) else {
-        return Err(QueryStop::Memory);
-    };
-    let mut reader = match disk.open(path.as_str()) {
+    let mut reader = match disk.open(path) {
         Ok(reader) => reader,
         Err(DiskFault::Memory) => return Err(QueryStop::Memory),
         Err(DiskFault::Failed) => return Err(QueryStop::NoFunction),

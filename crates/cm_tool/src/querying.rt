@@ -1,28 +1,27 @@
 //! Queries.
-ghost use Rattle.std.specs.Prelude.{◌≡◌, ◌≢◌, ◌<◌, ◌≤◌, ◌^◌, ◌⊎◌, ◌↔◌, ◌+◌, ◌++◌, ℕ, List, Err, None, Some};
+ghost use Rattle.std.specs.Prelude.{◌≡◌, ◌≢◌, ◌<◌, ◌≤◌, ◌^◌, ◌⊎◌, ◌↔◌, ◌+◌, ◌++◌, ℕ, List, Ok, Err, None};
 ghost use Rattle.std.specs.Option.{ForSome};
 ghost use Rattle.cm_outer.specs.Noting.{Noted};
 ghost use Rattle.cm_tool.specs.Asked.{EndsQuery, HasQueryStopCause};
 ghost use Rattle.cm_tool.specs.Ends.{Says};
-ghost use Rattle.cm_tool.specs.Job.{Query};
-ghost use Rattle.cm_tool.specs.Jobs.{query_seen};
 ghost use Rattle.cm_tool.specs.Outcome.{job_outcome};
 ghost use Rattle.cm_tool.specs.Run.{IsCutShort, IsQueryMessage, IsStatus, Reaches};
 ghost use Rattle.cm_tool.specs.declared.stop.QueryStop.{QueryStop};
+ghost use Rattle.cm_words.specs.declared.jobs.Job.TheVariants.{Query};
 
 use crate::asking::{ask_keys, send_on};
-use crate::job::QueryJob;
 use crate::loading::load_file;
 use crate::report::report_query;
 use crate::stop::QueryStop;
 use cm_outer::{Disk, Notes, Sink};
 use cm_query::Tally;
+use cm_words::QueryJob;
 use std::alloc::Global;
 
 /// Loads the function of a keys file, and answers the keys.
 fn answer_file<D: Disk, O: Sink, E: Sink>(
     alloc: Global,
-    keys: &str,
+    job: &QueryJob,
     disk: &mut D,
     out: &mut O,
     err: &mut E,
@@ -33,13 +32,13 @@ fn answer_file<D: Disk, O: Sink, E: Sink>(
     ensures memory { result ≡ Err QueryStop.Memory → O.written out.new ≡ O.written out.old }
     ensures says { (text : List ℕ) × Noted notes.old notes.new (E.written err.old) (E.written err.new) (E.faults err.old) (E.faults err.new) text }
     ensures told { ForSome (D.files disk.old) (λ files. (text : List ℕ) × Noted notes.old notes.new (E.written err.old) (E.written err.new) (E.faults err.old) (E.faults err.new) text
-        × EndsQuery files keys.now (O.written out.old) (O.written out.new) text result) }
+        × EndsQuery files job.now (O.written out.old) (O.written out.new) text result) }
 {
-    let function = match load_file(alloc, keys, disk) {
+    let function = match load_file(alloc, job.function.as_str(), disk) {
         Ok(function) => function,
         Err(stop) => return Err(stop),
     };
-    let asked = ask_keys(alloc, &function, keys, disk, out, err, notes);
+    let asked = ask_keys(alloc, &function, job, disk, out, err, notes);
     send_on(out, asked)
 }
 
@@ -58,17 +57,17 @@ pub(crate) fn run_query<D: Disk, O: Sink, E: Sink>(
     ensures read { D.read_faults disk.old < 2 ^ 63 → ((result ≡ 4) ↔ (D.read_faults disk.old < D.read_faults disk.new)) }
     ensures write { O.faults out.old < 2 ^ 63 → ((result ≡ 5) ↔ (O.faults out.old < O.faults out.new)) }
     ensures outcome { result ≢ 4 → result ≢ 5 → result ≢ 6 → ForSome (D.files disk.old) (λ files.
-        Reaches (job_outcome files (Some (Query (query_seen job.now)))) result (O.written out.old) (O.written out.new) (E.written err.old) (E.written err.new) (E.faults err.old) (E.faults err.new) (D.files disk.new)) }
-    ensures missing { ForSome (D.files disk.old) (λ files. job_outcome files (Some (Query (query_seen job.now))) ≡ None → (result ≡ 4) ⊎ (result ≡ 6)) }
+        Reaches (job_outcome files (Ok (Query job.now))) result (O.written out.old) (O.written out.new) (E.written err.old) (E.written err.new) (E.faults err.old) (E.faults err.new) (D.files disk.new)) }
+    ensures missing { ForSome (D.files disk.old) (λ files. job_outcome files (Ok (Query job.now)) ≡ None → (result ≡ 4) ⊎ (result ≡ 6)) }
     ensures memory { result ≡ 6 → O.written out.new ≡ O.written out.old }
     ensures cut { (result ≡ 4) ⊎ (result ≡ 5) ⊎ (result ≡ 6) → ForSome (D.files disk.old) (λ files.
-        IsCutShort files result (O.written out.old) (O.written out.new) (E.written err.old) (E.written err.new) (E.faults err.old) (E.faults err.new) (query_seen job.now)) }
-    ensures err { (notes : List ℕ) × (text : List ℕ) × IsQueryMessage (query_seen job.now) result text × Says (notes ++ text) (E.written err.old) (E.written err.new) (E.faults err.old) (E.faults err.new) }
+        IsCutShort files result (O.written out.old) (O.written out.new) (E.written err.old) (E.written err.new) (E.faults err.old) (E.faults err.new) job.now) }
+    ensures err { (notes : List ℕ) × (text : List ℕ) × IsQueryMessage job.now result text × Says (notes ++ text) (E.written err.old) (E.written err.new) (E.faults err.old) (E.faults err.new) }
 {
     let mut notes = Notes::new();
-    match answer_file(alloc, job.keys, disk, out, err, &mut notes) {
+    match answer_file(alloc, job, disk, out, err, &mut notes) {
         Ok(tally) => noted_status(tally),
-        Err(stop) => report_query(job.keys, stop, err, &mut notes),
+        Err(stop) => report_query(job, stop, err, &mut notes),
     }
 }
 

@@ -2,12 +2,14 @@
 ghost use Rattle.std.specs.Prelude.{◌≡◌, List, [], ◌∷◌, ℕ, codes, map, Result};
 ghost use Rattle.cm_outer.specs.Noting.{Noted};
 ghost use Rattle.cm_outer.specs.Writing.{joined};
-ghost use Rattle.cm_tool.specs.Ends.{Says, status_of, message_of, query_status_of, query_message_of};
-ghost use Rattle.cm_tool.specs.Messages.{bad_dump, fault_place, fault_words, keys_changed, line_too_long};
+ghost use Rattle.cm_tool.specs.Ends.{Says, status_of, message_of, query_status_of, query_message_of, usage_status_of};
+ghost use Rattle.cm_tool.specs.Messages.{bad_dump, built, built_message, cannot_read, fault_place, fault_words, keys_changed, line_too_long, out_of_memory, too_many_keys, usage_message};
 
+use crate::built::Summary;
 use crate::stop::{QueryStop, Stop};
 use cm_dump::LoadFault;
 use cm_outer::{Notes, Sink};
+use cm_words::{BuildJob, QueryJob, UsageFault};
 use itoa::Buffer;
 
 /// Says one message. Where err fails, it gets a front of it.
@@ -18,28 +20,91 @@ pub(crate) fn say<E: Sink>(err: &mut E, pieces: &[&[u8]])
     notes.note_pieces(err, pieces);
 }
 
-/// Says why a build stopped, and answers its status.
-pub(crate) fn report<E: Sink>(keys: &str, stop: Stop, err: &mut E) -> u8
-    ensures status { result ≡ status_of stop }
-    ensures says { Says (message_of keys.now stop) (E.written err.old) (E.written err.new) (E.faults err.old) (E.faults err.new) }
+/// Says why words ask for no job, and answers the status.
+pub(crate) fn report_usage<E: Sink>(fault: UsageFault, err: &mut E) -> u8
+    ensures status { result ≡ usage_status_of fault }
+    ensures says { Says (usage_message fault) (E.written err.old) (E.written err.new) (E.faults err.old) (E.faults err.new) }
 {
-    explain(keys.as_bytes(), stop, err);
+    explain_usage(fault, err);
+    usage_status(fault)
+}
+
+/// Says why words ask for no job.
+fn explain_usage<E: Sink>(fault: UsageFault, err: &mut E)
+    ensures says { Says (usage_message fault) (E.written err.old) (E.written err.new) (E.faults err.old) (E.faults err.new) }
+{
+    match fault {
+        UsageFault::Memory => say(err, &[b"cmph: out of memory\n"]),
+        UsageFault::Words => say(err, &[b"cmph: bad arguments; cmph -h shows the usage\n"]),
+        UsageFault::BadValue { letter } => say(err, &[b"cmph: bad value of -", &[letter], b"\n"]),
+        UsageFault::NoFile => say(err, &[b"cmph: no keys file\n"]),
+    }
+}
+
+/// The status of words that ask for no job.
+fn usage_status(fault: UsageFault) -> u8
+    ensures status { result ≡ usage_status_of fault }
+{
+    match fault {
+        UsageFault::Memory => 6,
+        UsageFault::Words | UsageFault::BadValue { letter: _ } | UsageFault::NoFile => 2,
+    }
+}
+
+/// Says what function was built, where that is asked for.
+pub(crate) fn say_built<E: Sink>(job: &BuildJob, summary: Summary, err: &mut E)
+    ensures says { Says (built_message job.now summary) (E.written err.old) (E.written err.new) (E.faults err.old) (E.faults err.new) }
+{
+    if job.verbose {
+        let mut keys = Buffer::new();
+        let mut cells = Buffer::new();
+        let mut seed = Buffer::new();
+        say(
+            err,
+            &[
+                b"cmph: ",
+                job.algorithm.name().as_bytes(),
+                b" keys ",
+                keys.format(summary.keys).as_bytes(),
+                b" cells ",
+                cells.format(summary.cells).as_bytes(),
+                b" seed ",
+                seed.format(summary.seed).as_bytes(),
+                b"\n",
+            ],
+        );
+    }
+}
+
+/// Says why a build stopped, and answers its status.
+pub(crate) fn report<E: Sink>(job: &BuildJob, stop: Stop, err: &mut E) -> u8
+    ensures status { result ≡ status_of stop }
+    ensures says { Says (message_of job.now stop) (E.written err.old) (E.written err.new) (E.faults err.old) (E.faults err.new) }
+{
+    let mut notes = Notes::new();
+    explain(job, stop, err, &mut notes);
     status(stop)
 }
 
-/// Says why a build over a keys file stopped.
-fn explain<E: Sink>(file: &[u8], stop: Stop, err: &mut E)
-    ensures says { Says (message_of file.now stop) (E.written err.old) (E.written err.new) (E.faults err.old) (E.faults err.new) }
+/// Notes why a build stopped.
+fn explain<E: Sink>(job: &BuildJob, stop: Stop, err: &mut E, notes: &mut Notes)
+    ensures noted { Noted notes.old notes.new (E.written err.old) (E.written err.new) (E.faults err.old) (E.faults err.new) (message_of job.now stop) }
 {
+    let keys = job.keys.as_str().as_bytes();
     match stop {
-        Stop::Cored => say(err, &[b"cmph: no seed of the list gives an empty core\n"]),
-        Stop::Read => say(err, &[b"cmph: ", file, b": cannot read\n"]),
-        Stop::Write => say(err, &[b"cmph: ", file, b".mph: cannot write\n"]),
-        Stop::Memory => say(err, &[b"cmph: out of memory\n"]),
-        Stop::Changed { first, now } => explain_change(file, first, now, err),
-        Stop::NoKeys => say(err, &[b"cmph: ", file, b": no keys\n"]),
-        Stop::TooLong { line } => explain_long_line(file, line, err),
-        Stop::TooMany => say(err, &[b"cmph: ", file, b": more than 16777216 keys\n"]),
+        Stop::Cored => {
+            notes.note_pieces(err, &[b"cmph: no seed of the list gives an empty core\n"]);
+        }
+        Stop::Read => note_unread(keys, err, notes),
+        Stop::Write => {
+            let function = job.function.as_str().as_bytes();
+            notes.note_pieces(err, &[b"cmph: ", function, b": cannot write\n"]);
+        }
+        Stop::Memory => note_want_of_memory(err, notes),
+        Stop::Changed { first, now } => note_change(keys, first, now, err, notes),
+        Stop::NoKeys => notes.note_pieces(err, &[b"cmph: ", keys, b": no keys\n"]),
+        Stop::TooLong { line } => note_long_line(keys, line, err, notes),
+        Stop::TooMany => note_many_keys(keys, err, notes),
     }
 }
 
@@ -57,67 +122,34 @@ fn status(stop: Stop) -> u8
     }
 }
 
-/// Says that the keys changed.
-fn explain_change<E: Sink>(file: &[u8], first: u32, again: u32, err: &mut E)
-    ensures says { Says (keys_changed file.now first again) (E.written err.old) (E.written err.new) (E.faults err.old) (E.faults err.new) }
-{
-    let mut first_buffer = Buffer::new();
-    let first_text = first_buffer.format(first).as_bytes();
-    let mut again_buffer = Buffer::new();
-    let again_text = again_buffer.format(again).as_bytes();
-    say(
-        err,
-        &[
-            b"cmph: ",
-            file,
-            b": keys changed: ",
-            first_text,
-            b", then ",
-            again_text,
-            b"\n",
-        ],
-    );
-}
-
-/// Says that a line is too long.
-fn explain_long_line<E: Sink>(file: &[u8], line: u32, err: &mut E)
-    ensures says { Says (line_too_long file.now line) (E.written err.old) (E.written err.new) (E.faults err.old) (E.faults err.new) }
-{
-    let mut buffer = Buffer::new();
-    let text = buffer.format(line).as_bytes();
-    say(err, &[b"cmph: ", file, b": line ", text, b" is too long\n"]);
-}
-
 /// Notes why a query stopped, and answers its status.
 pub(crate) fn report_query<E: Sink>(
-    keys: &str,
+    job: &QueryJob,
     stop: QueryStop,
     err: &mut E,
     notes: &mut Notes,
 ) -> u8
     ensures status { result ≡ query_status_of stop }
-    ensures noted { Noted notes.old notes.new (E.written err.old) (E.written err.new) (E.faults err.old) (E.faults err.new) (query_message_of keys.now stop) }
+    ensures noted { Noted notes.old notes.new (E.written err.old) (E.written err.new) (E.faults err.old) (E.faults err.new) (query_message_of job.now stop) }
 {
-    explain_query(keys.as_bytes(), stop, err, notes);
+    explain_query(job, stop, err, notes);
     query_status(stop)
 }
 
-/// Notes why a query of the keys of a file stopped.
-fn explain_query<E: Sink>(file: &[u8], stop: QueryStop, err: &mut E, notes: &mut Notes)
-    ensures noted { Noted notes.old notes.new (E.written err.old) (E.written err.new) (E.faults err.old) (E.faults err.new) (query_message_of file.now stop) }
+/// Notes why a query stopped.
+fn explain_query<E: Sink>(job: &QueryJob, stop: QueryStop, err: &mut E, notes: &mut Notes)
+    ensures noted { Noted notes.old notes.new (E.written err.old) (E.written err.new) (E.faults err.old) (E.faults err.new) (query_message_of job.now stop) }
 {
+    let keys = job.keys.as_str().as_bytes();
+    let function = job.function.as_str().as_bytes();
     match stop {
-        QueryStop::Memory => notes.note_pieces(err, &[b"cmph: out of memory\n"]),
-        QueryStop::NoFunction => {
-            notes.note_pieces(err, &[b"cmph: ", file, b".mph: cannot read\n"]);
-        }
-        QueryStop::BadDump { fault } => explain_dump(file, fault, err, notes),
-        QueryStop::Read => notes.note_pieces(err, &[b"cmph: ", file, b": cannot read\n"]),
+        QueryStop::Memory => note_want_of_memory(err, notes),
+        QueryStop::NoFunction => note_unread(function, err, notes),
+        QueryStop::BadDump { fault } => explain_dump(function, fault, err, notes),
+        QueryStop::Read => note_unread(keys, err, notes),
         QueryStop::Write => notes.note_pieces(err, &[b"cmph: cannot write standard output\n"]),
-        QueryStop::TooLong { line } => note_long_line(file, line, err, notes),
-        QueryStop::TooMany => {
-            notes.note_pieces(err, &[b"cmph: ", file, b": more than 16777216 keys\n"]);
-        }
+        QueryStop::TooLong { line } => note_long_line(keys, line, err, notes),
+        QueryStop::TooMany => note_many_keys(keys, err, notes),
     }
 }
 
@@ -134,6 +166,42 @@ fn query_status(stop: QueryStop) -> u8
     }
 }
 
+/// Notes want of memory.
+fn note_want_of_memory<E: Sink>(err: &mut E, notes: &mut Notes)
+    ensures noted { Noted notes.old notes.new (E.written err.old) (E.written err.new) (E.faults err.old) (E.faults err.new) out_of_memory }
+{
+    notes.note_pieces(err, &[b"cmph: out of memory\n"]);
+}
+
+/// Notes that a file can't be opened, read or rewound.
+fn note_unread<E: Sink>(file: &[u8], err: &mut E, notes: &mut Notes)
+    ensures noted { Noted notes.old notes.new (E.written err.old) (E.written err.new) (E.faults err.old) (E.faults err.new) (cannot_read file.now) }
+{
+    notes.note_pieces(err, &[b"cmph: ", file, b": cannot read\n"]);
+}
+
+/// Notes that the keys changed.
+fn note_change<E: Sink>(file: &[u8], first: u32, again: u32, err: &mut E, notes: &mut Notes)
+    ensures noted { Noted notes.old notes.new (E.written err.old) (E.written err.new) (E.faults err.old) (E.faults err.new) (keys_changed file.now first again) }
+{
+    let mut first_buffer = Buffer::new();
+    let first_text = first_buffer.format(first).as_bytes();
+    let mut again_buffer = Buffer::new();
+    let again_text = again_buffer.format(again).as_bytes();
+    notes.note_pieces(
+        err,
+        &[
+            b"cmph: ",
+            file,
+            b": keys changed: ",
+            first_text,
+            b", then ",
+            again_text,
+            b"\n",
+        ],
+    );
+}
+
 /// Notes that a line is too long.
 fn note_long_line<E: Sink>(file: &[u8], line: u32, err: &mut E, notes: &mut Notes)
     ensures noted { Noted notes.old notes.new (E.written err.old) (E.written err.new) (E.faults err.old) (E.faults err.new) (line_too_long file.now line) }
@@ -141,6 +209,13 @@ fn note_long_line<E: Sink>(file: &[u8], line: u32, err: &mut E, notes: &mut Note
     let mut buffer = Buffer::new();
     let text = buffer.format(line).as_bytes();
     notes.note_pieces(err, &[b"cmph: ", file, b": line ", text, b" is too long\n"]);
+}
+
+/// Notes that there are too many keys.
+fn note_many_keys<E: Sink>(file: &[u8], err: &mut E, notes: &mut Notes)
+    ensures noted { Noted notes.old notes.new (E.written err.old) (E.written err.new) (E.faults err.old) (E.faults err.new) (too_many_keys file.now) }
+{
+    notes.note_pieces(err, &[b"cmph: ", file, b": more than 16777216 keys\n"]);
 }
 
 /// Notes why the function file is no dump.
@@ -161,11 +236,11 @@ fn explain_dump<E: Sink>(file: &[u8], fault: LoadFault, err: &mut E, notes: &mut
 /// Notes what is wrong with the function file, and at which byte.
 fn note_dump<E: Sink>(file: &[u8], words: &[u8], place: &[u8], err: &mut E, notes: &mut Notes)
     ensures noted { Noted notes.old notes.new (E.written err.old) (E.written err.new) (E.faults err.old) (E.faults err.new)
-        (joined (codes "cmph: " ∷ file.now ∷ codes ".mph: bad dump: " ∷ words.now ∷ place.now ∷ codes "\n" ∷ [])) }
+        (joined (codes "cmph: " ∷ file.now ∷ codes ": bad dump: " ∷ words.now ∷ place.now ∷ codes "\n" ∷ [])) }
 {
     notes.note_pieces(
         err,
-        &[b"cmph: ", file, b".mph: bad dump: ", words, place, b"\n"],
+        &[b"cmph: ", file, b": bad dump: ", words, place, b"\n"],
     );
 }
 

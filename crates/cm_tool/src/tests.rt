@@ -184,22 +184,6 @@ fn refusal_keeps_the_older_file(rt: HostRuntime) -> Result<(), Fail> {
 }
 
 #[test]
-fn other_words(rt: HostRuntime) -> Result<(), Fail> {
-    let alloc = rt.alloc();
-    let usage = "cmph: bad arguments; cmph -h shows the usage\n";
-    assert!(rt; ends(alloc, 1000, b"a\n", &["cmph"], 2, usage, None)?);
-    assert!(rt; ends(alloc, 1000, b"a\n", &["cmph", "-g"], 2, usage, None)?);
-    assert!(rt; ends(alloc, 1000, b"a\n", &["cmph", "-keys"], 2, usage, None)?);
-    let three = ["cmph", "-t", "2", "keys"];
-    assert!(rt; ends(alloc, 1000, b"a\n", &three, 2, usage, None)?);
-    let seeded = ["cmph", "-g", "-s", "2", "keys"];
-    assert!(rt; ends(alloc, 1000, b"a\n", &seeded, 2, usage, None)?);
-    let dashed = ["cmph", "-g", "-keys"];
-    assert!(rt; ends(alloc, 1000, b"a\n", &dashed, 2, usage, None)?);
-    Ok(())
-}
-
-#[test]
 fn failing_err_changes_no_status(rt: HostRuntime) -> Result<(), Fail> {
     let alloc = rt.alloc();
     let mut words = Vec::new(alloc);

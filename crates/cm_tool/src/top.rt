@@ -1,21 +1,23 @@
 //! The top call.
-ghost use Rattle.std.specs.Prelude.{[], ◌≡◌, ◌≢◌, ◌<◌, ◌^◌, ◌⊎◌, ◌↔◌, ◌++◌, ℕ, List, None, map, string_bytes};
+ghost use Rattle.std.specs.Prelude.{[], ◌≡◌, ◌≢◌, ◌<◌, ◌^◌, ◌⊎◌, ◌↔◌, ◌++◌, ℕ, List, None, map, string_bytes, take};
 ghost use Rattle.std.specs.Option.{ForSome};
 ghost use Rattle.cm_outer.specs.Files.{with_file};
+ghost use Rattle.cm_outer.specs.Writing.{then_bytes};
 ghost use Rattle.cm_tool.specs.Ends.{Says};
-ghost use Rattle.cm_tool.specs.Job.{job_of, target_of};
 ghost use Rattle.cm_tool.specs.Outcome.{outcome_of};
-ghost use Rattle.cm_tool.specs.Run.{IsStatus, ForBuild, ForQuery, IfBuild, UnlessQuery, Reaches, TookFirst, SavedNumbers, IsCored, SavedPart, IsCutShort, IsMessage};
+ghost use Rattle.cm_tool.specs.Run.{IsStatus, ForBuild, ForQuery, ForText, IfBuild, UnlessBuild, UnlessOut, UnlessQuery, Reaches, TookFirst, SavedNumbers, IsCored, SavedPart, IsCutShort, IsMessage};
+ghost use Rattle.cm_words.specs.Meaning.{job_of};
 
-use crate::building::build_file;
-use crate::job::{Job, read_words};
+use crate::building::run_build;
+use crate::printing::{end_of_text, print_help, print_version};
 use crate::querying::run_query;
-use crate::report::{report, say};
+use crate::report::report_usage;
 use cm_outer::{Disk, Sink};
+use cm_words::{Job, read_words};
 use std::alloc::Global;
 
 /// Does what the words of a command line ask for, and answers the status: 0 done; 1 no seed of the list gives a function, or a
-/// query met an unknown key or a repeated value; 2 the words ask for nothing known; 3 the function file is no dump; 4 a file
+/// query met an unknown key or a repeated value; 2 the words ask for no job; 3 the function file is no dump; 4 a file
 /// can't be opened, read or rewound; 5 the function file can't be created, written or closed, or out can't be written; 6 want of
 /// memory; 7 the keys changed between passes; 8 no keys in a build, a line that is too long, or too many keys.
 pub fn run<D: Disk, O: Sink, E: Sink>(
@@ -42,7 +44,8 @@ pub fn run<D: Disk, O: Sink, E: Sink>(
     ensures first { result ≡ 0 → ForSome (D.files disk.old) (λ files. ForBuild (job_of (map string_bytes words.now)) (TookFirst files)) }
     ensures cored { result ≡ 1 → ForSome (D.files disk.old) (λ files. ForBuild (job_of (map string_bytes words.now)) (IsCored files)) }
 
-    // The function file then holds the dump of a function that answers each key with its number.
+    // The function file then holds the dump of a function of the algorithm that was asked for. One by CHM answers each key with
+    // its number, one by BDZ gives the keys all numbers below theirs, and one by BDZ_PH distinct numbers below that of its cells.
     ensures numbers { result ≡ 0 → ForSome (D.files disk.old) (λ files. ForBuild (job_of (map string_bytes words.now)) (SavedNumbers files (D.files disk.new))) }
 
     // Told files never change between passes.
@@ -51,15 +54,17 @@ pub fn run<D: Disk, O: Sink, E: Sink>(
     // A file that isn't there can't be read.
     ensures missing { ForSome (D.files disk.old) (λ files. outcome_of (map string_bytes words.now) files ≡ None → (result ≡ 4) ⊎ (result ≡ 6)) }
 
-    // What a refusal leaves of the files. A query leaves them as they were.
+    // What a refusal leaves of the files. Only a build changes them.
     ensures kept { result ≢ 0 → result ≢ 5 → result ≢ 6 → D.files disk.new ≡ D.files disk.old }
     ensures part { result ≡ 5 → ForSome (D.files disk.old) (λ files. ForBuild (job_of (map string_bytes words.now)) (SavedPart files (D.files disk.old) (D.files disk.new))) }
-    ensures memory { result ≡ 6 → (D.files disk.new ≡ D.files disk.old) ⊎ IfBuild (job_of (map string_bytes words.now)) (λ job. D.files disk.new ≡ with_file (target_of job.keys) [] (D.files disk.old)) }
-    ensures asked { ForQuery (job_of (map string_bytes words.now)) (λ _. (D.files disk.new ≡ D.files disk.old) × (D.write_faults disk.new ≡ D.write_faults disk.old)) }
+    ensures memory { result ≡ 6 → (D.files disk.new ≡ D.files disk.old) ⊎ IfBuild (job_of (map string_bytes words.now)) (λ job. D.files disk.new ≡ with_file job.function [] (D.files disk.old)) }
+    ensures asked { UnlessBuild (job_of (map string_bytes words.now)) ((D.files disk.new ≡ D.files disk.old) × (D.write_faults disk.new ≡ D.write_faults disk.old)) }
 
-    // Only a query writes to out, and not where it wants memory.
-    ensures out { UnlessQuery (job_of (map string_bytes words.now)) ((O.written out.new ≡ O.written out.old) × (O.faults out.new ≡ O.faults out.old)) }
+    // Only a query, the help and the version are written to out, and nothing where memory is wanting. Of the help or the version
+    // out gets a front.
+    ensures out { UnlessOut (job_of (map string_bytes words.now)) ((O.written out.new ≡ O.written out.old) × (O.faults out.new ≡ O.faults out.old)) }
     ensures silent { result ≡ 6 → O.written out.new ≡ O.written out.old }
+    ensures front { ForText (job_of (map string_bytes words.now)) (λ text. (n : ℕ) × (O.written out.new ≡ then_bytes (O.written out.old) (take n text))) }
 
     // A query that a fault or want of memory cut short has answered the first keys, and noted what there is to note of them.
     ensures cut { (result ≡ 4) ⊎ (result ≡ 5) ⊎ (result ≡ 6) → ForSome (D.files disk.old) (λ files. ForQuery (job_of (map string_bytes words.now))
@@ -69,15 +74,17 @@ pub fn run<D: Disk, O: Sink, E: Sink>(
     ensures err { (notes : List ℕ) × (text : List ℕ) × UnlessQuery (job_of (map string_bytes words.now)) (notes ≡ []) × IsMessage (job_of (map string_bytes words.now)) result text
         × Says (notes ++ text) (E.written err.old) (E.written err.new) (E.faults err.old) (E.faults err.new) }
 {
-    let Some(job) = read_words(words) else {
-        say(err, &[b"cmph: bad arguments; cmph -h shows the usage\n"]);
-        return 2;
-    };
-    match job {
-        Job::Build(job) => match build_file(alloc, &job, disk) {
-            Ok(()) => 0,
-            Err(stop) => report(job.keys, stop, err),
-        },
-        Job::Query(job) => run_query(alloc, &job, disk, out, err),
+    match read_words(alloc, words) {
+        Ok(Job::Help) => {
+            let printed = print_help(out);
+            end_of_text(printed, out, err)
+        }
+        Ok(Job::Version) => {
+            let printed = print_version(out);
+            end_of_text(printed, out, err)
+        }
+        Ok(Job::Build(job)) => run_build(alloc, &job, disk, err),
+        Ok(Job::Query(job)) => run_query(alloc, &job, disk, out, err),
+        Err(fault) => report_usage(fault, err),
     }
 }

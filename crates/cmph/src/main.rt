@@ -13,7 +13,7 @@ use std::io::ErrorKind;
 use std::process::ExitCode;
 use std_sink::StdSink;
 
-/// The words of the command line. Words that aren't UTF-8 are read as none, which asks for nothing known.
+/// The words of the command line. Where one of them isn't UTF-8, they are read as an option that there isn't.
 fn words_of<R: Env + Alloc<A = Global>>(rt: &R) -> Result<Vec<String>, AllocError> {
     let mut words = Vec::new(rt.alloc());
     match env::args(rt) {
@@ -24,7 +24,12 @@ fn words_of<R: Env + Alloc<A = Global>>(rt: &R) -> Result<Vec<String>, AllocErro
             Ok(words)
         }
         Err(e) if e.kind() == ErrorKind::OutOfMemory => Err(AllocError),
-        Err(_) => Ok(words),
+        Err(_) => {
+            for word in ["cmph", "-?"] {
+                words.push(String::from_str(rt.alloc(), word)?)?;
+            }
+            Ok(words)
+        }
     }
 }
 

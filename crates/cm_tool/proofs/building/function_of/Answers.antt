@@ -1,22 +1,26 @@
 use Rattle.std.proofs.Common.{rules, ◌≡◌, ◌∙◌, ℕ, List, Option, ap}
 use Rattle.std.specs.Option.{option_map}
-use Rattle.cm_tool.specs.Jobs.{build_seen}
-use Rattle.cm_tool.specs.Outcome.{keys_in, seeds_tried}
+use Rattle.cm_tool.specs.Jobs.{seeds_tried}
+use Rattle.cm_tool.specs.Outcome.{keys_in}
 use Rattle.cm_tool.proofs.Builds.{refused_from}
 use Rattle.cm_tool.proofs.building.function_of.Goals as goal
 
 pub returns-in-Ok-outcome-clause-made : goal.returns-in-Ok-outcome-clause-made
 returns-in-Ok-outcome-clause-made g c = λ files is.
+    let job = c.args.job.now in
+    let path : c.as_str.result.now ≡ job.keys = c.as_str.ensures.bytes in
     let opened = c.in-Ok.ensures.reader files is in
-    let told = c.new-keys.ensures.told ∙ ap (λ (known : Option (List ℕ)). option_map keys_in known) opened.tells in
-    let tried : c.as_slice.result.now ≡ seeds_tried (build_seen c.args.job.now) = search rules in
-    let made = c.in-Ok-outcome.ensures.made (keys_in opened.bytes) told in
-    (opened.bytes, opened.there, rw tried at made)
+    let told = c.new-keys.ensures.told ∙ ap (λ (known : Option (List ℕ)). option_map (keys_in job.first) known) opened.tells in
+    let tried : c.as_slice.result.now ≡ seeds_tried job = search rules in
+    let made = c.in-Ok-outcome.ensures.made (keys_in job.first opened.bytes) told in
+    (opened.bytes, rw path at opened.there, rw tried at made)
 
 pub returns-in-Err-clause-refused : goal.returns-in-Err-clause-refused
 returns-in-Err-clause-refused g c = λ files is.
+    let job = c.args.job.now in
+    let path : c.as_str.result.now ≡ job.keys = c.as_str.ensures.bytes in
     let opened = c.in-Ok.ensures.reader files is in
-    let told = c.new-keys.ensures.told ∙ ap (λ (known : Option (List ℕ)). option_map keys_in known) opened.tells in
-    let tried : c.as_slice.result.now ≡ seeds_tried (build_seen c.args.job.now) = search rules in
-    let fails = rw tried at (c.in-Err.ensures.fault (keys_in opened.bytes) told) in
-    rw c.stop_of.ensures.stop (refused_from (build_seen c.args.job.now) files opened.bytes c.in-Err.fault opened.there fails)
+    let told = c.new-keys.ensures.told ∙ ap (λ (known : Option (List ℕ)). option_map (keys_in job.first) known) opened.tells in
+    let tried : c.as_slice.result.now ≡ seeds_tried job = search rules in
+    let fails = rw tried at (c.in-Err.ensures.fault (keys_in job.first opened.bytes) told) in
+    rw c.stop_of.ensures.stop (refused_from job files opened.bytes c.in-Err.fault (rw path at opened.there) fails)

@@ -1,4 +1,4 @@
 use Rattle.cm_tool.proofs.building.function_of.Given as goal
 
-abbrev pub ghosts-chm_of : goal.ghosts-chm_of
-ghosts-chm_of g a = record { name = a.blank.name; parts = a.blank.parts }
+abbrev pub ghosts-func_of : goal.ghosts-func_of
+ghosts-func_of g a = record { name = a.blank.name; parts = a.blank.parts }

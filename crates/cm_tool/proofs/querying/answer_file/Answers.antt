@@ -1,4 +1,4 @@
-use Rattle.std.proofs.Common.{[], ◌∙◌}
+use Rattle.std.proofs.Common.{[], ◌≡◌, ◌∙◌}
 use Rattle.cm_query.proofs.NotedLemmas.{noted_nothing}
 use Rattle.cm_tool.proofs.Asks.{with_function, without_function}
 use Rattle.cm_tool.proofs.querying.answer_file.Goals as goal
@@ -10,7 +10,9 @@ pub returns-in-Err-clause-says : goal.returns-in-Err-clause-says
 returns-in-Err-clause-says g c = ([], noted_nothing _ _ _)
 
 pub returns-in-Err-clause-told : goal.returns-in-Err-clause-told
-returns-in-Err-clause-told g c = λ files is. ([], noted_nothing _ _ _, without_function files c.args.keys.now _ c.in-Err.stop (c.in-Err.ensures.refused files is))
+returns-in-Err-clause-told g c = λ files is.
+    let path : c.as_str.result.now ≡ c.args.job.now.function = c.as_str.ensures.bytes in
+    ([], noted_nothing _ _ _, without_function files c.args.job.now _ c.in-Err.stop (rw path at (c.in-Err.ensures.refused files is)))
 
 pub returns-clause-cause : goal.returns-clause-cause
 returns-clause-cause g c =
@@ -20,5 +22,6 @@ returns-clause-cause g c =
 pub returns-clause-told : goal.returns-clause-told
 returns-clause-told g c = λ files is.
     let told = c.ask_keys-asked.ensures.told files (c.load_file.ensures.files ∙ is) in
-    let spells = c.in-Ok.ensures.spelled files is in
-    (told.0, told.1, with_function c.in-Ok.function files c.args.keys.now _ _ told.0 c.send_on.result spells (c.send_on.ensures.ends _ files _ _ told.0 told.2))
+    let path : c.as_str.result.now ≡ c.args.job.now.function = c.as_str.ensures.bytes in
+    let spells = rw path at (c.in-Ok.ensures.spelled files is) in
+    (told.0, told.1, with_function c.in-Ok.function files c.args.job.now _ _ told.0 c.send_on.result spells (c.send_on.ensures.ends _ files _ _ told.0 told.2))

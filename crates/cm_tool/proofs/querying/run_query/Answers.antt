@@ -1,14 +1,13 @@
 use Rattle.std.proofs.Common.{[], ◌∙◌}
 use Rattle.cm_outer.proofs.NoteLemmas.{noted_first, noted_next}
 use Rattle.cm_tool.specs.Ends.{query_message_of}
-use Rattle.cm_tool.specs.Jobs.{query_seen}
 use Rattle.cm_tool.proofs.Asks.{answered_is, cut_short, query_done, query_message_is, query_stopped, says_all, says_more}
 use Rattle.cm_tool.proofs.querying.run_query.Goals as goal
 
 pub returns-in-Ok-clause-outcome : goal.returns-in-Ok-clause-outcome
 returns-in-Ok-clause-outcome g c = λ _ _ _ files is.
     let told = c.in-Ok.ensures.told files is in
-    query_done (query_seen c.args.job.now) files _ _ _ _ _ _ told.0 c.in-Ok.tally _ _ told.2 (says_all (noted_first c.new-notes.ensures.fresh told.1)) c.noted_status.ensures.none c.noted_status.ensures.some (c.answer_file.ensures.files ∙ is)
+    query_done c.args.job.now files _ _ _ _ _ _ told.0 c.in-Ok.tally _ _ told.2 (says_all (noted_first c.new-notes.ensures.fresh told.1)) c.noted_status.ensures.none c.noted_status.ensures.some (c.answer_file.ensures.files ∙ is)
 
 pub returns-in-Ok-clause-err : goal.returns-in-Ok-clause-err
 returns-in-Ok-clause-err g c =
@@ -20,17 +19,17 @@ returns-in-Err-clause-outcome g c = λ a b d files is.
     let told = c.in-Err.ensures.told files is in
     let status = c.report_query.ensures.status in
     let says = says_all (noted_next (noted_first c.new-notes.ensures.fresh told.1) c.report_query.ensures.noted) in
-    rw status (query_stopped (query_seen c.args.job.now) files _ _ _ _ _ _ told.0 c.in-Err.stop _ told.2 says (rw status at a) (rw status at b) (rw status at d) (c.answer_file.ensures.files ∙ is))
+    rw status (query_stopped c.args.job.now files _ _ _ _ _ _ told.0 c.in-Err.stop _ told.2 says (rw status at a) (rw status at b) (rw status at d) (c.answer_file.ensures.files ∙ is))
 
 pub returns-in-Err-clause-cut : goal.returns-in-Err-clause-cut
 returns-in-Err-clause-cut g c = λ either files is.
     let told = c.in-Err.ensures.told files is in
     let status = c.report_query.ensures.status in
     let says = says_all (noted_next (noted_first c.new-notes.ensures.fresh told.1) c.report_query.ensures.noted) in
-    rw status (cut_short (query_seen c.args.job.now) files _ _ _ _ _ _ told.0 c.in-Err.stop told.2 says (rw status at either))
+    rw status (cut_short c.args.job.now files _ _ _ _ _ _ told.0 c.in-Err.stop told.2 says (rw status at either))
 
 pub returns-in-Err-clause-err : goal.returns-in-Err-clause-err
 returns-in-Err-clause-err g c =
     let says = c.in-Err.ensures.says in
     let status = c.report_query.ensures.status in
-    (says.0, query_message_of c.args.job.now.keys.now c.in-Err.stop, rw status (query_message_is (query_seen c.args.job.now) c.in-Err.stop), says_all (noted_next (noted_first c.new-notes.ensures.fresh says.1) c.report_query.ensures.noted))
+    (says.0, query_message_of c.args.job.now c.in-Err.stop, rw status (query_message_is c.args.job.now c.in-Err.stop), says_all (noted_next (noted_first c.new-notes.ensures.fresh says.1) c.report_query.ensures.noted))

@@ -1,0 +1,115 @@
+-- From what the words ask for to what the top call promises.
+use Rattle.std.proofs.Common.{◌≡◌, ◌≢◌, ◌∙◌, ◌⊎◌, ℕ, List, [], length, take, Option, Some, Result, Ok, Err, inl, inr, refl, ap, sym, subst, arith}
+use Rattle.std.proofs.Math.Seq.{take-nil}
+use Rattle.std.proofs.lemmas.List.{take_all}
+use Rattle.cm_outer.specs.Files.{Files}
+use Rattle.cm_outer.specs.Writing.{Writes, then_bytes}
+use Rattle.cm_outer.specs.declared.fault.Failed.{Failed}
+use Rattle.cm_query.proofs.TextLemmas.{then_nothing}
+use Rattle.cm_tool.specs.Ends.{Says, usage_status_of}
+use Rattle.cm_tool.specs.Messages.{out_of_memory, usage_message}
+use Rattle.cm_tool.specs.Outcome.{Outcome, job_outcome, printing, refusal}
+use Rattle.cm_tool.specs.Run.{ForQuery, IsCutShort, IsMessage, Reaches, UnlessQuery}
+use Rattle.cm_tool.specs.declared.stop.QueryStop.TheVariants as query_stop
+use Rattle.cm_tool.specs.declared.stop.Stop.TheVariants as stop
+use Rattle.cm_tool.proofs.Asks.{query_message_is}
+use Rattle.cm_tool.proofs.Outcomes.{message_is, nothing_said}
+use Rattle.cm_words.specs.Options.{Read as Reading}
+use Rattle.cm_words.specs.declared.fault.UsageFault.{UsageFault}
+use Rattle.cm_words.specs.declared.fault.UsageFault.TheVariants as usage
+use Rattle.cm_words.specs.declared.jobs.Job.{Job}
+use Rattle.cm_words.specs.declared.jobs.Job.TheVariants.{Help, Version, Build, Query}
+
+-- what holds holds unless a query is asked for
+pub unless_query : {P : Type 0} (asked : Reading Job) → P → UnlessQuery asked P
+unless_query (Err fault) p = p
+unless_query (Ok Help) p = p
+unless_query (Ok Version) p = p
+unless_query (Ok (Build job)) p = p
+unless_query (Ok (Query job)) p = tt
+
+-- want of memory before the job is known
+early_cut : (asked : Reading Job) (files : Files) (out err err_new : Option (List ℕ)) (before now : ℕ) → Says out_of_memory err err_new before now → ForQuery asked (IsCutShort files 6 out out err err_new before now)
+early_cut (Err fault) files out err err_new before now says = tt
+early_cut (Ok Help) files out err err_new before now says = tt
+early_cut (Ok Version) files out err err_new before now says = tt
+early_cut (Ok (Build job)) files out err err_new before now says = tt
+early_cut (Ok (Query job)) files out err err_new before now says = record { notes = []; text = out_of_memory; message = query_message_is job query_stop.Memory; says = says; answered = inl (refl, refl) }
+
+early_message : (asked : Reading Job) → IsMessage asked 6 out_of_memory
+early_message (Err fault) = record { refused = λ e. absurd (omega arith); memory = λ e. refl }
+early_message (Ok Help) = record { done = λ e. absurd (omega arith); write = λ e. absurd (omega arith); memory = λ e. refl }
+early_message (Ok Version) = record { done = λ e. absurd (omega arith); write = λ e. absurd (omega arith); memory = λ e. refl }
+early_message (Ok (Build job)) = message_is job stop.Memory tt
+early_message (Ok (Query job)) = query_message_is job query_stop.Memory
+
+-- out has a front of a text that was written, whole or in part
+pub front_of : (r : Result (Unit {0}) Failed) (old new : Option (List ℕ)) (text : List ℕ) → Writes old new text r → (n : ℕ) × (new ≡ then_bytes old (take n text))
+front_of (Ok _) old new text wrote = (length text, wrote ∙ ap (then_bytes old) (sym (take_all (length text) text (omega arith))))
+front_of (Err _) old new text wrote = wrote
+
+-- nothing more was written
+pub sent_on : (r : Result (Unit {0}) Failed) (old mid new : Option (List ℕ)) (text : List ℕ) → mid ≡ then_bytes old text → Writes mid new [] r → Writes old new text r
+sent_on (Ok _) old mid new text wrote sent = sent ∙ (sym (then_nothing mid) ∙ wrote)
+sent_on (Err _) old mid new text wrote sent = (length text, sent.1 ∙ ap (then_bytes mid) (take-nil sent.0) ∙ sym (then_nothing mid) ∙ wrote ∙ ap (then_bytes old) (sym (take_all (length text) text (omega arith))))
+
+-- words that ask for no job
+misused : (fault : UsageFault) (files : Files) (old : Option Files) (out err err_new : Option (List ℕ)) (before now : ℕ) → Says (usage_message fault) err err_new before now → old ≡ Some files → Reaches (job_outcome files (Err fault)) 2 out out err err_new before now old
+misused fault files old out err err_new before now says is = record {
+  outcome = refusal 2 (usage_message fault) files;
+  is = refl;
+  status_is = refl;
+  out = then_nothing out;
+  err = says;
+  files_are = is;
+}
+
+misused_message : (fault : UsageFault) → IsMessage (Err fault) 2 (usage_message fault)
+misused_message fault = record { refused = λ e. refl; memory = λ e. absurd (omega arith) }
+
+-- a text that was printed
+pub printed : (text : List ℕ) (files : Files) (found : Option Outcome) (old : Option Files) (out out_new err err_new : Option (List ℕ)) (before now : ℕ) → found ≡ Some (printing text files) → out_new ≡ then_bytes out text → Says [] err err_new before now → old ≡ Some files
+    → Reaches found 0 out out_new err err_new before now old
+printed text files found old out out_new err err_new before now found_is wrote says is = record {
+  outcome = printing text files;
+  is = found_is;
+  status_is = refl;
+  out = wrote;
+  err = says;
+  files_are = is;
+}
+
+pub says_none : {old new : Option (List ℕ)} {before now : ℕ} → new ≡ old → now ≡ before → Says [] old new before now
+says_none {old = old} {before = before} same fine = rw (same, fine) (nothing_said old before)
+
+-- what words that asked for no job, or for which memory was wanting, came to
+refused_for : (asked : Reading Job) (fault : UsageFault) (files : Files) (old : Option Files) (out err err_new : Option (List ℕ)) (before now : ℕ) → Err fault ≡ asked → Says (usage_message fault) err err_new before now → old ≡ Some files → Reaches (job_outcome files asked) 2 out out err err_new before now old
+refused_for asked fault files old out err err_new before now is says there = subst (λ (a : Reading Job). Reaches (job_outcome files a) 2 out out err err_new before now old) is (misused fault files old out err err_new before now says there)
+
+-- a fault of words that isn't want of memory is what they ask for
+faulty : (asked : Reading Job) (fault : UsageFault) → usage_status_of fault ≢ 6 → (fault ≡ usage.Memory) ⊎ (Err fault ≡ asked) → Err fault ≡ asked
+faulty asked fault other (inl memory) = absurd (other (ap usage_status_of memory))
+faulty asked fault other (inr is) = is
+
+pub usage_outcome : (asked : Reading Job) (fault : UsageFault) (files : Files) (old : Option Files) (out err err_new : Option (List ℕ)) (before now : ℕ) → (fault ≡ usage.Memory) ⊎ (Err fault ≡ asked) → Says (usage_message fault) err err_new before now → usage_status_of fault ≢ 6 → old ≡ Some files
+    → Reaches (job_outcome files asked) (usage_status_of fault) out out err err_new before now old
+usage_outcome asked usage.Memory files old out err err_new before now either says other there = absurd (other refl)
+usage_outcome asked usage.Words files old out err err_new before now either says other there = refused_for asked usage.Words files old out err err_new before now (faulty asked usage.Words other either) says there
+usage_outcome asked (usage.BadValue letter) files old out err err_new before now either says other there = refused_for asked (usage.BadValue letter) files old out err err_new before now (faulty asked (usage.BadValue letter) other either) says there
+usage_outcome asked usage.NoFile files old out err err_new before now either says other there = refused_for asked usage.NoFile files old out err err_new before now (faulty asked usage.NoFile other either) says there
+
+pub usage_cut : (asked : Reading Job) (fault : UsageFault) (files : Files) (out err err_new : Option (List ℕ)) (before now : ℕ) → Says (usage_message fault) err err_new before now → (usage_status_of fault ≡ 4) ⊎ (usage_status_of fault ≡ 5) ⊎ (usage_status_of fault ≡ 6)
+    → ForQuery asked (IsCutShort files (usage_status_of fault) out out err err_new before now)
+usage_cut asked usage.Memory files out err err_new before now says either = early_cut asked files out err err_new before now says
+usage_cut asked usage.Words files out err err_new before now says either = absurd (omega (arith, either))
+usage_cut asked (usage.BadValue letter) files out err err_new before now says either = absurd (omega (arith, either))
+usage_cut asked usage.NoFile files out err err_new before now says either = absurd (omega (arith, either))
+
+message_for : (asked : Reading Job) (fault : UsageFault) → Err fault ≡ asked → IsMessage asked 2 (usage_message fault)
+message_for asked fault is = subst (λ (a : Reading Job). IsMessage a 2 (usage_message fault)) is (misused_message fault)
+
+pub usage_said : (asked : Reading Job) (fault : UsageFault) → (fault ≡ usage.Memory) ⊎ (Err fault ≡ asked) → IsMessage asked (usage_status_of fault) (usage_message fault)
+usage_said asked usage.Memory either = early_message asked
+usage_said asked usage.Words either = message_for asked usage.Words (faulty asked usage.Words (λ e. omega (arith, e)) either)
+usage_said asked (usage.BadValue letter) either = message_for asked (usage.BadValue letter) (faulty asked (usage.BadValue letter) (λ e. omega (arith, e)) either)
+usage_said asked usage.NoFile either = message_for asked usage.NoFile (faulty asked usage.NoFile (λ e. omega (arith, e)) either)

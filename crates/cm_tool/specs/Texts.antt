@@ -1,0 +1,14 @@
+-- What is printed where words ask for the help or the version.
+use Rattle.std.specs.Prelude.{ℕ, List, [], ◌∷◌, codes}
+use Rattle.cm_outer.specs.Writing.{joined}
+
+abbrev pub help_text : List ℕ
+help_text = joined (
+    codes "usage: cmph [-v] [-h] [-V] [-k nkeys] [-f hash] [-g [-c c] [-s seed] [-r seeds]] [-a algorithm] [-M MB] [-b b] [-d dir] [-m file.mph] keysfile\n"
+    ∷ codes "       cmph -T nkeys [-s seed] [-r seeds] [-M MB] [-d dir]\n"
+    ∷ codes "algorithms: chm bdz bdz_ph brz\n"
+    ∷ codes "hash functions: jenkins\n"
+    ∷ [])
+
+abbrev pub version_text : List ℕ
+version_text = joined (codes "cmph 1\n" ∷ [])

@@ -1,0 +1,37 @@
+//! What is said of a function.
+ghost use Rattle.std.specs.Prelude.{◌≡◌};
+ghost use Rattle.cm_tool.specs.Jobs.{summary_of};
+
+use cm_bits::Cells;
+use cm_dump::Func;
+
+/// How many keys and cells a function has, and its seed.
+#[derive(Clone, Copy, Debug, PartialEq, Eq)]
+pub(crate) struct Summary {
+    pub keys: u32,
+    pub cells: u32,
+    pub seed: u32,
+}
+
+/// The summary of a function.
+pub(crate) fn sum_up(function: &Func) -> Summary
+    ensures summary { result ≡ summary_of function.now }
+{
+    match function {
+        Func::Chm(f) => Summary {
+            keys: f.keys(),
+            cells: f.cells().len(),
+            seed: f.seed(),
+        },
+        Func::Bdz(f) => Summary {
+            keys: f.keys(),
+            cells: f.cells().len(),
+            seed: f.seed(),
+        },
+        Func::BdzPh(f) => Summary {
+            keys: f.keys(),
+            cells: f.cells().len(),
+            seed: f.seed(),
+        },
+    }
+}

@@ -1,0 +1,67 @@
+//! The help and the version.
+ghost use Rattle.std.specs.Prelude.{◌≡◌, ◌<◌, ◌≤◌, ◌^◌, ◌↔◌, ◌⊎◌, ℕ, List, Option, take};
+ghost use Rattle.cm_outer.specs.Causes.{HasCause};
+ghost use Rattle.cm_outer.specs.Writing.{Writes, then_bytes};
+ghost use Rattle.cm_tool.specs.Ends.{Says};
+ghost use Rattle.cm_tool.specs.Run.{IsPrintMessage};
+ghost use Rattle.cm_tool.specs.Texts.{help_text, version_text};
+
+use crate::report::say;
+use cm_outer::{Failed, Sink, write_pieces};
+
+/// Prints how the program is used. Fails exactly where out does, which has then taken a front of the text. It takes no memory.
+pub fn print_help<O: Sink>(out: &mut O) -> Result<(), Failed>
+    ensures text { Writes (O.written out.old) (O.written out.new) help_text result }
+    ensures cause { HasCause (O.faults out.old) (O.faults out.new) result }
+{
+    write_pieces(
+        out,
+        &[
+            b"usage: cmph [-v] [-h] [-V] [-k nkeys] [-f hash] [-g [-c c] [-s seed] [-r seeds]] [-a algorithm] [-M MB] [-b b] [-d dir] [-m file.mph] keysfile\n",
+            b"       cmph -T nkeys [-s seed] [-r seeds] [-M MB] [-d dir]\n",
+            b"algorithms: chm bdz bdz_ph brz\n",
+            b"hash functions: jenkins\n",
+        ],
+    )
+}
+
+/// Prints the version. Fails exactly where out does, which has then taken a front of the text. It takes no memory.
+pub fn print_version<O: Sink>(out: &mut O) -> Result<(), Failed>
+    ensures text { Writes (O.written out.old) (O.written out.new) version_text result }
+    ensures cause { HasCause (O.faults out.old) (O.faults out.new) result }
+{
+    write_pieces(out, &[b"cmph 1\n"])
+}
+
+/// Sends on a text that was printed.
+fn send_text<O: Sink>(printed: Result<(), Failed>, out: &mut O) -> Result<(), Failed>
+    ensures text { (text : List ℕ) (old : Option (List ℕ)) → Writes old (O.written out.old) text printed → Writes old (O.written out.new) text result }
+    ensures cause { (before : ℕ) → HasCause before (O.faults out.old) printed → HasCause before (O.faults out.new) result }
+{
+    match printed {
+        Ok(()) => out.write(&[]),
+        Err(Failed) => Err(Failed),
+    }
+}
+
+/// Sends on a text that was printed, and answers the status.
+pub(crate) fn end_of_text<O: Sink, E: Sink>(
+    printed: Result<(), Failed>,
+    out: &mut O,
+    err: &mut E,
+) -> u8
+    ensures status { (result ≡ 0) ⊎ (result ≡ 5) }
+    ensures front { (text : List ℕ) (old : Option (List ℕ)) → Writes old (O.written out.old) text printed → (n : ℕ) × (O.written out.new ≡ then_bytes old (take n text)) }
+    ensures whole { result ≡ 0 → (text : List ℕ) (old : Option (List ℕ)) → Writes old (O.written out.old) text printed → O.written out.new ≡ then_bytes old text }
+    ensures cause { (before : ℕ) → before < 2 ^ 63 → HasCause before (O.faults out.old) printed → (result ≡ 5) ↔ (before < O.faults out.new) }
+    ensures done { result ≡ 0 → (E.written err.new ≡ E.written err.old) × (E.faults err.new ≡ E.faults err.old) }
+    ensures err { (text : List ℕ) × IsPrintMessage result text × Says text (E.written err.old) (E.written err.new) (E.faults err.old) (E.faults err.new) }
+{
+    match send_text(printed, out) {
+        Ok(()) => 0,
+        Err(Failed) => {
+            say(err, &[b"cmph: cannot write standard output\n"]);
+            5
+        }
+    }
+}
