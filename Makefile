@@ -1,8 +1,14 @@
 # make            proves and builds bin/cmph
 # make demo       builds a function over a word list, and queries it
 # make check      the gate: proves everything from nothing, and runs all tests
-# make install    puts the program into $(PREFIX)/bin
+# make install    puts the program into $(PREFIX)/bin, and its page into $(PREFIX)/share/man/man1
+# make uninstall  takes both away
+# make bench      measures it beside the C tool and plain Rust: make bench SETS="100000 words" for fewer sets of keys,
+#                 NAME=here for results of another name than `latest`
+# make drawings   draws docs/chm.svg from a real run
 PREFIX ?= /usr/local
+SETS ?=
+NAME ?= latest
 SOURCES := crates.txt $(wildcard crates/*/src/*.rt crates/*/specs/*.antt) $(shell find crates -path '*/out' -prune -o -name '*.antt' -print)
 
 all: bin/cmph
@@ -27,8 +33,18 @@ check:
 
 install: bin/cmph
 	install -D -m 755 bin/cmph $(DESTDIR)$(PREFIX)/bin/cmph
+	install -D -m 644 man/cmph.1 $(DESTDIR)$(PREFIX)/share/man/man1/cmph.1
+
+uninstall:
+	rm -f $(DESTDIR)$(PREFIX)/bin/cmph $(DESTDIR)$(PREFIX)/share/man/man1/cmph.1
+
+bench: bin/cmph
+	python3 bench/compare.py --name $(NAME) $(SETS)
+
+drawings: bin/cmph
+	python3 docs/draw.py
 
 clean:
 	rm -rf bin crates/*/out
 
-.PHONY: all demo check install clean
+.PHONY: all demo check install uninstall bench drawings clean

@@ -1,0 +1,276 @@
+//! What the plain programs share: the hash, the lines of a file, a build and a query over any of the algorithms. Nothing is
+//! refused: a damaged function file, a key that is too long and a number that comes again pass unseen.
+//!
+//! `NAME -g KEYS SEED` builds under a seed whose graph has an empty 2-core, and writes KEYS.mph; `NAME -t KEYS SEED` does the
+//! same and tells how many milliseconds each part took; `NAME KEYS` answers the keys.
+
+#[allow(dead_code)]
+#[path = "peel.rs"]
+mod peel;
+
+pub use peel::{Edges, Peeled};
+
+use peel::{link, order};
+use std::env;
+use std::fs::{self, File};
+use std::io::{self, BufRead, BufReader, BufWriter, StdoutLock, Write};
+use std::time::Instant;
+
+/// How many bytes are read or written at once.
+const PIECE: usize = 65_536;
+
+/// How many keys a query answers together.
+const BATCH: usize = 32;
+
+/// A function of one algorithm, over edges of K ends.
+pub trait Function<const K: usize> {
+    /// The algorithm and its parameter, as a function file has them.
+    const HEAD: [u8; 2];
+
+    /// The vertices for each key, in millionths.
+    const RATIO: u32;
+
+    /// How many vertices there are for m keys.
+    fn vertices(m: u32) -> u32;
+
+    /// The ends for the words of a key over n vertices.
+    fn edge(words: [u32; 3], n: u32) -> [u32; K];
+
+    /// The function of edges of which peeling has left none.
+    fn assign(edges: &Edges<K>, peeled: &Peeled, order: &[u32]) -> Self;
+
+    /// Writes what follows the head of the function file.
+    fn save(&self, file: &mut impl Write) -> io::Result<()>;
+
+    /// The function over m keys and n vertices with these bytes after its head.
+    fn load(m: u32, n: u32, bytes: Vec<u8>) -> Self;
+
+    /// What the key with these ends gets.
+    fn answer(&self, ends: [u32; K]) -> Option<u32>;
+}
+
+// The hash
+
+fn mix(s: [u32; 3]) -> [u32; 3] {
+    let [mut a, mut b, mut c] = s;
+    for (right, left, last) in [(13, 8, 13), (12, 16, 5), (3, 10, 15)] {
+        a = a.wrapping_sub(b).wrapping_sub(c) ^ (c >> right);
+        b = b.wrapping_sub(c).wrapping_sub(a) ^ (a << left);
+        c = c.wrapping_sub(a).wrapping_sub(b) ^ (b >> last);
+    }
+    [a, b, c]
+}
+
+fn word(bytes: &[u8]) -> u32 {
+    let mut word = 0;
+    for (i, byte) in bytes.iter().take(4).enumerate() {
+        word |= (*byte as u32) << (8 * i);
+    }
+    word
+}
+
+/// The three words of lookup2 (Jenkins 1997).
+fn words(key: &[u8], seed: u32) -> [u32; 3] {
+    let mut s = [0x9e37_79b9, 0x9e37_79b9, seed];
+    let (blocks, rest) = key.as_chunks::<12>();
+    for block in blocks {
+        s[0] = s[0].wrapping_add(word(&block[..4]));
+        s[1] = s[1].wrapping_add(word(&block[4..8]));
+        s[2] = s[2].wrapping_add(word(&block[8..]));
+        s = mix(s);
+    }
+    s[0] = s[0].wrapping_add(word(rest));
+    s[1] = s[1].wrapping_add(word(rest.get(4..).unwrap_or(&[])));
+    let high = word(rest.get(8..).unwrap_or(&[])) << 8;
+    s[2] = s[2].wrapping_add(high).wrapping_add(key.len() as u32);
+    mix(s)
+}
+
+// The lines
+
+fn open(path: &str) -> io::Result<BufReader<File>> {
+    Ok(BufReader::with_capacity(PIECE, File::open(path)?))
+}
+
+/// Appends the next line without its end, or tells that there is none.
+fn read_line(reader: &mut impl BufRead, bytes: &mut Vec<u8>) -> io::Result<bool> {
+    if reader.read_until(b'\n', bytes)? == 0 {
+        return Ok(false);
+    }
+    if bytes.last() == Some(&b'\n') {
+        bytes.pop();
+    }
+    Ok(true)
+}
+
+/// Calls `each` with the lines of a file.
+fn for_lines(path: &str, mut each: impl FnMut(&[u8])) -> io::Result<()> {
+    let mut reader = open(path)?;
+    let mut line = Vec::new();
+    while read_line(&mut reader, &mut line)? {
+        each(&line);
+        line.clear();
+    }
+    Ok(())
+}
+
+/// Some keys, one after another.
+struct Batch {
+    bytes: Vec<u8>,
+    ends: Vec<usize>,
+}
+
+impl Batch {
+    /// Takes the next keys in place of those before. There are fewer only at the end of the file.
+    fn read(&mut self, reader: &mut impl BufRead) -> io::Result<()> {
+        self.bytes.clear();
+        self.ends.clear();
+        while self.ends.len() < BATCH && read_line(reader, &mut self.bytes)? {
+            self.ends.push(self.bytes.len());
+        }
+        Ok(())
+    }
+
+    fn keys(&self) -> impl Iterator<Item = &[u8]> {
+        let starts = [0].into_iter().chain(self.ends.iter().copied());
+        starts
+            .zip(&self.ends)
+            .map(|(from, to)| &self.bytes[from..*to])
+    }
+}
+
+// A build
+
+/// Tells what has passed since the last time, and begins anew.
+fn tell(timed: bool, part: &str, start: &mut Instant) {
+    if timed {
+        println!("{part} {:.1}", start.elapsed().as_secs_f64() * 1000.0);
+    }
+    *start = Instant::now();
+}
+
+fn save<F: Function<K>, const K: usize>(path: &str, m: u32, seed: u32, f: &F) -> io::Result<()> {
+    let mut file = BufWriter::with_capacity(PIECE, File::create(path)?);
+    file.write_all(b"CMPHDMP1")?;
+    file.write_all(&[F::HEAD[0], F::HEAD[1], 0, 0])?;
+    for number in [m, F::RATIO, seed] {
+        file.write_all(&number.to_le_bytes())?;
+    }
+    f.save(&mut file)?;
+    file.into_inner()?.sync_all()
+}
+
+fn build<F: Function<K>, const K: usize>(path: &str, seed: u32, timed: bool) -> io::Result<()> {
+    let mut start = Instant::now();
+    let mut m = 0u32;
+    for_lines(path, |_| m += 1)?;
+    tell(timed, "count", &mut start);
+    let n = F::vertices(m);
+    let mut ends = Vec::with_capacity(m as usize);
+    for_lines(path, |key| ends.push(F::edge(words(key, seed), n)))?;
+    let edges = Edges { vertices: n, ends };
+    tell(timed, "hash", &mut start);
+    let linked = link(&edges);
+    tell(timed, "link", &mut start);
+    let peeled = peel::peel(&edges, linked);
+    tell(timed, "peel", &mut start);
+    let order = order(&peeled);
+    assert_eq!(order.len(), m as usize, "the graph has a 2-core");
+    tell(timed, "order", &mut start);
+    let function = F::assign(&edges, &peeled, &order);
+    tell(timed, "assign", &mut start);
+    save(&format!("{path}.mph"), m, seed, &function)?;
+    tell(timed, "save", &mut start);
+    Ok(())
+}
+
+// A query
+
+/// Lines that wait to be written.
+struct Text<'a> {
+    out: StdoutLock<'a>,
+    bytes: Vec<u8>,
+}
+
+impl Text<'_> {
+    fn put(&mut self, key: &[u8], answer: u32) -> io::Result<()> {
+        if self.bytes.len() + key.len() + 15 > PIECE {
+            self.out.write_all(&self.bytes)?;
+            self.bytes.clear();
+        }
+        self.bytes.extend_from_slice(key);
+        self.bytes.extend_from_slice(b" -> ");
+        put_decimal(&mut self.bytes, answer);
+        self.bytes.push(b'\n');
+        Ok(())
+    }
+}
+
+/// Appends a number in decimal.
+fn put_decimal(text: &mut Vec<u8>, mut number: u32) {
+    let mut digits = [0; 10];
+    let mut at = digits.len();
+    loop {
+        at -= 1;
+        digits[at] = b'0' + (number % 10) as u8;
+        number /= 10;
+        if number == 0 {
+            break;
+        }
+    }
+    text.extend_from_slice(&digits[at..]);
+}
+
+/// The function of a file, with its seed and its number of vertices.
+fn load<F: Function<K>, const K: usize>(path: &str) -> io::Result<(F, u32, u32)> {
+    let mut bytes = fs::read(path)?;
+    let number = |at: usize| u32::from_le_bytes(bytes[at..at + 4].try_into().unwrap());
+    let (m, seed) = (number(12), number(20));
+    let n = F::vertices(m);
+    bytes.drain(..24);
+    Ok((F::load(m, n, bytes), seed, n))
+}
+
+/// Some keys at a time: first the ends of all, then the answers of all. So the looks into the cells don't wait for one another.
+fn query<F: Function<K>, const K: usize>(path: &str) -> io::Result<()> {
+    let (function, seed, n) = load::<F, K>(&format!("{path}.mph"))?;
+    let mut reader = open(path)?;
+    let mut batch = Batch {
+        bytes: Vec::with_capacity(PIECE),
+        ends: Vec::with_capacity(BATCH),
+    };
+    let mut text = Text {
+        out: io::stdout().lock(),
+        bytes: Vec::with_capacity(PIECE),
+    };
+    let mut edges = [[0; K]; BATCH];
+    let mut answers = [None; BATCH];
+    batch.read(&mut reader)?;
+    while !batch.ends.is_empty() {
+        for (edge, key) in edges.iter_mut().zip(batch.keys()) {
+            *edge = F::edge(words(key, seed), n);
+        }
+        for (answer, edge) in answers.iter_mut().zip(&edges[..batch.ends.len()]) {
+            *answer = function.answer(*edge);
+        }
+        for (key, answer) in batch.keys().zip(answers) {
+            if let Some(number) = answer {
+                text.put(key, number)?;
+            }
+        }
+        batch.read(&mut reader)?;
+    }
+    text.out.write_all(&text.bytes)
+}
+
+/// Does what the words of the command line ask for, with functions of one algorithm.
+pub fn run<F: Function<K>, const K: usize>() -> io::Result<()> {
+    let args: Vec<String> = env::args().skip(1).collect();
+    let args: Vec<&str> = args.iter().map(String::as_str).collect();
+    match args[..] {
+        ["-g", path, seed] => build::<F, K>(path, seed.parse().unwrap(), false),
+        ["-t", path, seed] => build::<F, K>(path, seed.parse().unwrap(), true),
+        [path] => query::<F, K>(path),
+        _ => panic!("usage: [-g|-t] KEYS [SEED]"),
+    }
+}
