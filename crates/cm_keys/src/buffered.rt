@@ -2,7 +2,7 @@
 ghost use Rattle.std.specs.Prelude.{◌≡◌, ◌<◌, ◌≤◌, ◌++◌, ◌+◌, [], true, false, Ok, IfOk, OnOk, length, drop};
 ghost use Rattle.std.specs.Option.{ForSome};
 ghost use Rattle.cm_outer.specs.Causes.{HasCause};
-ghost use Rattle.cm_keys.specs.Buffering.{ready_in, left_bytes, TakesPart, ReadsLine};
+ghost use Rattle.cm_keys.specs.Buffering.{ready_in, left_bytes, HasNoEnd, TakesPart, ReadsLine};
 ghost use Rattle.cm_keys.specs.declared.buffered.TheConstants.{ROOM};
 
 use cm_outer::{Failed, KeyBuf, MAX_KEY_LEN, Source};
@@ -179,11 +179,13 @@ impl<S: Source> Buffered<S> {
         ensures ended { self.new.ended ≡ self.old.ended }
         ensures line { result ≡ true → TakesPart MAX_KEY_LEN end (ready_in self.old.buf self.old.start self.old.until)
             (ready_in self.new.buf self.new.start self.new.until) [] key.new.items Part.Whole }
-        ensures none { result ≡ false → (self.new ≡ self.old) × (key.new ≡ key.old) }
+        ensures none { result ≡ false → HasNoEnd end (ready_in self.old.buf self.old.start self.old.until) }
+        ensures unchanged { result ≡ false → (self.new ≡ self.old) × (key.new ≡ key.old) }
     {
         let ready = &self.buf[self.start..self.until];
-        let Some(n) = memchr(end, ready) else {
-            return false;
+        let n = match memchr(end, ready) {
+            Some(n) => n,
+            None => return false,
         };
         key.clear();
         if !put(key, &ready[..n]) {

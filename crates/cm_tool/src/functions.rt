@@ -11,7 +11,7 @@ ghost use Rattle.cm_tool.specs.Leaves.{IsFuncOf};
 ghost use Rattle.cm_words.specs.Limits.{IsBuild};
 
 use cm_algo::{BuildFault, build};
-use cm_bdz::{Bdz, BdzPh, BdzPhScheme, BdzScheme};
+use cm_bdz::{Bdz, BdzPh, BdzPhScheme, BdzScheme, PartsFault};
 use cm_chm::{Chm, ChmScheme};
 use cm_dump::Func;
 use cm_graph::{Steps, Xored};
@@ -84,10 +84,11 @@ fn bdz_of<P: KeyPass, L: Ledger>(
         seeds,
         &mut steps,
     )?;
-    // A build has as many cells that are not idle as there are keys, so memory alone can be wanting.
     match Bdz::from_built(alloc, built, b) {
         Ok(function) => Ok(Func::Bdz(function)),
-        Err(_) => Err(BuildFault::Memory),
+        Err(PartsFault::Memory) => Err(BuildFault::Memory),
+        // A build has as many cells that are not idle as there are keys.
+        Err(PartsFault::BadCount) => unreachable!(),
     }
 }
 
@@ -148,6 +149,6 @@ pub(crate) fn func_of<P: KeyPass, L: Ledger>(
         Algorithm::Bdz => bdz_of::<P, L>(alloc, keys, job.c, job.b, seeds, blank),
         Algorithm::BdzPh => bdz_ph_of::<P, L>(alloc, keys, job.c, seeds, blank),
         // No words ask for a build by BRZ.
-        Algorithm::Brz => Err(BuildFault::NoKeys),
+        Algorithm::Brz => unreachable!(),
     }
 }
