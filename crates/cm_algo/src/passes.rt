@@ -1,11 +1,12 @@
 //! Passes over keys.
-ghost use Rattle.std.specs.Prelude.{◌≡◌, ◌≢◌, ℕ, ◌+◌, ◌*◌, ◌<◌, ◌≤◌, ◌^◌, [], ◌∷◌, List, length, map, drop, IfOk, IfErr, OnOk, ◌++◌, None, Some, true, false};
+ghost use Rattle.std.specs.Prelude.{◌≡◌, ◌≢◌, ℕ, ◌+◌, ◌*◌, ◌<◌, ◌≤◌, ◌^◌, [], ◌∷◌, List, length, map, drop, IfOk, IfErr, IfSome, IfNone, IsTrue, OnOk, ◌++◌, None, Some, Ok, true, false};
 ghost use Rattle.std.specs.Option.{ForSome};
 ghost use Rattle.cm_outer.specs.Passes.{Told, HasKeyCause};
 ghost use Rattle.cm_spec.specs.Built.{edge_of, tag_of};
 ghost use Rattle.cm_spec.specs.Lookup2.{words as words_of};
 ghost use Rattle.cm_spec.specs.Rule.{IsCount, IsSize};
 ghost use Rattle.cm_algo.specs.Fails.{HasBuildCause, IsToldFault, FailsPass, HasChanged};
+ghost use Rattle.cm_algo.specs.Hashed.{GivesWords};
 
 use crate::fault::BuildFault;
 use crate::scheme::Scheme;
@@ -24,18 +25,62 @@ pub(crate) fn count_all<P: KeyPass>(keys: &mut P) -> Result<u32, KeyFault>
     keys.rewind()?;
     let mut key = KeyBuf::new();
     for count in 0..MAX_KEYS + 1 {
-        if !keys.next(&mut key)? {
+        if !keys.skip() && !keys.next(&mut key)? {
             return Ok(count);
         }
     }
     unreachable!()
 }
 
-/// Adds the edge of a key, and its tag where tags are kept.
+/// The words of the next key under a seed, where it is at hand: it is hashed where it stands. Where there is none, nothing changes.
+fn words_at_hand<P: KeyPass>(keys: &mut P, seed: u32) -> Option<[u32; 3]>
+    requires usable { IsTrue (P.usable keys.old) }
+    ensures told { P.told keys.new ≡ P.told keys.old }
+    ensures gives { IfSome result (λ hashed. ForSome (P.told keys.old) (λ told. GivesWords told (P.place keys.old) (P.place keys.new) seed (Ok (Some hashed)))) }
+    ensures cause { P.faults keys.new ≡ P.faults keys.old }
+    ensures counts { IfSome result (λ _. P.place keys.new ≡ P.place keys.old + 1) }
+    ensures usable { P.usable keys.new ≡ true }
+    ensures unchanged { IfNone result (keys.new ≡ keys.old) }
+{
+    let hashed = match keys.peek() {
+        Some((_, key)) => words(key, seed),
+        None => return None,
+    };
+    if !keys.skip() {
+        return None;
+    }
+    Some(hashed)
+}
+
+/// The words of the next key under a seed, or none at the end. The buffer is for its use.
+fn next_words<P: KeyPass>(
+    keys: &mut P,
+    key: &mut KeyBuf,
+    seed: u32,
+) -> Result<Option<[u32; 3]>, KeyFault>
+    requires usable { IsTrue (P.usable keys.old) }
+    ensures told { P.told keys.new ≡ P.told keys.old }
+    ensures gives { ForSome (P.told keys.old) (λ told. GivesWords told (P.place keys.old) (P.place keys.new) seed result) }
+    ensures cause { HasKeyCause (P.faults keys.old) (P.faults keys.new) result }
+    ensures counts { IfOk result (λ o. IfSome o (λ _. P.place keys.new ≡ P.place keys.old + 1)) }
+    ensures ended { IfOk result (λ o. IfNone o (P.place keys.new ≡ P.place keys.old)) }
+    ensures usable { OnOk result (P.usable keys.new ≡ true) }
+{
+    match words_at_hand(keys, seed) {
+        Some(hashed) => return Ok(Some(hashed)),
+        None => {}
+    }
+    match keys.next(key) {
+        Ok(true) => Ok(Some(words(key.as_slice(), seed))),
+        Ok(false) => Ok(None),
+        Err(fault) => Err(fault),
+    }
+}
+
+/// Adds the edge of a key by its words, and its tag where tags are kept.
 fn add_key<S: Scheme<K>, const K: usize>(
     scheme: &S,
-    key: &[u8],
-    seed: u32,
+    hashed: [u32; 3],
     edges: &mut Edges<K>,
     tags: &mut Vec<u32>,
 ) -> Result<(), BuildFault>
@@ -43,11 +88,10 @@ fn add_key<S: Scheme<K>, const K: usize>(
     requires size { IsSize (S.rule scheme.now) edges.old.vertices }
     ensures memory { IfErr result (λ e. e ≡ BuildFault.Memory) }
     ensures vertices { edges.new.vertices ≡ edges.old.vertices }
-    ensures edges { OnOk result (edges.new.edges ≡ edges.old.edges ++ (S.rule scheme.now).edge (words_of key.now seed) edges.old.vertices ∷ []) }
-    ensures tags { OnOk result (S.KEEPS_TAGS ≡ true → tags.new.items ≡ tags.old.items ++ (S.rule scheme.now).tag (words_of key.now seed) ∷ []) }
+    ensures edges { OnOk result (edges.new.edges ≡ edges.old.edges ++ (S.rule scheme.now).edge hashed edges.old.vertices ∷ []) }
+    ensures tags { OnOk result (S.KEEPS_TAGS ≡ true → tags.new.items ≡ tags.old.items ++ (S.rule scheme.now).tag hashed ∷ []) }
     ensures untagged { S.KEEPS_TAGS ≡ false → tags.new.items ≡ tags.old.items }
 {
-    let hashed = words(key, seed);
     edges.push(scheme.edge(hashed, edges.vertices()))?;
     if S::KEEPS_TAGS {
         tags.push(scheme.tag(hashed))?;
@@ -81,9 +125,17 @@ pub(crate) fn hash_all<S: Scheme<K>, P: KeyPass, const K: usize>(
     keys.rewind()?;
     let mut key = KeyBuf::new();
     for count in 0..m + 1 {
-        match keys.next(&mut key) {
-            Ok(true) => {}
-            Ok(false) => {
+        match next_words(keys, &mut key, seed) {
+            Ok(Some(hashed)) => {
+                if count == m {
+                    return Err(BuildFault::Changed {
+                        first: m,
+                        now: m + 1,
+                    });
+                }
+                add_key(scheme, hashed, edges, tags)?;
+            }
+            Ok(None) => {
                 if count < m {
                     return Err(BuildFault::Changed {
                         first: m,
@@ -94,13 +146,6 @@ pub(crate) fn hash_all<S: Scheme<K>, P: KeyPass, const K: usize>(
             }
             Err(fault) => return Err(BuildFault::Key(fault)),
         }
-        if count == m {
-            return Err(BuildFault::Changed {
-                first: m,
-                now: m + 1,
-            });
-        }
-        add_key(scheme, key.as_slice(), seed, edges, tags)?;
     }
     unreachable!()
 }

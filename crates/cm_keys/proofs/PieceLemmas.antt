@@ -127,6 +127,15 @@ ready_split end buf start until n inside p =
     split_there end (ready_in buf start until) n inside p
     ∙ ap (λ (k : ℕ). take n (ready_in buf start until) ++ end ∷ drop k (ready_in buf start until)) e ∙ ap (λ (l : List ℕ). take n (ready_in buf start until) ++ end ∷ l) (sym (ready_after buf start until n inside))
 
+-- the first line that waits whole
+pub line_taken : (end : ℕ) (buf : List ℕ) (start until n : ℕ) → n < length (ready_in buf start until) → Nowhere (Passes (is_byte end) (ready_in buf start until)) 0 n
+    → Passes (is_byte end) (ready_in buf start until) n → until ≤ 65536
+    → TakesPart 65535 end (ready_in buf start until) (ready_in buf (start + (n + 1)) until) [] (take n (ready_in buf start until)) Whole
+line_taken end buf start until n inside before at room =
+    let hay = ready_in buf start until in
+    (take n hay, no_end_before end hay n inside before, refl, ready_split end buf start until n inside at,
+        omega (arith, inside, room, length-take n hay, length-take (until - start) (drop start buf)))
+
 -- A line that is read part by part.
 
 same_left : (end : ℕ) (key : List ℕ) (all before : Option (List ℕ)) (told : Option (List ℕ)) (place : ℕ) (ready ready' : List ℕ)

@@ -1,5 +1,5 @@
 // A source that is read by large pieces.
-ghost use Rattle.std.specs.Prelude.{◌≡◌, ◌<◌, ◌≤◌, ◌++◌, ◌+◌, [], true, false, Ok, IfOk, OnOk, length, drop};
+ghost use Rattle.std.specs.Prelude.{◌≡◌, ◌<◌, ◌≤◌, ◌++◌, ◌+◌, ℕ, List, [], true, false, Ok, IfOk, IfSome, IfNone, OnOk, length, drop};
 ghost use Rattle.std.specs.Option.{ForSome};
 ghost use Rattle.cm_outer.specs.Causes.{HasCause};
 ghost use Rattle.cm_keys.specs.Buffering.{ready_in, left_bytes, HasNoEnd, TakesPart, ReadsLine};
@@ -173,24 +173,33 @@ impl<S: Source> Buffered<S> {
         unreachable!()
     }
 
-    /// Reads a line that waits whole with its end into the key, without its end. Where none does, nothing changes.
-    pub fn ready_line(&mut self, end: u8, key: &mut KeyBuf) -> bool
-        ensures source { self.new.source ≡ self.old.source }
-        ensures ended { self.new.ended ≡ self.old.ended }
-        ensures line { result ≡ true → TakesPart MAX_KEY_LEN end (ready_in self.old.buf self.old.start self.old.until)
-            (ready_in self.new.buf self.new.start self.new.until) [] key.new.items Part.Whole }
-        ensures none { result ≡ false → HasNoEnd end (ready_in self.old.buf self.old.start self.old.until) }
-        ensures unchanged { result ≡ false → (self.new ≡ self.old) × (key.new ≡ key.old) }
+    /// A line that waits whole with its end, without the end.
+    pub fn peek_line(&self, end: u8) -> Option<&[u8]>
+        ensures line { IfSome result (λ line. (left : List ℕ)
+            × TakesPart MAX_KEY_LEN end (ready_in self.now.buf self.now.start self.now.until) left [] line.now Part.Whole) }
+        ensures none { IfNone result (HasNoEnd end (ready_in self.now.buf self.now.start self.now.until)) }
     {
         let ready = &self.buf[self.start..self.until];
         let n = match memchr(end, ready) {
             Some(n) => n,
+            None => return None,
+        };
+        Some(&ready[..n])
+    }
+
+    /// Passes a line that waits whole with its end. Where none does, nothing changes.
+    pub fn skip_line(&mut self, end: u8) -> bool
+        ensures source { self.new.source ≡ self.old.source }
+        ensures ended { self.new.ended ≡ self.old.ended }
+        ensures line { result ≡ true → (line : List ℕ) × TakesPart MAX_KEY_LEN end (ready_in self.old.buf self.old.start self.old.until)
+            (ready_in self.new.buf self.new.start self.new.until) [] line Part.Whole }
+        ensures none { result ≡ false → HasNoEnd end (ready_in self.old.buf self.old.start self.old.until) }
+        ensures unchanged { result ≡ false → self.new ≡ self.old }
+    {
+        let n = match memchr(end, &self.buf[self.start..self.until]) {
+            Some(n) => n,
             None => return false,
         };
-        key.clear();
-        if !put(key, &ready[..n]) {
-            unreachable!();
-        }
         self.start += n + 1;
         true
     }

@@ -1,4 +1,4 @@
-ghost use Rattle.std.specs.Prelude.{◌≡◌, ◌<◌, ◌≤◌, ◌+◌, ◌↔◌, Ok, true, false, OnOk, OnErr, IfOk, IfErr, IsTrue, IsOkUnless, if◌then◌else◌, option_map};
+ghost use Rattle.std.specs.Prelude.{◌≡◌, ◌<◌, ◌≤◌, ◌+◌, ◌↔◌, ℕ, List, length, Ok, true, false, OnOk, OnErr, IfOk, IfErr, IfSome, IsTrue, IsOkUnless, if◌then◌else◌, option_map};
 ghost use Rattle.std.specs.Option.{ForSome};
 ghost use Rattle.cm_outer.specs.Passes.{HasKeyCause, GivesKey};
 ghost use Rattle.cm_keys.specs.Lines.{lines_of};
@@ -88,6 +88,14 @@ fn is_open(first: Option<u32>, given: u32) -> bool
     }
 }
 
+/// Whether a further line may be a key: it is looked at, and there are not the most keys yet.
+fn may_give(first: Option<u32>, given: u32) -> bool
+    ensures open { result ≡ true → IsOpen first given }
+    ensures few { result ≡ true → given < MAX_KEYS }
+{
+    given < MAX_KEYS && is_open(first, given)
+}
+
 impl<S: Source> KeyPass for Keys<S> {
     ghost use Rattle.cm_keys.specs.declared.keys.TheConstants.{LINE_END};
     ghost use Rattle.cm_outer.specs.declared.key_pass.TheConstants.{MAX_KEYS, MAX_KEY_LEN};
@@ -162,27 +170,39 @@ impl<S: Source> KeyPass for Keys<S> {
         }
     }
 
-    fn next_ready(&mut self, key: &mut KeyBuf) -> bool
+    fn peek(&self) -> Option<(u32, &[u8])>
+        requires usable { IsTrue self.now.usable }
+        ensures gives { IfSome result (λ key. ForSome (keys_of MAX_KEYS MAX_KEY_LEN LINE_END self.now) (λ told.
+            GivesKey told self.now.given (self.now.given + 1) key.0 key.1.now (Ok true))) }
+        ensures short { IfSome result (λ key. length key.1.now ≤ MAX_KEY_LEN) }
+    {
+        if !may_give(self.first, self.given) {
+            return None;
+        }
+        match self.bytes.peek_line(LINE_END) {
+            Some(line) => Some((self.given + 1, line)),
+            None => None,
+        }
+    }
+
+    fn skip(&mut self) -> bool
         requires usable { IsTrue self.old.usable }
         ensures told { keys_of MAX_KEYS MAX_KEY_LEN LINE_END self.new ≡ keys_of MAX_KEYS MAX_KEY_LEN LINE_END self.old }
-        ensures gives { result ≡ true → ForSome (keys_of MAX_KEYS MAX_KEY_LEN LINE_END self.old) (λ told.
-            GivesKey told self.old.given self.new.given self.new.given key.new.items (Ok true)) }
+        ensures gives { result ≡ true → ForSome (keys_of MAX_KEYS MAX_KEY_LEN LINE_END self.old) (λ told. (key : List ℕ)
+            × GivesKey told self.old.given self.new.given self.new.given key (Ok true)) }
         ensures cause { self.new.faults ≡ self.old.faults }
         ensures counts { self.new.given ≡ self.old.given + (if result then 1 else 0) }
-        ensures few { self.new.given ≤ MAX_KEYS }
+        ensures few { result ≡ true → self.new.given ≤ MAX_KEYS }
         ensures rises { result ≡ true → self.old.given < self.new.given }
         ensures usable { self.new.usable ≡ true }
-        ensures unchanged { result ≡ false → (self.new ≡ self.old) × (key.new ≡ key.old) }
+        ensures unchanged { result ≡ false → self.new ≡ self.old }
 
         // The source goes on telling the same, the lines that are looked at stay as many, and the end is not looked for.
         ensures bytes { self.new.bytes ≡ self.old.bytes }
         ensures first { self.new.first ≡ self.old.first }
         ensures ended { self.new.ended ≡ self.old.ended }
     {
-        if !is_open(self.first, self.given) || self.given == MAX_KEYS {
-            return false;
-        }
-        if !self.bytes.ready_line(LINE_END, key) {
+        if !may_give(self.first, self.given) || !self.bytes.skip_line(LINE_END) {
             return false;
         }
         self.given += 1;

@@ -37,12 +37,16 @@ fn count<P: KeyPass>(keys: &mut P, key: &mut KeyBuf) -> Result<u32, KeyFault> {
     unreachable!()
 }
 
-/// Whether a key was at hand.
+/// Whether a key was at hand. It is put into the buffer and passed.
 fn ready<P: KeyPass>(keys: &mut P, key: &mut KeyBuf) -> bool {
     if !keys.usable() {
         return false;
     }
-    keys.next_ready(key)
+    let Some((_, bytes)) = keys.peek() else {
+        return false;
+    };
+    key.clear();
+    key.try_extend_from_slice(bytes).is_ok() && keys.skip()
 }
 
 /// How many keys were at hand, one after another.

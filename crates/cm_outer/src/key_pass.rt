@@ -1,4 +1,4 @@
-ghost use Rattle.std.specs.Prelude.{◌≡◌, ◌<◌, ◌≤◌, ◌+◌, ℕ, Option, Ok, Bool, true, false, OnOk, OnErr, IfOk, IsTrue, IsOkUnless, if◌then◌else◌};
+ghost use Rattle.std.specs.Prelude.{◌≡◌, ◌<◌, ◌≤◌, ◌+◌, ℕ, List, length, Option, Ok, Bool, true, false, OnOk, OnErr, IfOk, IfSome, IsTrue, IsOkUnless, if◌then◌else◌};
 ghost use Rattle.std.specs.Option.{ForSome};
 ghost use Rattle.cm_outer.specs.Passes.{Told, HasKeyCause, GivesKey};
 
@@ -69,19 +69,32 @@ pub trait KeyPass {
         ensures usable { OnOk result (usable self.new ≡ true) }
         ensures unusable { OnErr result (usable self.new ≡ false) };
 
-    /// Puts the next key into the buffer and answers true where it is at hand, so that no read can fail: it does then what `next`
-    /// does that answers true. Answers false at the end, and may do so at any time: nothing has changed then, and `next` tells.
-    fn next_ready(&mut self, key: &mut KeyBuf) -> bool
+    /// The next key with its line, where it is at hand. None says nothing of what comes.
+    fn peek(&self) -> Option<(u32, &[u8])>
+        requires usable { IsTrue (usable self.now) }
+        ensures gives { IfSome result (λ key. ForSome (told self.now) (λ told.
+            GivesKey told (place self.now) (place self.now + 1) key.0 key.1.now (Ok true))) }
+        ensures short { IfSome result (λ key. length key.1.now ≤ MAX_KEY_LEN) }
+    {
+        None
+    }
+
+    /// Passes the next key without giving it and answers true, where it is at hand, so that no read can fail: it does then what
+    /// `next` does that answers true. Answers false at the end, and may do so at any time: nothing has changed then, and `next` tells.
+    fn skip(&mut self) -> bool
         requires usable { IsTrue (usable self.old) }
         ensures told { told self.new ≡ told self.old }
-        ensures gives { result ≡ true → ForSome (told self.old) (λ told.
-            GivesKey told (place self.old) (place self.new) (last self.new) key.new.items (Ok true)) }
+        ensures gives { result ≡ true → ForSome (told self.old) (λ told. (key : List ℕ)
+            × GivesKey told (place self.old) (place self.new) (last self.new) key (Ok true)) }
         ensures cause { faults self.new ≡ faults self.old }
         ensures counts { place self.new ≡ place self.old + (if result then 1 else 0) }
-        ensures few { place self.new ≤ MAX_KEYS }
+        ensures few { result ≡ true → place self.new ≤ MAX_KEYS }
         ensures rises { result ≡ true → last self.old < last self.new }
         ensures usable { usable self.new ≡ true }
-        ensures unchanged { result ≡ false → (self.new ≡ self.old) × (key.new ≡ key.old) };
+        ensures unchanged { result ≡ false → self.new ≡ self.old }
+    {
+        false
+    }
 
     /// Goes back to the start. Refuses with `Read` alone, exactly where the count of faults rises.
     fn rewind(&mut self) -> Result<(), KeyFault>

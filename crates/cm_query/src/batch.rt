@@ -101,7 +101,7 @@ impl Batch {
         }
         let place = function.place(key);
         self.taken.add(keys.line(), key, place);
-        self.taken.gather(function, keys, key);
+        self.taken.gather(function, keys);
         self.taken.answer_all(function, &mut self.answers);
         Ok(true)
     }

@@ -1,11 +1,11 @@
 //! Keys that are taken together, each with its line and its place.
-ghost use Rattle.std.specs.Prelude.{◌≡◌, ◌<◌, ◌≤◌, ◌+◌, ◌++◌, ℕ, List, [], ◌∷◌, length, map, slice_index_or, All, Option, IfSome, Bool, true, false, IsTrue};
+ghost use Rattle.std.specs.Prelude.{◌≡◌, ◌<◌, ◌≤◌, ◌+◌, ◌-◌, ◌++◌, ℕ, List, [], ◌∷◌, length, map, take, slice_index_or, All, Option, IfSome, Bool, true, false, IsTrue};
 ghost use Rattle.std.specs.Option.{ForSome};
 ghost use Rattle.cm_query.specs.Waiting.{ArePlaces, Spotted, Takes, TakenKeys, keys_of};
 
 use arrayvec::ArrayVec;
 use cm_algo::{Answers, Place};
-use cm_outer::{KeyBuf, KeyPass, MAX_KEY_LEN, MAX_KEYS};
+use cm_outer::{KeyPass, MAX_KEY_LEN, MAX_KEYS};
 use std::marker::Model;
 
 /// How many keys are taken together at most.
@@ -90,13 +90,42 @@ impl Taken {
         });
     }
 
-    /// Takes the further keys of a pass that are at hand, as long as there is room. The buffer is for its use.
-    pub(crate) fn gather<A: Answers, P: KeyPass>(
-        &mut self,
-        function: &A,
-        keys: &mut P,
-        key: &mut KeyBuf,
-    )
+    /// Forgets the key that was added last.
+    fn forget_last(&mut self)
+        ensures spots { self.new.spots ≡ take (length self.old.spots - 1) self.old.spots }
+    {
+        self.spots.truncate(self.spots.len().saturating_sub(1));
+    }
+
+    /// Takes the next key of a pass, where it is at hand. Where it isn't, the keys and the pass stay as they are.
+    fn take_next<A: Answers, P: KeyPass>(&mut self, function: &A, keys: &mut P) -> bool
+        requires usable { IsTrue (P.usable keys.old) }
+        requires few { length self.old.spots < MOST }
+        requires room { self.old.bytes + MAX_KEY_LEN ≤ ROOM }
+        requires places { ArePlaces (A.place_of function.now) self.old.spots }
+        ensures told { P.told keys.new ≡ P.told keys.old }
+        ensures cause { P.faults keys.new ≡ P.faults keys.old }
+        ensures usable { P.usable keys.new ≡ true }
+        ensures few { result ≡ true → P.place keys.new ≤ MAX_KEYS }
+        ensures places { ArePlaces (A.place_of function.now) self.new.spots }
+        ensures one { result ≡ true → (length self.new.spots ≡ length self.old.spots + 1) × (P.place keys.new ≡ P.place keys.old + 1) }
+        ensures takes { ForSome (P.told keys.old) (λ told. Takes told (P.place keys.old) (P.place keys.new) (keys_of self.old.spots) (keys_of self.new.spots)) }
+        ensures unchanged { result ≡ false → (self.new.spots ≡ self.old.spots) × (keys.new ≡ keys.old) }
+    {
+        let (line, key) = match keys.peek() {
+            Some(next) => next,
+            None => return false,
+        };
+        self.add(line, key, function.place(key));
+        if !keys.skip() {
+            self.forget_last();
+            return false;
+        }
+        true
+    }
+
+    /// Takes the further keys of a pass that are at hand, as long as there is room.
+    pub(crate) fn gather<A: Answers, P: KeyPass>(&mut self, function: &A, keys: &mut P)
         requires usable { IsTrue (P.usable keys.old) }
         requires few { P.place keys.old ≤ MAX_KEYS }
         requires places { ArePlaces (A.place_of function.now) self.old.spots }
@@ -110,11 +139,9 @@ impl Taken {
         ensures takes { ForSome (P.told keys.old) (λ told. Takes told (P.place keys.old) (P.place keys.new) (keys_of self.old.spots) (keys_of self.new.spots)) }
     {
         'more: while self.has_room() {
-            if !keys.next_ready(key) {
+            if !self.take_next(function, keys) {
                 return;
             }
-            let place = function.place(key);
-            self.add(keys.line(), key, place);
         }
     }
 

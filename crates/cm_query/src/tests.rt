@@ -85,13 +85,22 @@ impl KeyPass for Listed<'_> {
         }
     }
 
-    fn next_ready(&mut self, key: &mut KeyBuf) -> bool {
+    fn peek(&self) -> Option<(u32, &[u8])> {
         let place = self.given as usize;
         if self.ready == 0 || place >= self.keys.len() || self.given == MAX_KEYS {
+            return None;
+        }
+        let key = self.keys[place];
+        if key.len() > MAX_KEY_LEN {
+            return None;
+        }
+        Some((self.given + 1, key))
+    }
+
+    fn skip(&mut self) -> bool {
+        if self.ready == 0 || self.given as usize >= self.keys.len() || self.given == MAX_KEYS {
             return false;
         }
-        key.clear();
-        let _ = key.try_extend_from_slice(self.keys[place]);
         self.given += 1;
         self.ready -= 1;
         true

@@ -70,10 +70,6 @@ impl KeyPass for Changing<'_> {
         }
     }
 
-    fn next_ready(&mut self, _key: &mut KeyBuf) -> bool {
-        false
-    }
-
     fn rewind(&mut self) -> Result<(), KeyFault> {
         if self.refusals > 0 {
             self.refusals -= 1;

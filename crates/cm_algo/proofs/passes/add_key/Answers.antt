@@ -10,6 +10,6 @@ pub push-requires : goal.push-requires
 push-requires g c =
     let r = g.S.Scheme.rule c.args.scheme.now in
     let n : ℕ = c.args.edges.now.vertices in
-    let edge = (g.met.S.Scheme.laws c.args.scheme.now).ends c.words-hashed.result n c.requires.size in
-    let is : c.edge.result ≡ (g.S.Scheme.rule c.args.scheme.now).edge c.words-hashed.result n = c.edge.ensures.edge ∙ ap (λ (k : ℕ). (g.S.Scheme.rule c.args.scheme.now).edge c.words-hashed.result k) c.vertices.ensures.count in
+    let edge = (g.met.S.Scheme.laws c.args.scheme.now).ends c.args.hashed n c.requires.size in
+    let is : c.edge.result ≡ (g.S.Scheme.rule c.args.scheme.now).edge c.args.hashed n = c.edge.ensures.edge ∙ ap (λ (k : ℕ). (g.S.Scheme.rule c.args.scheme.now).edge c.args.hashed k) c.vertices.ensures.count in
     (omega (arith, (g.met.S.Scheme.laws c.args.scheme.now).two_or_three.1), (omega (arith, (g.met.S.Scheme.laws c.args.scheme.now).two_or_three.1), (c.requires.room, subst (λ (xs : List ℕ). IsEdge n xs) (sym is) edge.1)))

@@ -1,0 +1,17 @@
+use Rattle.std.proofs.Common.{[], ◌<◌, ◌∙◌, ap, refl}
+use Rattle.cm_outer.specs.declared.key_pass.TheConstants.{MAX_KEYS, MAX_KEY_LEN}
+use Rattle.cm_keys.specs.Buffering.{left_bytes, ready_in}
+use Rattle.cm_keys.specs.declared.keys.TheConstants.{LINE_END}
+use Rattle.cm_keys.proofs.PieceLemmas.{read_whole}
+use Rattle.cm_keys.proofs.NextLemmas.{key_gives}
+use Rattle.cm_keys.proofs.keys.KeysKeyPass.peek.Goals as goal
+
+pub returns-in-Some-clause-gives : goal.returns-in-Some-clause-gives
+returns-in-Some-clause-gives g c =
+    let self = c.self.inside in
+    let few : self.given < MAX_KEYS = c.may_give.ensures.few c.if-not-may_give.false in
+    let takes = c.in-Some.ensures.line.1 in
+    let old = left_bytes (g.S.Source.told self.bytes.source) (g.S.Source.place self.bytes.source) (ready_in self.bytes.buf self.bytes.start self.bytes.until) in
+    rw (← c.self.view_is) (key_gives _ _ _ _ _ _ _ _ _ _ _ _ (c.self.invariant.left (ap (λ pass. pass.usable) c.self.view_is ∙ c.requires.usable))
+    (read_whole MAX_KEY_LEN LINE_END [] _ old old _ _ _ _ _ _ refl refl refl refl takes)
+    refl (c.may_give.ensures.open c.if-not-may_give.false) few takes.4)
