@@ -103,6 +103,62 @@ fn absorb(s: Mixing, block: &[u8]) -> Mixing
     })
 }
 
+/// What the words of the state take in of the rest of a key.
+#[derive(Clone, Copy)]
+struct Tail {
+    a: u32,
+    b: u32,
+    c: u32,
+}
+
+/// The words of the rest of a key. The lowest byte of the third is left to the length of the key.
+#[inline(always)]
+fn read_tail(rest: &[u8]) -> Tail
+    ensures a { result.a ≡ word_at rest.now 0 }
+    ensures b { result.b ≡ word_at rest.now 4 }
+    ensures c { result.c ≡ 256 * slice_index rest.now 8 + 65536 * slice_index rest.now 9 + 16777216 * slice_index rest.now 10 }
+{
+    Tail {
+        a: word(rest, 0),
+        b: word(rest, 4),
+        c: 256 * byte_at(rest, 8) + 65536 * byte_at(rest, 9) + 16_777_216 * byte_at(rest, 10),
+    }
+}
+
+/// The same of `N` bytes: with their number known, it isn't asked for each byte.
+#[inline(always)]
+fn tail_of<const N: usize>(rest: &[u8]) -> Tail
+    requires { length rest.now ≡ N }
+    ensures a { result.a ≡ word_at rest.now 0 }
+    ensures b { result.b ≡ word_at rest.now 4 }
+    ensures c { result.c ≡ 256 * slice_index rest.now 8 + 65536 * slice_index rest.now 9 + 16777216 * slice_index rest.now 10 }
+{
+    read_tail(&rest[..N])
+}
+
+/// The same of any number of bytes, with one jump for it in place of a guess for each byte.
+#[inline]
+fn tail_by_length(rest: &[u8]) -> Tail
+    ensures a { result.a ≡ word_at rest.now 0 }
+    ensures b { result.b ≡ word_at rest.now 4 }
+    ensures c { result.c ≡ 256 * slice_index rest.now 8 + 65536 * slice_index rest.now 9 + 16777216 * slice_index rest.now 10 }
+{
+    match rest.len() {
+        1 => tail_of::<1>(rest),
+        2 => tail_of::<2>(rest),
+        3 => tail_of::<3>(rest),
+        4 => tail_of::<4>(rest),
+        5 => tail_of::<5>(rest),
+        6 => tail_of::<6>(rest),
+        7 => tail_of::<7>(rest),
+        8 => tail_of::<8>(rest),
+        9 => tail_of::<9>(rest),
+        10 => tail_of::<10>(rest),
+        11 => tail_of::<11>(rest),
+        _ => read_tail(rest),
+    }
+}
+
 /// Takes in the rest of a key of `len` bytes, which is below 12 bytes long.
 #[inline]
 #[tactic(auto, unfolding(cm_spec::specs::Lookup2::finish))]
@@ -110,11 +166,11 @@ fn finish(rest: &[u8], len: usize, s: Mixing) -> Mixing
     ensures { result ≡ finished rest.now len s }
 {
     let low = (len % 0x1_0000_0000) as u32;
-    let last = 256 * byte_at(rest, 8) + 65536 * byte_at(rest, 9) + 16_777_216 * byte_at(rest, 10);
+    let last = tail_by_length(rest);
     mix(Mixing {
-        a: s.a.wrapping_add(word(rest, 0)),
-        b: s.b.wrapping_add(word(rest, 4)),
-        c: s.c.wrapping_add(low).wrapping_add(last),
+        a: s.a.wrapping_add(last.a),
+        b: s.b.wrapping_add(last.b),
+        c: s.c.wrapping_add(low).wrapping_add(last.c),
     })
 }
 

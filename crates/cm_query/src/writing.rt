@@ -23,16 +23,15 @@ fn append(tail: &mut ArrayVec<u8, 15>, part: &[u8])
     }
 }
 
-/// What follows a key in its line: an arrow, the number in decimal, and the byte that ends the line.
-fn tail_of(number: u32, buffer: &mut Buffer) -> ArrayVec<u8, 15>
-    ensures tail { result.items ≡ joined (codes " -> " ∷ decimal number ∷ (LINE_END ∷ []) ∷ []) }
+/// Puts into an empty tail what follows a key in its line: an arrow, the number in decimal, and the byte that ends the line.
+fn put_tail(tail: &mut ArrayVec<u8, 15>, number: u32, buffer: &mut Buffer)
+    requires empty { tail.old.items ≡ [] }
+    ensures tail { tail.new.items ≡ joined (codes " -> " ∷ decimal number ∷ (LINE_END ∷ []) ∷ []) }
 {
     let digits = buffer.format(number).as_bytes();
-    let mut tail = ArrayVec::new();
-    append(&mut tail, b" -> ");
-    append(&mut tail, digits);
+    append(tail, b" -> ");
+    append(tail, digits);
     tail.push(LINE_END);
-    tail
 }
 
 /// Writes the line of a key, if it has an answer. Fails exactly where the sink does, which has then taken a prefix of the line.
@@ -48,7 +47,8 @@ pub(crate) fn write_line<O: Sink>(
     let Some(number) = answer else {
         return Ok(());
     };
-    let tail = tail_of(number, buffer);
+    let mut tail = ArrayVec::new();
+    put_tail(&mut tail, number, buffer);
     write_pieces(out, &[key, tail.as_slice()])
 }
 
