@@ -11,3 +11,4 @@ pub mod Pivots
 pub mod RoundFacts
 pub mod Sets
 pub mod Taking
+pub mod Levels

@@ -99,7 +99,7 @@ next_members graph t l next a inside members e = (to, from) where
       let here = is_left_from graph.edges (suc t) e both.0 in
       members e here.0 ∙ and_from _ _ here.1 (picked_is graph (suc t) l e a both.0 ∙ both.1)
 
-eqb-flip : (x y : ℕ) → eqb x y ≡ eqb y x
+pub eqb-flip : (x y : ℕ) → eqb x y ≡ eqb y x
 eqb-flip x y = elim (cases_eq x y) [
   | inl same ↦ eq-eqb x y same ∙ sym (eq-eqb y x (sym same))
   | inr other ↦ ne_eqb x y other ∙ sym (ne_eqb y x (λ s. other (sym s)))
@@ -165,6 +165,12 @@ next_round graph t l m start order levels pivots order₁ order₂ levels₂ piv
               by_cases false true f g = g refl
               by_cases false false f g = refl
 
+-- what stands in the order after the round
+pub next_is : (graph : Graph) (t : ℕ) (l : Links) (order levels old : List ℕ) (at : ℕ) → (r : InRound graph t (length (removed_after graph.edges t)) l order levels) → old ≡ order → at ≡ length (order_upto graph.edges (suc t)) → drop at old ≡ r.next
+next_is graph t l order levels old at r is place =
+    let upto : List ℕ = order_upto graph.edges (suc t) in
+    ap (drop at) (is ∙ r.order_is) ∙ (ap (λ k. drop k (upto ++ r.next)) place ∙ drop-append_seam upto r.next)
+
 -- the order after its end is sorted
 pub sorted_round : (graph : Graph) (t : ℕ) (l : Links) (order levels old new : List ℕ) (at : ℕ) → InRound graph t (length (removed_after graph.edges t)) l order levels → old ≡ order → at ≡ length (order_upto graph.edges (suc t)) → take at new ≡ take at old → IsSorted nat_cmp (drop at new) → IsPermutation (drop at old) (drop at new)
     → (drop at new ≡ removed_after graph.edges (suc t)) × (new ≡ order_upto graph.edges (suc t) ++ drop at new)
@@ -172,7 +178,7 @@ sorted_round graph t l order levels old new at r is place front up moved =
     let upto : List ℕ = order_upto graph.edges (suc t) in
     let whole : old ≡ upto ++ r.next = is ∙ r.order_is in
     let before : take at old ≡ upto = ap (take at) whole ∙ (ap (λ k. take k (upto ++ r.next)) place ∙ take-append_seam upto r.next) in
-    let next : drop at old ≡ r.next = ap (drop at) whole ∙ (ap (λ k. drop k (upto ++ r.next)) place ∙ drop-append_seam upto r.next) in
+    let next : drop at old ≡ r.next = next_is graph t l order levels old at r is place in
     (next_sorted graph t l order levels (drop at new) r (subst (λ (xs : List ℕ). IsPermutation xs (drop at new)) next moved) up, sym (take-append-drop at new) ∙ ap (λ (xs : List ℕ). xs ++ drop at new) (front ∙ before))
 
 pub tail_is : (xs : List ℕ) (at : ℕ) → take (length xs - at) (drop at xs) ≡ drop at xs

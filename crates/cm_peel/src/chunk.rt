@@ -185,12 +185,15 @@ fn first_one<const K: usize>(degrees: [u32; K]) -> u8
     requires small { K ≤ 3 }
     ensures { result ≡ position_or_len (λ d. d == 1) degrees.entry }
 {
-    for i in 0..K {
+    let mut first = K;
+    let mut i = K;
+    'ends: while i > 0 {
+        i -= 1;
         if degrees[i] == 1 {
-            return i as u8;
+            first = i;
         }
     }
-    K as u8
+    first as u8
 }
 
 /// The pivots of a chunk.
