@@ -132,9 +132,13 @@ pub line_taken : (end : ℕ) (buf : List ℕ) (start until n : ℕ) → n < leng
     → Passes (is_byte end) (ready_in buf start until) n → until ≤ 65536
     → TakesPart 65535 end (ready_in buf start until) (ready_in buf (start + (n + 1)) until) [] (take n (ready_in buf start until)) Whole
 line_taken end buf start until n inside before at room =
-    let hay = ready_in buf start until in
-    (take n hay, no_end_before end hay n inside before, refl, ready_split end buf start until n inside at,
-        omega (arith, inside, room, length-take n hay, length-take (until - start) (drop start buf)))
+    let hay = ready_in buf start until in (
+      take n hay,
+      no_end_before end hay n inside before,
+      refl,
+      ready_split end buf start until n inside at,
+      omega (arith, inside, room, length-take n hay, length-take (until - start) (drop start buf)),
+    )
 
 -- A line that is read part by part.
 

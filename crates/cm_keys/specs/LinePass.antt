@@ -1,13 +1,15 @@
 -- A pass over the lines of a source, as contracts see it.
-use Rattle.std.specs.Prelude.{◌≡◌, ◌⊎◌, ◌<◌, ◌≤◌, ◌+◌, ℕ, List, Option, None, Some, Bool, true, false}
+use Rattle.std.specs.Prelude.{◌≡◌, ◌⊎◌, ◌<◌, ◌≤◌, ◌+◌, ℕ, List, [], Option, None, Some, Bool, true, false}
 use Rattle.std.specs.Option.{option_map}
 use Rattle.cm_outer.specs.Passes.{Told}
 use Rattle.cm_outer.specs.declared.key_pass.KeyFault.{KeyFault}
 use Rattle.cm_outer.specs.declared.key_pass.KeyFault.TheVariants.{Read, TooLong, TooMany}
 use Rattle.cm_keys.specs.Lines.{lines_of}
+use Rattle.cm_keys.specs.Buffering.{HasNoEnd}
 
 -- what the source tells; how many lines are looked at, where not all; how many keys were given since the last rewind;
--- whether the source has come to its end with no byte left; whether a key may be asked for; the source's count of faults
+-- whether the source has come to its end with no byte left; whether a key may be asked for; the source's count of faults; the
+-- bytes that were read and wait
 pub record LinePass : Type 0 where
   pub bytes : Option (List ℕ)
   pub first : Option ℕ
@@ -15,10 +17,11 @@ pub record LinePass : Type 0 where
   pub ended : Bool
   pub usable : Bool
   pub faults : ℕ
+  pub waiting : List ℕ
 
 -- a pass at its start
 abbrev pub new_pass : Option (List ℕ) → Option ℕ → ℕ → LinePass
-new_pass bytes first faults = record { bytes = bytes; first = first; given = 0; ended = false; usable = true; faults = faults }
+new_pass bytes first faults = record { bytes = bytes; first = first; given = 0; ended = false; usable = true; faults = faults; waiting = [] }
 
 -- the keys of a pass: those of the bytes that its source tells
 abbrev pub keys_of : ℕ → ℕ → ℕ → LinePass → Option Told
@@ -43,3 +46,7 @@ abbrev pub IsNextLine : ℕ → LinePass → KeyFault → Type 0
 IsNextLine max pass Read = Unit {0}
 IsNextLine max pass (TooLong line) = (line ≡ pass.given + 1) × (pass.given < max) × IsOpen pass.first pass.given
 IsNextLine max pass TooMany = (pass.given ≡ max) × IsOpen pass.first pass.given
+
+-- No key is at hand: no further line is looked at, or there are the most keys, or the line that comes doesn't wait whole.
+abbrev pub NoneAtHand : ℕ → ℕ → LinePass → Type 0
+NoneAtHand max end pass = IsFull pass.first pass.given ⊎ ((max ≤ pass.given) ⊎ HasNoEnd end pass.waiting)

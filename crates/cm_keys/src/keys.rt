@@ -1,8 +1,8 @@
-ghost use Rattle.std.specs.Prelude.{◌≡◌, ◌<◌, ◌≤◌, ◌+◌, ◌↔◌, ℕ, List, length, Ok, true, false, OnOk, OnErr, IfOk, IfErr, IfSome, IsTrue, IsOkUnless, if◌then◌else◌, option_map};
+ghost use Rattle.std.specs.Prelude.{◌≡◌, ◌⊎◌, ◌<◌, ◌≤◌, ◌+◌, ◌↔◌, ℕ, List, length, Ok, true, false, OnOk, OnErr, IfOk, IfErr, IfSome, IfNone, IsTrue, IsOkUnless, if◌then◌else◌, option_map};
 ghost use Rattle.std.specs.Option.{ForSome};
 ghost use Rattle.cm_outer.specs.Passes.{HasKeyCause, GivesKey};
 ghost use Rattle.cm_keys.specs.Lines.{lines_of};
-ghost use Rattle.cm_keys.specs.LinePass.{IsDone, IsFull, IsNextLine, IsOpen, keys_of, new_pass};
+ghost use Rattle.cm_keys.specs.LinePass.{IsDone, IsFull, IsNextLine, IsOpen, NoneAtHand, keys_of, new_pass};
 
 use crate::buffered::{Buffered, Line};
 use cm_outer::{Failed, KeyBuf, KeyFault, KeyPass, MAX_KEY_LEN, MAX_KEYS, Source};
@@ -36,6 +36,7 @@ impl<S: Source> Model for Keys<S> {
       ended = k.bytes.ended;
       usable = k.usable;
       faults = S.faults k.bytes.source;
+      waiting = ready_in k.bytes.buf k.bytes.start k.bytes.until;
     } };
 
     ghost invariant = { λ k. IsPassing MAX_KEYS MAX_KEY_LEN LINE_END k.first k.given k.usable (S.told k.bytes.source)
@@ -92,6 +93,7 @@ fn is_open(first: Option<u32>, given: u32) -> bool
 fn may_give(first: Option<u32>, given: u32) -> bool
     ensures open { result ≡ true → IsOpen first given }
     ensures few { result ≡ true → given < MAX_KEYS }
+    ensures none { result ≡ false → IsFull first given ⊎ (MAX_KEYS ≤ given) }
 {
     given < MAX_KEYS && is_open(first, given)
 }
@@ -175,6 +177,9 @@ impl<S: Source> KeyPass for Keys<S> {
         ensures gives { IfSome result (λ key. ForSome (keys_of MAX_KEYS MAX_KEY_LEN LINE_END self.now) (λ told.
             GivesKey told self.now.given (self.now.given + 1) key.0 key.1.now (Ok true))) }
         ensures short { IfSome result (λ key. length key.1.now ≤ MAX_KEY_LEN) }
+
+        // A line that waits whole is at hand.
+        ensures none { IfNone result (NoneAtHand MAX_KEYS LINE_END self.now) }
     {
         if !may_give(self.first, self.given) {
             return None;
@@ -196,6 +201,9 @@ impl<S: Source> KeyPass for Keys<S> {
         ensures rises { result ≡ true → self.old.given < self.new.given }
         ensures usable { self.new.usable ≡ true }
         ensures unchanged { result ≡ false → self.new ≡ self.old }
+
+        // A line that waits whole is passed.
+        ensures none { result ≡ false → NoneAtHand MAX_KEYS LINE_END self.old }
 
         // The source goes on telling the same, the lines that are looked at stay as many, and the end is not looked for.
         ensures bytes { self.new.bytes ≡ self.old.bytes }

@@ -28,6 +28,9 @@ returns-clause-gives g c = λ _.
     let takes = line.1 in
     let same = ap g.S.Source.told c.skip_line.ensures.source in
     let old = left_bytes (g.S.Source.told self.bytes.source) (g.S.Source.place self.bytes.source) (ready_in self.bytes.buf self.bytes.start self.bytes.until) in
-    rw (← c.self.view_is) (λ told is. (line.0, key_gives _ _ _ _ _ _ _ _ _ _ _ _ (c.self.invariant.left (ap (λ pass. pass.usable) c.self.view_is ∙ c.requires.usable))
-    (read_whole MAX_KEY_LEN LINE_END [] _ old old _ _ _ _ _ _ refl refl same (ap g.S.Source.place c.skip_line.ensures.source) takes)
-    same (c.may_give.ensures.open c.if-not-may_give.false) few takes.4 told is))
+    rw (← c.self.view_is) (λ told is. (
+      line.0,
+      key_gives _ _ _ _ _ _ _ _ _ _ _ _ (c.self.invariant.left (ap (λ pass. pass.usable) c.self.view_is ∙ c.requires.usable))
+          (read_whole MAX_KEY_LEN LINE_END [] _ old old _ _ _ _ _ _ refl refl same (ap g.S.Source.place c.skip_line.ensures.source) takes)
+          same (c.may_give.ensures.open c.if-not-may_give.false) few takes.4 told is,
+    ))
