@@ -1,5 +1,5 @@
 //! Keys that are taken together, each with its line and its place.
-ghost use Rattle.std.specs.Prelude.{◌≡◌, ◌<◌, ◌≤◌, ◌+◌, ◌-◌, ◌++◌, ℕ, List, [], ◌∷◌, length, map, take, slice_index_or, All, Option, IfSome, Bool, true, false, IsTrue};
+ghost use Rattle.std.specs.Prelude.{◌≡◌, ◌⊎◌, ◌<◌, ◌≤◌, ◌+◌, ◌-◌, ◌++◌, ℕ, List, [], ◌∷◌, length, map, take, slice_index_or, All, Option, IfSome, Bool, true, false, IsTrue};
 ghost use Rattle.std.specs.Option.{ForSome};
 ghost use Rattle.cm_query.specs.Waiting.{ArePlaces, Spotted, Takes, TakenKeys, keys_of};
 
@@ -67,6 +67,7 @@ impl Taken {
     fn has_room(&self) -> bool
         ensures few { result ≡ true → length self.now.spots < MOST }
         ensures room { result ≡ true → self.now.bytes + MAX_KEY_LEN ≤ ROOM }
+        ensures full { result ≡ false → (MOST ≤ length self.now.spots) ⊎ (ROOM < self.now.bytes + MAX_KEY_LEN) }
     {
         !self.spots.is_full() && self.bytes.len() <= MAX_KEY_LEN
     }
