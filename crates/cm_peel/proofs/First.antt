@@ -1,9 +1,8 @@
 -- Taking the edges of the first round.
-use Rattle.std.proofs.Common.{◌≡◌, ◌⊎◌, ℕ, ◌+◌, ◌<◌, Bool, true, false, cond, not, eqb, ltb, ◌&&◌, List, [], ◌∷◌, ◌++◌, length, get_or, set, replicate, filter, sym, refl, ap, ◌∙◌, inl, inr, arith, length-append}
+use Rattle.std.proofs.Common.{◌≡◌, ◌⊎◌, ℕ, ◌+◌, ◌<◌, Bool, true, false, cond, not, eqb, ltb, ◌&&◌, List, [], ◌∷◌, ◌++◌, length, get_or, set, filter, sym, refl, ap, ◌∙◌, inl, inr, arith, length-append}
 use mir.Val.{bool_byte}
 use Rattle.std.specs.List.{list_any, position_or_len}
 use Rattle.std.proofs.lemmas.Bool.{cases_Bool, lt-ltb, le-ltb, or_parts, cond-true, false≢true}
-use Rattle.std.proofs.lemmas.List.{length-replicate}
 use Rattle.std.proofs.lemmas.List.Elements.{filter-append}
 use Rattle.cm_spec.specs.Lists.{numbers_from, has}
 use Rattle.cm_spec.specs.Graph.{AreEdges, places, ends_at}
@@ -54,9 +53,9 @@ found_within p xs n long = go (cases_Bool (list_any p xs)) where
   go (inr none) = le-ltb _ n (omega (arith, none_before p xs none)) ∙ sym none
 
 -- the state before the first round
-pub first_round : (graph : Graph) (k : ℕ) (l : Links) (order levels pivots levels' pivots' : List ℕ) → AreEdges k graph.vertices graph.edges → AreLinked graph (λ _. true) l → levels ≡ replicate (length graph.edges) 0 → length pivots' ≡ length graph.edges → PivotsSet l graph.edges (places graph.edges) pivots pivots'
+pub first_round : (graph : Graph) (k : ℕ) (l : Links) (order levels pivots levels' pivots' : List ℕ) → AreEdges k graph.vertices graph.edges → AreLinked graph (λ _. true) l → length levels ≡ length graph.edges → length pivots' ≡ length graph.edges → PivotsSet l graph.edges (places graph.edges) pivots pivots'
     → order ≡ filter (λ e. ltb (get_or pivots' e 0) k) (numbers_from 0 (length pivots')) → length levels' ≡ length levels → ((e : ℕ) → e < length levels → get_or levels' e 0 ≡ cond (ltb (get_or pivots' e 0) k) 1 0) → AtRound graph 0 l 0 order levels' pivots'
-first_round graph k l order levels pivots levels' pivots' are a zero_levels plong set order_is llong lset = record {
+first_round graph k l order levels pivots levels' pivots' are a many plong set order_is llong lset = record {
   linked = a;
   start_is = refl;
   order_is = order_is ∙ (ap (λ n. filter test (numbers_from 0 n)) plong ∙ (filter_agree_on test (is_picked l edges) (places edges) (λ e m. picked e (place_below edges e m)) ∙ picked_first graph l a));
@@ -71,9 +70,6 @@ first_round graph k l order levels pivots levels' pivots' are a zero_levels plon
 
   test : ℕ → Bool
   test e = ltb (get_or pivots' e 0) k
-
-  many : length levels ≡ length graph.edges
-  many = ap length zero_levels ∙ length-replicate (length graph.edges) 0
 
   picked : (e : ℕ) → e < length graph.edges → ltb (get_or pivots' e 0) k ≡ is_picked l graph.edges e
   picked e h =
