@@ -1,10 +1,11 @@
 -- Lists that are filled by a loop, and pieces of lists.
-use Rattle.std.proofs.Common.{◌≡◌, ◌≢◌, ℕ, suc, ◌+◌, ◌<◌, ◌≤◌, false, eqb, List, [], ◌∷◌, ◌++◌, length, get_or, set, take, map, sym, ap, ◌∙◌, arith, refl, below_more, get_or-set_other}
+use Rattle.std.proofs.Common.{◌≡◌, ◌≢◌, ℕ, suc, ◌+◌, ◌<◌, ◌≤◌, Bool, true, false, cond, eqb, List, [], ◌∷◌, ◌++◌, length, get_or, set, take, map, sym, ap, ◌∙◌, arith, refl, append-nil, below_more, get_or-set_other}
 use Rattle.std.specs.List.Sorted.{IsStrictlyIncreasing}
+use mir.Val.{bool_byte}
 use Rattle.std.proofs.Math.Seq.{take-suc-set}
 use Rattle.std.proofs.lemmas.Bool.{or_parts, eqb-false}
 use Rattle.std.proofs.lemmas.Grind.{get_or-set_at}
-use Rattle.std.proofs.lemmas.List.{take_more, take_all, map-append}
+use Rattle.std.proofs.lemmas.List.{take_more, take_more_set, take-set-le, take_all, map-append}
 use Rattle.std.proofs.lemmas.List.Kept.{AllPairs-from_increasing}
 use Rattle.cm_spec.specs.Lists.{has}
 use Rattle.cm_peel.proofs.Taking.{has-push}
@@ -17,6 +18,15 @@ filled_more f xs now i d y h long is was =
 
 pub filled_all : {X Y : Type 0} (f : X → Y) (xs : List X) (now : List Y) (i : ℕ) → length xs ≤ i → length now ≡ length xs → take i now ≡ map f (take i xs) → now ≡ map f xs
 filled_all f xs now i end long was = sym (take_all i now (omega arith)) ∙ (was ∙ ap (map f) (take_all i xs end))
+
+-- an element written behind the first ones of a list, and kept or not
+pub byte_small : (b : Bool) → bool_byte b ≤ 1
+byte_small true = omega arith
+byte_small false = omega arith
+
+pub written_if : (b : Bool) (list : List ℕ) (at e : ℕ) → at < length list → take (at + bool_byte b) (set list at e) ≡ take at list ++ cond b (e ∷ []) []
+written_if true list at e h = take_more_set list at e h
+written_if false list at e h = let z : at + 0 ≡ at = omega arith in rw z (take-set-le at list at e (omega arith) ∙ sym (append-nil (take at list)))
 
 -- one more value that is stored where a rising list says
 pub set_next : (pivots chunk : List ℕ) (value : ℕ → ℕ) (i y : ℕ) → IsStrictlyIncreasing chunk → i < length chunk → get_or chunk i 0 < length pivots → y ≡ value i → ((k : ℕ) → k < i → get_or pivots (get_or chunk k 0) 0 ≡ value k)

@@ -1,15 +1,17 @@
 -- The linked edges as a test over the places.
-use Rattle.std.proofs.Common.{◌≡◌, ◌≢◌, ◌⊎◌, ℕ, zero, suc, ◌+◌, ◌<◌, ◌≤◌, Bool, true, false, cond, not, eqb, ltb, ◌&&◌, ◌||◌, List, [], ◌∷◌, ◌++◌, length, get_or, set, take, replicate, Option, Some, None, sym, refl, ap, ◌∙◌, inl, inr, arith, append-nil, append_assoc}
-use Rattle.std.specs.List.{All, count_by, filter, list_any, slice_get, position_or_len}
+use Rattle.std.proofs.Common.{◌≡◌, ◌≢◌, ◌⊎◌, ℕ, zero, suc, ◌+◌, ◌<◌, ◌≤◌, Bool, true, false, cond, not, eqb, ltb, ◌&&◌, ◌||◌, List, [], ◌∷◌, ◌++◌, length, get_or, set, take, map, replicate, Option, Some, None, sym, refl, ap, ◌∙◌, inl, inr, arith, append-nil}
+use Rattle.std.specs.List.{All, concat, count_by, filter, list_any, slice_get, position_or_len}
 use Rattle.std.specs.List.Sorted.{IsStrictlyIncreasing}
-use Rattle.std.proofs.lemmas.Bool.{cases_eq, cases_lt, eq-eqb, ne_eqb, lt-ltb, le-ltb, cond-true, or_parts, eqb-false, false≢true}
+use Rattle.std.proofs.lemmas.Bool.{cases_eq, cases_lt, eq-eqb, ne_eqb, lt-ltb, le-ltb, cond-true, or_parts, eqb-false, eqb-true, false≢true}
 use Rattle.std.proofs.lemmas.Option.{get_or_from_slice_get, same_Some}
 use Rattle.std.proofs.Math.ListN.{length-set}
-use Rattle.std.proofs.lemmas.List.{length-replicate, take_more}
+use Rattle.std.proofs.lemmas.List.{length-replicate, map-append, take_more}
+use Rattle.std.proofs.lemmas.List.Elements.{All-append, All-filter, filter-append, filter_passes}
+use Rattle.std.proofs.lemmas.List.Folds.{concat-append}
 use Rattle.cm_spec.specs.Lists.{numbers_from, has}
 use Rattle.cm_spec.specs.Graph.{touches, places, ends_at, degree_in}
-use Rattle.cm_graph.specs.Graph.{Graph, Links, IsFree, linked, unlinked, slot_touches, degree_of}
-use Rattle.cm_peel.specs.Incident.{AreLinked, unlinked_all, soles_of, soles_of_all}
+use Rattle.cm_graph.specs.Graph.{Graph, Links, IsFree, linked, unlinked, slot_touches, degree_of, sole_of}
+use Rattle.cm_peel.specs.Incident.{AreLinked, unlinked_all, is_free, soles_of, soles_of_all}
 use Rattle.cm_peel.proofs.Sets.{count_by-cons, count_by-filter, not_before}
 
 pub slice_get-set_same : {X : Type 0} (xs : List X) (i : ℕ) (y : X) → i < length xs → slice_get (set xs i y) i ≡ Some y
@@ -169,11 +171,23 @@ any_before p (x ∷ xs) h = go (p x) refl (any_before p xs) where
       let h' : list_any p xs ≡ true = sym (ap (λ b. b || list_any p xs) is) ∙ h in
       rw is (omega (arith, ih h'))
 
--- one more edge whose soles are listed
-soles-append : (l : Links) (xs : List (List ℕ)) (ends : List ℕ) → soles_of_all l (xs ++ ends ∷ []) ≡ soles_of_all l xs ++ soles_of l ends
-soles-append l [] ends = append-nil _
-soles-append l (x ∷ xs) ends = ap (λ (ys : List ℕ). soles_of l x ++ ys) (soles-append l xs ends) ∙ sym (append_assoc (soles_of l x) (soles_of_all l xs) (soles_of l ends))
+-- one more edge whose ends are listed if they pass a test
+pub ends_more : (p : ℕ → Bool) (xs : List (List ℕ)) (now new : List ℕ) (i : ℕ) (d : List ℕ) → i < length xs → now ≡ filter p (concat (take i xs)) → new ≡ now ++ filter p (get_or xs i d) → new ≡ filter p (concat (take (i + 1) xs))
+ends_more p xs now new i d h was is =
+    let more : concat (take (i + 1) xs) ≡ concat (take i xs) ++ get_or xs i d = ap concat (take_more xs i d h) ∙ (concat-append (take i xs) (get_or xs i d ∷ []) ∙ ap (λ (ys : List ℕ). concat (take i xs) ++ ys) (append-nil (get_or xs i d))) in
+    is ∙ (ap (λ (ys : List ℕ). ys ++ filter p (get_or xs i d)) was ∙ (sym (filter-append p (concat (take i xs)) (get_or xs i d)) ∙ ap (filter p) (sym more)))
 
-pub soles_more : (l : Links) (xs : List (List ℕ)) (now new : List ℕ) (i : ℕ) (d : List ℕ) → i < length xs → now ≡ soles_of_all l (take i xs) → new ≡ now ++ soles_of l (get_or xs i d) → new ≡ soles_of_all l (take (i + 1) xs)
-soles_more l xs now new i d h was is =
-    is ∙ (ap (λ (ys : List ℕ). ys ++ soles_of l (get_or xs i d)) was ∙ (sym (soles-append l (take i xs) (get_or xs i d)) ∙ ap (soles_of_all l) (sym (take_more xs i d h))))
+-- the edges of all ends of degree one
+pub soles_are : (l : Links) (ends : List (List ℕ)) → map (sole_of l) (filter (is_free l) (concat ends)) ≡ soles_of_all l ends
+soles_are l [] = refl
+soles_are l (x ∷ xs) = ap (map (sole_of l)) (filter-append (is_free l) x (concat xs)) ∙ (map-append (sole_of l) (filter (is_free l) x) (filter (is_free l) (concat xs)) ∙ ap (λ (ys : List ℕ). soles_of l x ++ ys) (soles_are l xs))
+
+-- what holds of all ends of each edge holds of those that pass a test
+pub All-ends : (P : ℕ → Type 0) (p : ℕ → Bool) (ends : List (List ℕ)) → All (λ each. All P each) ends → All P (filter p (concat ends))
+All-ends P p ends each = All-filter p P (concat ends) (go ends each) where
+  go : (xs : List (List ℕ)) → All (λ x. All P x) xs → All P (concat xs)
+  go [] a = λ k d h. absurd (omega arith)
+  go (x ∷ xs) a = All-append P x (concat xs) (a 0 [] (omega arith)) (go xs (λ k d h. a (suc k) d (omega arith)))
+
+pub free_degree : (l : Links) (vs : List ℕ) → All (λ v. degree_of l v ≡ 1) (filter (is_free l) vs)
+free_degree l vs k d h = eqb-true _ _ (filter_passes (is_free l) vs k d h)

@@ -1,16 +1,14 @@
 //! A round is worked on by chunks: what lies far apart in memory is first read into small arrays, so that no store waits
 //! for a load.
-ghost use Rattle.std.specs.Prelude.{◌≡◌, ℕ, ◌+◌, ◌*◌, ◌<◌, ◌≤◌, [], ◌++◌, ◌==◌, if◌then◌else◌, length, All, map, slice_index, slice_index_or, OnOk, false};
-ghost use Rattle.std.specs.List.{position_or_len};
+ghost use Rattle.std.specs.Prelude.{◌≡◌, ℕ, ◌+◌, ◌*◌, ◌<◌, ◌≤◌, [], ◌++◌, ◌==◌, if◌then◌else◌, length, All, map, filter, take, slice_index, slice_index_or, OnOk, false};
+ghost use Rattle.std.specs.List.{concat, position_or_len};
 ghost use Rattle.std.specs.List.Sorted.{IsStrictlyIncreasing};
-ghost use Rattle.arrayvec.specs.ArrayVec.{array_vec_len};
 ghost use Rattle.cm_spec.specs.Lists.{has};
 ghost use Rattle.cm_spec.specs.Graph.{IsEdge, ends_at};
-ghost use Rattle.cm_graph.specs.Graph.{IsLinked, degree_of};
+ghost use Rattle.cm_graph.specs.Graph.{IsLinked, degree_of, sole_of};
 ghost use Rattle.cm_peel.specs.AtRound.{AreTaken};
-ghost use Rattle.cm_peel.specs.Incident.{soles_of, soles_of_all, unlinked_all};
+ghost use Rattle.cm_peel.specs.Incident.{is_free, soles_of_all, unlinked_all};
 
-use arrayvec::ArrayVec;
 use cm_graph::{Edges, Incidence, Steps};
 use std::alloc::AllocError;
 use std::sync::ledger::Ledger;
@@ -54,43 +52,86 @@ pub(crate) fn unlink_each<const K: usize, I: Incidence<K>, L: Ledger>(
     }
 }
 
-/// Adds the edges of those of an edge's ends that have degree one.
-fn push_soles<const K: usize, I: Incidence<K>, L: Ledger>(
+/// Writes those of an edge's ends that have degree one into the list, behind the first `count`.
+fn add_free<const K: usize, I: Incidence<K>, L: Ledger>(
     incidence: &I,
     ends: [u32; K],
-    soles: &mut ArrayVec<u32, CHUNK_ENDS>,
+    count: usize,
+    free: &mut [u32],
+    steps: &mut Steps<L>,
+) -> usize
+    requires vertices { All (λ v. v < (I.links incidence.now).vertices) ends }
+    requires room { count + K ≤ length free.old }
+    ensures free { take result free.new ≡ take count free.old ++ filter (is_free (I.links incidence.now)) ends.entry }
+    ensures few { result ≤ count + K }
+    ensures steps { steps.new ≡ steps.old + K }
+{
+    let mut at = count;
+    for v in ends {
+        free[at] = v;
+        at += (incidence.degree(v, steps) == 1) as usize;
+    }
+    at
+}
+
+/// Lists the ends of degree one among those of a chunk, and says how many they are.
+fn list_free<const K: usize, I: Incidence<K>, L: Ledger>(
+    incidence: &I,
+    ends: &[[u32; K]],
+    free: &mut [u32],
+    steps: &mut Steps<L>,
+) -> usize
+    requires vertices { All (λ each. All (λ v. v < (I.links incidence.now).vertices) each) ends.now }
+    requires room { K * length ends.now ≤ length free.old }
+    ensures free { take result free.new ≡ filter (is_free (I.links incidence.now)) (concat ends.now) }
+    ensures few { result ≤ K * length ends.now }
+    ensures steps { steps.new ≡ steps.old + K * length ends.now }
+{
+    let mut count = 0;
+    for each in ends {
+        count = add_free(incidence, *each, count, free, steps);
+    }
+    count
+}
+
+/// The edges of some vertices of degree one.
+fn look_up_soles<const K: usize, I: Incidence<K>, L: Ledger>(
+    incidence: &I,
+    free: &[u32],
+    soles: &mut [u32],
     steps: &mut Steps<L>,
 )
-    requires vertices { All (λ v. v < (I.links incidence.now).vertices) ends }
-    requires room { array_vec_len soles.old + K ≤ 192 }
-    ensures soles { soles.new.items ≡ soles.old.items ++ soles_of (I.links incidence.now) ends.entry }
-    ensures few { array_vec_len soles.new ≤ array_vec_len soles.old + K }
-    ensures steps { steps.new ≤ steps.old + 2 * K }
+    requires vertices { All (λ v. v < (I.links incidence.now).vertices) free.now }
+    requires free { All (λ v. degree_of (I.links incidence.now) v ≡ 1) free.now }
+    requires room { length free.now ≤ length soles.old }
+    ensures soles { take (length free.now) soles.new ≡ map (sole_of (I.links incidence.now)) free.now }
+    ensures steps { steps.new ≡ steps.old + length free.now }
 {
-    for v in ends {
-        if incidence.degree(v, steps) == 1 {
-            soles.push(incidence.sole(v, steps));
-        }
+    for (i, v) in free.iter().enumerate() {
+        soles[i] = incidence.sole(*v, steps);
     }
 }
 
-/// The edges of the vertices of degree one among the ends of a chunk.
+/// Lists the edges of the vertices of degree one among the ends of a chunk, and says how many they are.
 pub(crate) fn list_soles<const K: usize, I: Incidence<K>, L: Ledger>(
     incidence: &I,
     ends: &[[u32; K]],
-    soles: &mut ArrayVec<u32, CHUNK_ENDS>,
+    free: &mut [u32],
+    soles: &mut [u32],
     steps: &mut Steps<L>,
-)
+) -> usize
     requires small { K ≤ 3 }
     requires vertices { All (λ each. All (λ v. v < (I.links incidence.now).vertices) each) ends.now }
     requires few { length ends.now ≤ 64 }
-    ensures soles { soles.new.items ≡ soles_of_all (I.links incidence.now) ends.now }
+    requires free { length free.old ≡ 192 }
+    requires soles { length soles.old ≡ 192 }
+    ensures few { result ≤ 192 }
+    ensures soles { take result soles.new ≡ soles_of_all (I.links incidence.now) ends.now }
     ensures steps { steps.new ≤ steps.old + 2 * (K * length ends.now) }
 {
-    soles.clear();
-    for each in ends {
-        push_soles(incidence, *each, soles, steps);
-    }
+    let count = list_free(incidence, ends, free, steps);
+    look_up_soles(incidence, &free[..count], soles, steps);
+    count
 }
 
 /// The levels of some edges.
@@ -127,21 +168,21 @@ fn take_fresh(
     Ok(())
 }
 
-/// Gives a level to those of the edges that have none, and adds them to the order.
+/// Gives a level to those of the edges that have none, and adds them to the order. `marks` is room to work in.
 pub(crate) fn take(
     soles: &[u32],
     level: u32,
+    marks: &mut [u32],
     levels: &mut [u32],
     order: &mut Vec<u32>,
 ) -> Result<(), AllocError>
     requires places { All (λ e. e < length levels.old) soles.now }
-    requires few { length soles.now ≤ 192 }
+    requires room { length soles.now ≤ length marks.old }
     requires some { 0 < level }
     ensures { OnOk result (AreTaken soles.now level levels.old levels.new order.old.items order.new.items) }
 {
-    let mut marks = [0; CHUNK_ENDS];
-    look_up(levels, soles, &mut marks);
-    take_fresh(soles, &marks, level, levels, order)
+    look_up(levels, soles, marks);
+    take_fresh(soles, marks, level, levels, order)
 }
 
 /// The degrees of an edge's ends.
