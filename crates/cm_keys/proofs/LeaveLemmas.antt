@@ -1,11 +1,14 @@
 -- What is left of the keys.
-use Rattle.std.proofs.Common.{◌≡◌, ◌∙◌, ℕ, zero, suc, ◌+◌, ◌-◌, ◌<◌, ◌≤◌, List, [], ◌∷◌, length, take, drop, ap, sym, arith, refl, Option, Some, None, true, false, nat_lt}
+use Rattle.std.proofs.Common.{◌≡◌, ◌∙◌, ℕ, zero, suc, ◌+◌, ◌-◌, ◌<◌, ◌≤◌, List, [], ◌∷◌, ◌++◌, length, take, drop, ap, sym, arith, refl, subst, Option, Some, None, true, false, nat_lt}
+use Rattle.std.specs.Prelude.{All}
 use Rattle.std.proofs.lemmas.List.{drop-drop}
+use Rattle.std.proofs.lemmas.List.Elements.{All-head, All-tail}
 use Rattle.cm_outer.specs.declared.key_pass.KeyFault.{KeyFault}
 use Rattle.cm_outer.specs.declared.key_pass.KeyFault.TheVariants.{TooLong, TooMany}
 use Rattle.cm_outer.specs.Passes.{Told, Ends}
 use Rattle.cm_keys.specs.Lines.{pieces, looked_at, with_key, keys_from, lines_of}
 use Rattle.cm_keys.specs.LinePass.{IsOpen}
+use Rattle.cm_keys.specs.NumberingLaws.{IsWithin}
 use Rattle.cm_keys.specs.Leaving.{looked_at_after, keys_after, IsLeft}
 use Rattle.cm_keys.specs.Buffering.{IsLong}
 
@@ -75,6 +78,25 @@ pub leaves_key : (whole : Told) (given : ℕ) (key : ℕ × List ℕ) (left : To
 leaves_key whole given key left is =
     let e : drop (given + 1) whole.keys ≡ left.keys = sym (drop-drop 1 given whole.keys) ∙ ap (λ (l : List (ℕ × List ℕ)). drop 1 l) is.keys in
     (record { keys = e; count = omega (arith, is.count); fault = is.fault }, is.keys ∙ ap (λ (l : List (ℕ × List ℕ)). key ∷ l) (sym e))
+
+open_within : (first : Option ℕ) (given n : ℕ) → IsWithin first (given + suc n) → IsOpen first given
+open_within None given n within = _
+open_within (Some first) given n within = omega (arith, within)
+
+-- after some lines
+pub leaves_lines : (max longest : ℕ) (first : Option ℕ) (whole : Told) (given : ℕ) (lines ps : List (List ℕ)) → All (λ line. length line ≤ longest) lines
+    → given + length lines ≤ max → IsWithin first (given + length lines)
+    → IsLeft whole given (keys_after max longest first given (lines ++ ps))
+    → IsLeft whole (given + length lines) (keys_after max longest first (given + length lines) ps)
+leaves_lines max longest first whole given [] ps short few within is =
+    let e : given ≡ given + 0 = omega arith in subst (λ (k : ℕ). IsLeft whole k (keys_after max longest first k ps)) e is
+leaves_lines max longest first whole given (line ∷ lines) ps short few within is =
+    let P : List ℕ → Type 0 = λ line. length line ≤ longest in
+    let step = left_key max longest first given line (lines ++ ps) (open_within first given (length lines) within) (omega (arith, few)) (All-head P line lines short) in
+    let next = (leaves_key whole given (given + 1, line) (keys_after max longest first (given + 1) (lines ++ ps)) (subst (IsLeft whole given) step is)).0 in
+    let e : given + 1 + length lines ≡ given + length (line ∷ lines) = omega arith in
+    subst (λ (k : ℕ). IsLeft whole k (keys_after max longest first k ps)) e
+    (leaves_lines max longest first whole (given + 1) lines ps (All-tail P line lines short) (omega (arith, few)) (subst (IsWithin first) (sym e) within) next)
 
 -- at the end
 pub leaves_none : (whole : Told) (given : ℕ) (fault : Option KeyFault) → IsLeft whole given (record { keys = []; fault = fault }) → Ends whole given fault

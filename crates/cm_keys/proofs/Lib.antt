@@ -1,5 +1,6 @@
 mod PieceLemmas
+mod WholeLemmas
 mod LeaveLemmas
-mod NextLemmas
 pub mod NumberingLemmas
+mod NextLemmas
 pub mod SplittingLemmas

@@ -2,13 +2,15 @@
 use Rattle.std.proofs.Common.{◌≡◌, ◌∙◌, ℕ, ◌+◌, ◌-◌, ◌<◌, ◌≤◌, List, [], ◌∷◌, ◌++◌, length, drop, ap, sym, arith, refl, subst, length-append, length-take, length-drop, Option, Some, None, Bool, true, false, if◌then◌else◌}
 use Rattle.std.specs.Option.{option_map, ForSome}
 use Rattle.cm_outer.specs.declared.key_pass.KeyFault.TheVariants.{TooLong, TooMany}
-use Rattle.cm_outer.specs.Passes.{Told, Ends}
+use Rattle.cm_outer.specs.Passes.{Told, Ends, PassesKeys}
 use Rattle.cm_keys.specs.Lines.{push_first, pieces, with_key, lines_of}
 use Rattle.cm_keys.specs.LinePass.{IsOpen}
 use Rattle.cm_keys.specs.Leaving.{keys_after, IsLeft, Leaves}
-use Rattle.cm_keys.specs.Buffering.{IsLong, left_bytes, ready_in}
+use Rattle.cm_keys.specs.Buffering.{IsLong, TakesLines, left_bytes, ready_in}
+use Rattle.cm_keys.specs.NumberingLaws.{IsWithin}
+use Rattle.cm_keys.proofs.NumberingLemmas.{lines_are_numbered}
 use Rattle.cm_keys.proofs.PieceLemmas.{none_some, some_same}
-use Rattle.cm_keys.proofs.LeaveLemmas.{left_first, left_key, left_long, left_many, left_none, leaves_key, leaves_none}
+use Rattle.cm_keys.proofs.LeaveLemmas.{left_first, left_key, left_long, left_many, left_none, leaves_key, leaves_lines, leaves_none}
 
 -- What holds of the keys of told bytes.
 pub from_told : (f : List ℕ → Told) (told : Option (List ℕ)) (P : Told → Type 0) → ForSome told (λ all. P (f all)) → ForSome (option_map f told) P
@@ -49,6 +51,42 @@ pub key_gives : (max longest end : ℕ) (first : Option ℕ) (given : ℕ) (told
 key_gives max longest end first given told told' place place' ready ready' key inv same t open_first few short =
     from_told (lines_of max longest end first) told (λ told. drop given told.keys ≡ (given + 1, key) ∷ drop (given + 1) told.keys)
     (λ x is. (key_given max longest end first given told told' place place' ready ready' key inv same t open_first few short x is).1)
+
+within_less : (first : Option ℕ) (n more : ℕ) → n ≤ more → IsWithin first more → IsWithin first n
+within_less None n more le within = _
+within_less (Some first) n more le within = omega (arith, le, within)
+
+lines_left : (max longest end : ℕ) (first : Option ℕ) (given count room : ℕ) (told : Option (List ℕ)) (place : ℕ) (ready ready' : List ℕ)
+    → Leaves max longest end first given told place ready → TakesLines longest end ready ready' count
+    → count ≤ room → given + room ≤ max → IsWithin first (given + room)
+    → Leaves max longest end first (given + count) told place ready'
+lines_left max longest end first given count room told place ready ready' inv takes few most within x is =
+    let whole = lines_of max longest end first x in
+    let ps = pieces end (ready' ++ drop place x) in
+    let many = takes.many in
+    let old = subst (λ (ps : List (List ℕ)). IsLeft whole given (keys_after max longest first given ps)) (takes.front (drop place x)) (inv x is) in
+    subst (λ (n : ℕ). IsLeft whole (given + n) (keys_after max longest first (given + n) ps)) many
+    (leaves_lines max longest first whole given takes.lines ps takes.short (omega (arith, many, few, most)) (within_less first (given + length takes.lines) (given + room) (omega (arith, many, few)) within) old)
+
+-- After some lines the next ones are left.
+pub lines_leave : (max longest end : ℕ) (first : Option ℕ) (given count room : ℕ) (told told' : Option (List ℕ)) (place place' : ℕ) (ready ready' : List ℕ)
+    → Leaves max longest end first given told place ready → told' ≡ told → place' ≡ place → TakesLines longest end ready ready' count
+    → count ≤ room → given + room ≤ max → IsWithin first (given + room)
+    → Leaves max longest end first (given + count) told' place' ready'
+lines_leave max longest end first given count room told told' place place' ready ready' inv t p takes few most within =
+    rw t (rw p (lines_left max longest end first given count room told place ready ready' inv takes few most within))
+
+-- The lines are the next of the told keys.
+pub lines_give : (max longest end : ℕ) (first : Option ℕ) (given count room : ℕ) (told : Option (List ℕ)) (place : ℕ) (ready ready' : List ℕ)
+    → Leaves max longest end first given told place ready → TakesLines longest end ready ready' count
+    → count ≤ room → given + room ≤ max → IsWithin first (given + room) → 0 < count
+    → ForSome (option_map (lines_of max longest end first) told) (λ told. PassesKeys told (given + count) (given + count))
+lines_give max longest end first given count room told place ready ready' inv takes few most within some =
+    from_told (lines_of max longest end first) told (λ told. PassesKeys told (given + count) (given + count)) (λ x is.
+    let whole = lines_of max longest end first x in
+    let left = lines_left max longest end first given count room told place ready ready' inv takes few most within x is in
+    let inside : given + count ≤ length whole.keys = omega (arith, left.count) in
+    (inside, λ d. (lines_are_numbered max longest end first x).numbered (given + count - 1) d (omega (arith, inside, some)) ∙ omega (arith, some)))
 
 pub long_gives : (max longest end : ℕ) (first : Option ℕ) (given : ℕ) (told : Option (List ℕ)) (place : ℕ) (ready : List ℕ)
     → Leaves max longest end first given told place ready

@@ -7,7 +7,7 @@ use Rattle.cm_keys.specs.Lines.{push_first, pieces}
 use Rattle.cm_keys.specs.Buffering.{with_front, HasNoEnd, IsLong, TakesPart, left_bytes, ready_in}
 use Rattle.cm_keys.specs.declared.buffered.Part.TheVariants.{Whole, More, Long}
 
-not_true : (b : Bool) → (b ≡ true → ⊥) → b ≡ false
+pub not_true : (b : Bool) → (b ≡ true → ⊥) → b ≡ false
 not_true true f = absurd (f refl)
 not_true false f = refl
 
@@ -61,7 +61,7 @@ is_long longest (p ∷ ps) lt = lt
 pub long_front : (longest : ℕ) (front : List ℕ) (ps : List (List ℕ)) → longest < length front → IsLong longest (with_front front ps)
 long_front longest front ps lt = is_long longest (with_front front ps) (omega (arith, lt, front_len front ps))
 
-same_byte : (end : ℕ) → (end == end) ≡ true
+pub same_byte : (end : ℕ) → (end == end) ≡ true
 same_byte end = grind arith
 
 -- the rest of a line with its end
@@ -128,10 +128,10 @@ ready_split end buf start until n inside p =
     ∙ ap (λ (k : ℕ). take n (ready_in buf start until) ++ end ∷ drop k (ready_in buf start until)) e ∙ ap (λ (l : List ℕ). take n (ready_in buf start until) ++ end ∷ l) (sym (ready_after buf start until n inside))
 
 -- the first line that waits whole
-pub line_taken : (end : ℕ) (buf : List ℕ) (start until n : ℕ) → n < length (ready_in buf start until) → Nowhere (Passes (is_byte end) (ready_in buf start until)) 0 n
-    → Passes (is_byte end) (ready_in buf start until) n → until ≤ 65536
-    → TakesPart 65535 end (ready_in buf start until) (ready_in buf (start + (n + 1)) until) [] (take n (ready_in buf start until)) Whole
-line_taken end buf start until n inside before at room =
+pub line_taken : (end longest : ℕ) (buf : List ℕ) (start until n : ℕ) → n < length (ready_in buf start until) → Nowhere (Passes (is_byte end) (ready_in buf start until)) 0 n
+    → Passes (is_byte end) (ready_in buf start until) n → until ≤ longest + 1
+    → TakesPart longest end (ready_in buf start until) (ready_in buf (start + (n + 1)) until) [] (take n (ready_in buf start until)) Whole
+line_taken end longest buf start until n inside before at room =
     let hay = ready_in buf start until in (
       take n hay,
       no_end_before end hay n inside before,
@@ -139,6 +139,24 @@ line_taken end buf start until n inside before at room =
       ready_split end buf start until n inside at,
       omega (arith, inside, room, length-take n hay, length-take (until - start) (drop start buf)),
     )
+
+drop_front : (end : ℕ) (part left : List ℕ) → drop (suc (length part)) (part ++ end ∷ left) ≡ left
+drop_front end [] left = refl
+drop_front end (b ∷ bs) left = drop_front end bs left
+
+-- A line that waits whole is within what waits.
+pub line_inside : (longest end len : ℕ) (ready left key : List ℕ) → TakesPart longest end ready left [] key Whole → length key ≡ len → len < length ready
+line_inside longest end len ready left key takes long =
+    omega (arith, long, ap length takes.2, ap length takes.3, length-append takes.0 (end ∷ left))
+
+-- After it comes what is left.
+pub line_passed : (longest end len : ℕ) (ready left key after : List ℕ) → TakesPart longest end ready left [] key Whole → length key ≡ len → after ≡ drop (len + 1) ready
+    → TakesPart longest end ready after [] key Whole
+line_passed longest end len ready left key after takes long is =
+    let part = takes.0 in
+    let many : len + 1 ≡ suc (length part) = omega (arith, long, ap length takes.2) in
+    let same : after ≡ left = is ∙ ap (λ (k : ℕ). drop k ready) many ∙ ap (drop (suc (length part))) takes.3 ∙ drop_front end part left in
+    subst (λ (rest : List ℕ). TakesPart longest end ready rest [] key Whole) (sym same) takes
 
 -- A line that is read part by part.
 

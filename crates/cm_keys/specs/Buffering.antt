@@ -1,5 +1,5 @@
 -- Bytes that wait in a buffer before those of a source.
-use Rattle.std.specs.Prelude.{◌≡◌, ◌-◌, ◌+◌, ◌<◌, ◌≤◌, ◌++◌, ◌∷◌, [], ℕ, List, length, Option, Some, drop, take, Result, Ok, Err}
+use Rattle.std.specs.Prelude.{◌≡◌, ◌-◌, ◌+◌, ◌<◌, ◌≤◌, ◌++◌, ◌∷◌, [], ℕ, List, length, All, Option, Some, drop, take, Result, Ok, Err}
 use Rattle.std.specs.Option.{option_map}
 use Rattle.cm_outer.specs.declared.fault.Failed.{Failed}
 use Rattle.cm_keys.specs.Lines.{push_first, pieces}
@@ -35,6 +35,13 @@ abbrev pub TakesPart : ℕ → ℕ → List ℕ → List ℕ → List ℕ → Li
 TakesPart longest end ready left old new Whole = (part : List ℕ) × HasNoEnd end part × (new ≡ old ++ part) × (ready ≡ part ++ end ∷ left) × (length new ≤ longest)
 TakesPart longest end ready left old new More = HasNoEnd end ready × (new ≡ old ++ ready) × (left ≡ []) × (0 < length ready) × (length new ≤ longest)
 TakesPart longest end ready left old new Long = (part : List ℕ) × (rest : List ℕ) × HasNoEnd end part × (ready ≡ part ++ rest) × (longest < length old + length part)
+
+-- So many lines that wait whole pass with their ends.
+pub record TakesLines (longest end : ℕ) (ready left : List ℕ) (count : ℕ) : Type 0 where
+  pub lines : List (List ℕ)
+  pub many : length lines ≡ count
+  pub short : All (λ line. length line ≤ longest) lines
+  pub front : (more : List ℕ) → pieces end (ready ++ more) ≡ lines ++ pieces end (left ++ more)
 
 -- What was read of the pieces that were left.
 abbrev pub ReadsLine : ℕ → ℕ → Option (List ℕ) → Option (List ℕ) → List ℕ → Result Line Failed → Type 0

@@ -5,7 +5,8 @@ use Rattle.cm_outer.specs.Passes.{Told}
 use Rattle.cm_outer.specs.declared.key_pass.KeyFault.{KeyFault}
 use Rattle.cm_outer.specs.declared.key_pass.KeyFault.TheVariants.{Read, TooLong, TooMany}
 use Rattle.cm_keys.specs.Lines.{lines_of}
-use Rattle.cm_keys.specs.Buffering.{HasNoEnd}
+use Rattle.cm_keys.specs.Buffering.{HasNoEnd, TakesPart}
+use Rattle.cm_keys.specs.declared.buffered.Part.TheVariants.{Whole}
 
 -- what the source tells; how many lines are looked at, where not all; how many keys were given since the last rewind;
 -- whether the source has come to its end with no byte left; whether a key may be asked for; the source's count of faults; the
@@ -47,6 +48,15 @@ IsNextLine max pass Read = Unit {0}
 IsNextLine max pass (TooLong line) = (line ≡ pass.given + 1) × (pass.given < max) × IsOpen pass.first pass.given
 IsNextLine max pass TooMany = (pass.given ≡ max) × IsOpen pass.first pass.given
 
+-- These bytes are those of the next key, and they wait with their end.
+abbrev pub IsAtHand : ℕ → ℕ → ℕ → LinePass → List ℕ → Type 0
+IsAtHand max longest end pass key = IsOpen pass.first pass.given × (pass.given < max) × (left : List ℕ) × TakesPart longest end pass.waiting left [] key Whole
+
 -- No key is at hand: no further line is looked at, or there are the most keys, or the line that comes doesn't wait whole.
 abbrev pub NoneAtHand : ℕ → ℕ → LinePass → Type 0
 NoneAtHand max end pass = IsFull pass.first pass.given ⊎ ((max ≤ pass.given) ⊎ HasNoEnd end pass.waiting)
+
+-- Not so many further lines may be keys.
+abbrev pub IsNearEnd : ℕ → ℕ → Option ℕ → ℕ → Type 0
+IsNearEnd max many None given = max < given + many
+IsNearEnd max many (Some first) given = (max < given + many) ⊎ (first < given + many)

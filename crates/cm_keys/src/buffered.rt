@@ -2,14 +2,14 @@
 ghost use Rattle.std.specs.Prelude.{◌≡◌, ◌<◌, ◌≤◌, ◌++◌, ◌+◌, ℕ, List, [], true, false, Ok, IfOk, IfSome, IfNone, OnOk, length, drop};
 ghost use Rattle.std.specs.Option.{ForSome};
 ghost use Rattle.cm_outer.specs.Causes.{HasCause};
-ghost use Rattle.cm_keys.specs.Buffering.{ready_in, left_bytes, HasNoEnd, TakesPart, ReadsLine};
+ghost use Rattle.cm_keys.specs.Buffering.{ready_in, left_bytes, HasNoEnd, TakesLines, TakesPart, ReadsLine};
 ghost use Rattle.cm_keys.specs.declared.buffered.TheConstants.{ROOM};
 
 use cm_outer::{Failed, KeyBuf, MAX_KEY_LEN, Source};
-use memchr::memchr;
+use memchr::{memchr, memchr_iter, memrchr};
 
 /// How many bytes wait at most.
-const ROOM: usize = 65_536;
+pub const ROOM: usize = 65_536;
 
 /// What a key was given of the bytes that wait.
 pub enum Part {
@@ -187,21 +187,34 @@ impl<S: Source> Buffered<S> {
         Some(&ready[..n])
     }
 
-    /// Passes a line that waits whole with its end. Where none does, nothing changes.
-    pub fn skip_line(&mut self, end: u8) -> bool
+    /// Passes a line of so many bytes that waits whole, with its end.
+    pub fn pass_line(&mut self, len: usize)
+        requires waits { len < length (ready_in self.old.buf self.old.start self.old.until) }
         ensures source { self.new.source ≡ self.old.source }
         ensures ended { self.new.ended ≡ self.old.ended }
-        ensures line { result ≡ true → (line : List ℕ) × TakesPart MAX_KEY_LEN end (ready_in self.old.buf self.old.start self.old.until)
-            (ready_in self.new.buf self.new.start self.new.until) [] line Part.Whole }
-        ensures none { result ≡ false → HasNoEnd end (ready_in self.old.buf self.old.start self.old.until) }
-        ensures unchanged { result ≡ false → self.new ≡ self.old }
+        ensures ready { ready_in self.new.buf self.new.start self.new.until ≡ drop (len + 1) (ready_in self.old.buf self.old.start self.old.until) }
     {
-        let n = match memchr(end, &self.buf[self.start..self.until]) {
-            Some(n) => n,
-            None => return false,
+        self.start += len + 1;
+    }
+
+    /// Passes all lines that wait whole, with their ends, and answers how many.
+    pub fn skip_lines(&mut self, end: u8) -> u32
+        ensures source { self.new.source ≡ self.old.source }
+        ensures ended { self.new.ended ≡ self.old.ended }
+        ensures lines { TakesLines MAX_KEY_LEN end (ready_in self.old.buf self.old.start self.old.until)
+            (ready_in self.new.buf self.new.start self.new.until) result }
+        ensures all { HasNoEnd end (ready_in self.new.buf self.new.start self.new.until) }
+        ensures few { result ≤ ROOM }
+        ensures unchanged { result ≡ 0 → self.new ≡ self.old }
+    {
+        let ready = &self.buf[self.start..self.until];
+        let last = match memrchr(end, ready) {
+            Some(last) => last,
+            None => return 0,
         };
-        self.start += n + 1;
-        true
+        let count = memchr_iter(end, ready).count();
+        self.start += last + 1;
+        count as u32
     }
 }
 

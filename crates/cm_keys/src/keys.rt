@@ -1,10 +1,13 @@
 ghost use Rattle.std.specs.Prelude.{◌≡◌, ◌⊎◌, ◌<◌, ◌≤◌, ◌+◌, ◌↔◌, ℕ, List, length, Ok, true, false, OnOk, OnErr, IfOk, IfErr, IfSome, IfNone, IsTrue, IsOkUnless, if◌then◌else◌, option_map};
 ghost use Rattle.std.specs.Option.{ForSome};
-ghost use Rattle.cm_outer.specs.Passes.{HasKeyCause, GivesKey};
+ghost use Rattle.cm_outer.specs.Passes.{HasKeyCause, GivesKey, PassesKeys};
+ghost use Rattle.cm_keys.specs.Buffering.{HasNoEnd};
 ghost use Rattle.cm_keys.specs.Lines.{lines_of};
-ghost use Rattle.cm_keys.specs.LinePass.{IsDone, IsFull, IsNextLine, IsOpen, NoneAtHand, keys_of, new_pass};
+ghost use Rattle.cm_keys.specs.NumberingLaws.{IsWithin};
+ghost use Rattle.cm_keys.specs.declared.buffered.TheConstants.{ROOM};
+ghost use Rattle.cm_keys.specs.LinePass.{IsAtHand, IsDone, IsFull, IsNearEnd, IsNextLine, IsOpen, NoneAtHand, keys_of, new_pass};
 
-use crate::buffered::{Buffered, Line};
+use crate::buffered::{Buffered, Line, ROOM};
 use cm_outer::{Failed, KeyBuf, KeyFault, KeyPass, MAX_KEY_LEN, MAX_KEYS, Source};
 use std::marker::Model;
 
@@ -98,6 +101,21 @@ fn may_give(first: Option<u32>, given: u32) -> bool
     given < MAX_KEYS && is_open(first, given)
 }
 
+/// Whether as many further lines as can wait may be keys.
+fn may_give_many(first: Option<u32>, given: u32) -> bool
+    requires few { given ≤ MAX_KEYS }
+    ensures within { result ≡ true → IsWithin first (given + ROOM) }
+    ensures few { result ≡ true → given + ROOM ≤ MAX_KEYS }
+    ensures none { result ≡ false → IsNearEnd MAX_KEYS ROOM first given }
+{
+    let most = given + ROOM as u32;
+    let within = match first {
+        None => true,
+        Some(first) => most <= first,
+    };
+    within && most <= MAX_KEYS
+}
+
 impl<S: Source> KeyPass for Keys<S> {
     ghost use Rattle.cm_keys.specs.declared.keys.TheConstants.{LINE_END};
     ghost use Rattle.cm_outer.specs.declared.key_pass.TheConstants.{MAX_KEYS, MAX_KEY_LEN};
@@ -111,6 +129,8 @@ impl<S: Source> KeyPass for Keys<S> {
     ghost usable = { λ k. k.usable };
 
     ghost faults = { λ k. k.faults };
+
+    ghost stands = { λ k key. IsAtHand MAX_KEYS MAX_KEY_LEN LINE_END k key };
 
     fn usable(&self) -> bool {
         self.usable
@@ -177,6 +197,7 @@ impl<S: Source> KeyPass for Keys<S> {
         ensures gives { IfSome result (λ key. ForSome (keys_of MAX_KEYS MAX_KEY_LEN LINE_END self.now) (λ told.
             GivesKey told self.now.given (self.now.given + 1) key.0 key.1.now (Ok true))) }
         ensures short { IfSome result (λ key. length key.1.now ≤ MAX_KEY_LEN) }
+        ensures stands { IfSome result (λ key. IsAtHand MAX_KEYS MAX_KEY_LEN LINE_END self.now key.1.now) }
 
         // A line that waits whole is at hand.
         ensures none { IfNone result (NoneAtHand MAX_KEYS LINE_END self.now) }
@@ -190,31 +211,53 @@ impl<S: Source> KeyPass for Keys<S> {
         }
     }
 
-    fn skip(&mut self) -> bool
+    fn pass(&mut self, len: usize)
         requires usable { IsTrue self.old.usable }
+        requires stands { (key : List ℕ) × IsAtHand MAX_KEYS MAX_KEY_LEN LINE_END self.old key × (length key ≡ len) }
         ensures told { keys_of MAX_KEYS MAX_KEY_LEN LINE_END self.new ≡ keys_of MAX_KEYS MAX_KEY_LEN LINE_END self.old }
-        ensures gives { result ≡ true → ForSome (keys_of MAX_KEYS MAX_KEY_LEN LINE_END self.old) (λ told. (key : List ℕ)
-            × GivesKey told self.old.given self.new.given self.new.given key (Ok true)) }
+        ensures gives { (key : List ℕ) → IsAtHand MAX_KEYS MAX_KEY_LEN LINE_END self.old key → length key ≡ len → ForSome (keys_of MAX_KEYS MAX_KEY_LEN LINE_END self.old) (λ told.
+            GivesKey told self.old.given self.new.given self.new.given key (Ok true)) }
         ensures cause { self.new.faults ≡ self.old.faults }
-        ensures counts { self.new.given ≡ self.old.given + (if result then 1 else 0) }
-        ensures few { result ≡ true → self.new.given ≤ MAX_KEYS }
-        ensures rises { result ≡ true → self.old.given < self.new.given }
+        ensures counts { self.new.given ≡ self.old.given + 1 }
+        ensures few { self.new.given ≤ MAX_KEYS }
+        ensures rises { self.old.given < self.new.given }
         ensures usable { self.new.usable ≡ true }
-        ensures unchanged { result ≡ false → self.new ≡ self.old }
-
-        // A line that waits whole is passed.
-        ensures none { result ≡ false → NoneAtHand MAX_KEYS LINE_END self.old }
 
         // The source goes on telling the same, the lines that are looked at stay as many, and the end is not looked for.
         ensures bytes { self.new.bytes ≡ self.old.bytes }
         ensures first { self.new.first ≡ self.old.first }
         ensures ended { self.new.ended ≡ self.old.ended }
     {
-        if !may_give(self.first, self.given) || !self.bytes.skip_line(LINE_END) {
-            return false;
-        }
+        self.bytes.pass_line(len);
         self.given += 1;
-        true
+    }
+
+    fn skip(&mut self) -> u32
+        requires usable { IsTrue self.old.usable }
+        ensures told { keys_of MAX_KEYS MAX_KEY_LEN LINE_END self.new ≡ keys_of MAX_KEYS MAX_KEY_LEN LINE_END self.old }
+        ensures gives { 0 < result → ForSome (keys_of MAX_KEYS MAX_KEY_LEN LINE_END self.old) (λ told. PassesKeys told self.new.given self.new.given) }
+        ensures cause { self.new.faults ≡ self.old.faults }
+        ensures counts { self.new.given ≡ self.old.given + result }
+        ensures few { 0 < result → self.new.given ≤ MAX_KEYS }
+        ensures rises { 0 < result → self.old.given < self.new.given }
+        ensures usable { self.new.usable ≡ true }
+        ensures unchanged { result ≡ 0 → self.new ≡ self.old }
+
+        // All lines that wait whole are passed, but near the last line that is looked at and near the most keys.
+        ensures all { 0 < result → HasNoEnd LINE_END self.new.waiting }
+        ensures none { result ≡ 0 → IsNearEnd MAX_KEYS ROOM self.old.first self.old.given ⊎ HasNoEnd LINE_END self.old.waiting }
+
+        // The source goes on telling the same, the lines that are looked at stay as many, and the end is not looked for.
+        ensures bytes { self.new.bytes ≡ self.old.bytes }
+        ensures first { self.new.first ≡ self.old.first }
+        ensures ended { self.new.ended ≡ self.old.ended }
+    {
+        if !may_give_many(self.first, self.given) {
+            return 0;
+        }
+        let count = self.bytes.skip_lines(LINE_END);
+        self.given += count;
+        count
     }
 
     fn rewind(&mut self) -> Result<(), KeyFault>

@@ -46,7 +46,10 @@ fn ready<P: KeyPass>(keys: &mut P, key: &mut KeyBuf) -> bool {
         return false;
     };
     key.clear();
-    key.try_extend_from_slice(bytes).is_ok() && keys.skip()
+    let len = bytes.len();
+    let fits = key.try_extend_from_slice(bytes).is_ok();
+    keys.pass(len);
+    fits
 }
 
 /// How many keys were at hand, one after another.
@@ -57,6 +60,11 @@ fn count_ready<P: KeyPass>(keys: &mut P, key: &mut KeyBuf) -> u32 {
         }
     }
     MAX_KEYS
+}
+
+/// How many keys were skipped.
+fn skip<P: KeyPass>(keys: &mut P) -> u32 {
+    if keys.usable() { keys.skip() } else { 0 }
 }
 
 fn lines<S: Source>(source: S, first: Option<u32>) -> Keys<S>
@@ -142,6 +150,35 @@ fn lines_at_hand(rt: HostRuntime) -> Result<(), Fail> {
     assert_eq!(rt; step(&mut keys, &mut key), Answer::Key(1));
     assert!(rt; ready(&mut keys, &mut key));
     assert!(rt; !ready(&mut keys, &mut key));
+    assert_eq!(rt; step(&mut keys, &mut key), Answer::End);
+    let _source = source_of(keys);
+    Ok(())
+}
+
+#[test]
+fn skipped_lines(rt: HostRuntime) -> Result<(), Fail> {
+    let alloc = rt.alloc();
+    let mut key = KeyBuf::new();
+    let mut keys = lines(plain(alloc, b"a\nbc\n\nd")?, None);
+    assert_eq!(rt; skip(&mut keys), 0);
+    assert_eq!(rt; step(&mut keys, &mut key), Answer::Key(1));
+    assert_eq!(rt; skip(&mut keys), 2);
+    assert_eq!(rt; skip(&mut keys), 0);
+    assert_eq!(rt; step(&mut keys, &mut key), Answer::Key(4));
+    assert_eq!(rt; key.as_slice(), b"d".as_slice());
+    assert_eq!(rt; skip(&mut keys), 0);
+    assert_eq!(rt; step(&mut keys, &mut key), Answer::End);
+    assert_eq!(rt; count(&mut keys, &mut key), Ok(4));
+    let _source = source_of(keys);
+    // Near the last line that is looked at none is skipped.
+    let mut keys = lines(plain(alloc, b"a\nb\nc\n")?, Some(65_536));
+    assert_eq!(rt; step(&mut keys, &mut key), Answer::Key(1));
+    assert_eq!(rt; skip(&mut keys), 0);
+    assert_eq!(rt; step(&mut keys, &mut key), Answer::Key(2));
+    let _source = source_of(keys);
+    let mut keys = lines(plain(alloc, b"a\nb\nc\n")?, Some(65_537));
+    assert_eq!(rt; step(&mut keys, &mut key), Answer::Key(1));
+    assert_eq!(rt; skip(&mut keys), 2);
     assert_eq!(rt; step(&mut keys, &mut key), Answer::End);
     let _source = source_of(keys);
     Ok(())

@@ -1,5 +1,5 @@
 -- What a pass over keys gives.
-use Rattle.std.specs.Prelude.{◌≡◌, ◌≤◌, ℕ, List, length, Option, None, Some, Result, Ok, Err, Bool, true, false, [], ◌∷◌, drop}
+use Rattle.std.specs.Prelude.{◌≡◌, ◌≤◌, ◌-◌, ℕ, List, length, Option, None, Some, Result, Ok, Err, Bool, true, false, [], ◌∷◌, drop, slice_index_or}
 use Rattle.cm_outer.specs.Causes.{Rose}
 use Rattle.cm_outer.specs.declared.key_pass.KeyFault.{KeyFault}
 use Rattle.cm_outer.specs.declared.key_pass.KeyFault.TheVariants.{Read, TooLong, TooMany}
@@ -29,3 +29,7 @@ GivesKey told before now line key (Ok false) = Ends told before None
 GivesKey told before now line key (Err Read) = Unit {0}
 GivesKey told before now line key (Err (TooLong at)) = Ends told before (Some (TooLong at))
 GivesKey told before now line key (Err TooMany) = Ends told before (Some TooMany)
+
+-- So many of the told keys have passed, the last of them of this line.
+abbrev pub PassesKeys : Told → ℕ → ℕ → Type 0
+PassesKeys told now line = (now ≤ length told.keys) × ((d : ℕ × List ℕ) → (slice_index_or told.keys (now - 1) d).0 ≡ line)

@@ -1,6 +1,6 @@
 ghost use Rattle.std.specs.Prelude.{◌≡◌, ◌<◌, ◌≤◌, ◌+◌, ℕ, List, length, Option, Ok, Bool, true, false, OnOk, OnErr, IfOk, IfSome, IsTrue, IsOkUnless, if◌then◌else◌};
 ghost use Rattle.std.specs.Option.{ForSome};
-ghost use Rattle.cm_outer.specs.Passes.{Told, HasKeyCause, GivesKey};
+ghost use Rattle.cm_outer.specs.Passes.{Told, HasKeyCause, GivesKey, PassesKeys};
 
 use arrayvec::ArrayVec;
 use thiserror::Error;
@@ -45,6 +45,9 @@ pub trait KeyPass {
     /// How often what it reads from has failed.
     ghost faults: { Self → ℕ };
 
+    /// The next key is at hand, and has these bytes.
+    ghost stands: { Self → List ℕ → Type 0 };
+
     /// False from a call that refused until a rewind that doesn't.
     fn usable(&self) -> bool
         ensures usable { result ≡ usable self.now };
@@ -75,25 +78,39 @@ pub trait KeyPass {
         ensures gives { IfSome result (λ key. ForSome (told self.now) (λ told.
             GivesKey told (place self.now) (place self.now + 1) key.0 key.1.now (Ok true))) }
         ensures short { IfSome result (λ key. length key.1.now ≤ MAX_KEY_LEN) }
+        ensures stands { IfSome result (λ key. stands self.now key.1.now) }
     {
         None
     }
 
-    /// Passes the next key without giving it and answers true, where it is at hand, so that no read can fail: it does then what
-    /// `next` does that answers true. Answers false at the end, and may do so at any time: nothing has changed then, and `next` tells.
-    fn skip(&mut self) -> bool
+    /// Passes the next key without giving it, where it is at hand, as `peek` tells, and has so many bytes. No read can fail then,
+    /// and it does what `next` does that answers true.
+    fn pass(&mut self, len: usize)
+        requires usable { IsTrue (usable self.old) }
+        requires stands { (key : List ℕ) × stands self.old key × (length key ≡ len) }
+        ensures told { told self.new ≡ told self.old }
+        ensures gives { (key : List ℕ) → stands self.old key → length key ≡ len → ForSome (told self.old) (λ told.
+            GivesKey told (place self.old) (place self.new) (last self.new) key (Ok true)) }
+        ensures cause { faults self.new ≡ faults self.old }
+        ensures counts { place self.new ≡ place self.old + 1 }
+        ensures few { place self.new ≤ MAX_KEYS }
+        ensures rises { last self.old < last self.new }
+        ensures usable { usable self.new ≡ true };
+
+    /// Passes some of the next keys without giving them, where they are at hand, and answers how many. 0 says nothing of what
+    /// comes: nothing has changed then, and `next` tells.
+    fn skip(&mut self) -> u32
         requires usable { IsTrue (usable self.old) }
         ensures told { told self.new ≡ told self.old }
-        ensures gives { result ≡ true → ForSome (told self.old) (λ told. (key : List ℕ)
-            × GivesKey told (place self.old) (place self.new) (last self.new) key (Ok true)) }
+        ensures gives { 0 < result → ForSome (told self.old) (λ told. PassesKeys told (place self.new) (last self.new)) }
         ensures cause { faults self.new ≡ faults self.old }
-        ensures counts { place self.new ≡ place self.old + (if result then 1 else 0) }
-        ensures few { result ≡ true → place self.new ≤ MAX_KEYS }
-        ensures rises { result ≡ true → last self.old < last self.new }
+        ensures counts { place self.new ≡ place self.old + result }
+        ensures few { 0 < result → place self.new ≤ MAX_KEYS }
+        ensures rises { 0 < result → last self.old < last self.new }
         ensures usable { usable self.new ≡ true }
-        ensures unchanged { result ≡ false → self.new ≡ self.old }
+        ensures unchanged { result ≡ 0 → self.new ≡ self.old }
     {
-        false
+        0
     }
 
     /// Goes back to the start. Refuses with `Read` alone, exactly where the count of faults rises.
