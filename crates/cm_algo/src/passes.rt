@@ -24,15 +24,20 @@ pub(crate) fn count_all<P: KeyPass>(keys: &mut P) -> Result<u32, KeyFault>
 {
     keys.rewind()?;
     let mut key = KeyBuf::new();
-    for count in 0..MAX_KEYS + 1 {
-        if !keys.skip() && !keys.next(&mut key)? {
+    let mut count = 0;
+    // Each turn but the last has a key at least.
+    for turn in 0..MAX_KEYS + 1 {
+        count += keys.skip();
+        if !keys.next(&mut key)? {
             return Ok(count);
         }
+        count += 1;
     }
     unreachable!()
 }
 
 /// The words of the next key under a seed, where it is at hand: it is hashed where it stands. Where there is none, nothing changes.
+#[inline]
 fn words_at_hand<P: KeyPass>(keys: &mut P, seed: u32) -> Option<[u32; 3]>
     requires usable { IsTrue (P.usable keys.old) }
     ensures told { P.told keys.new ≡ P.told keys.old }
@@ -42,13 +47,11 @@ fn words_at_hand<P: KeyPass>(keys: &mut P, seed: u32) -> Option<[u32; 3]>
     ensures usable { P.usable keys.new ≡ true }
     ensures unchanged { IfNone result (keys.new ≡ keys.old) }
 {
-    let hashed = match keys.peek() {
-        Some((_, key)) => words(key, seed),
+    let (hashed, len) = match keys.peek() {
+        Some((_, key)) => (words(key, seed), key.len()),
         None => return None,
     };
-    if !keys.skip() {
-        return None;
-    }
+    keys.pass(len);
     Some(hashed)
 }
 
