@@ -91,13 +91,6 @@ impl Taken {
         });
     }
 
-    /// Forgets the key that was added last.
-    fn forget_last(&mut self)
-        ensures spots { self.new.spots ≡ take (length self.old.spots - 1) self.old.spots }
-    {
-        self.spots.truncate(self.spots.len().saturating_sub(1));
-    }
-
     /// Takes the next key of a pass, where it is at hand. Where it isn't, the keys and the pass stay as they are.
     fn take_next<A: Answers, P: KeyPass>(&mut self, function: &A, keys: &mut P) -> bool
         requires usable { IsTrue (P.usable keys.old) }
@@ -117,11 +110,9 @@ impl Taken {
             Some(next) => next,
             None => return false,
         };
+        let len = key.len();
         self.add(line, key, function.place(key));
-        if !keys.skip() {
-            self.forget_last();
-            return false;
-        }
+        keys.pass(len);
         true
     }
 

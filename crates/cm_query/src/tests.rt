@@ -60,6 +60,8 @@ impl KeyPass for Listed<'_> {
 
     ghost faults = { λ p. p.faults };
 
+    ghost stands = { λ p _. p.given < 16777216 };
+
     fn usable(&self) -> bool {
         self.usable
     }
@@ -97,13 +99,9 @@ impl KeyPass for Listed<'_> {
         Some((self.given + 1, key))
     }
 
-    fn skip(&mut self) -> bool {
-        if self.ready == 0 || self.given as usize >= self.keys.len() || self.given == MAX_KEYS {
-            return false;
-        }
+    fn pass(&mut self, _len: usize) {
         self.given += 1;
-        self.ready -= 1;
-        true
+        self.ready = self.ready.saturating_sub(1);
     }
 
     fn rewind(&mut self) -> Result<(), KeyFault> {

@@ -51,6 +51,8 @@ impl KeyPass for Changing<'_> {
 
     ghost faults = { λ p. p.faults };
 
+    ghost stands = { λ _ _. ⊥ };
+
     fn usable(&self) -> bool {
         self.usable
     }
@@ -68,6 +70,10 @@ impl KeyPass for Changing<'_> {
             }
             None => Ok(false),
         }
+    }
+
+    fn pass(&mut self, _len: usize) {
+        unreachable!()
     }
 
     fn rewind(&mut self) -> Result<(), KeyFault> {
