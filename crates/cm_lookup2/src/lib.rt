@@ -1,7 +1,7 @@
 //! lookup2, the hash function of Bob Jenkins (1997): three words of 32 bits for a key and a seed.
 #![tactic(auto)]
 
-ghost use Rattle.std.specs.Prelude.{◌≡◌, ◌+◌, ◌*◌, ◌/◌, ◌%◌, ◌^◌, ◌<◌, ◌≤◌, length, slice_index};
+ghost use Rattle.std.specs.Prelude.{◌≡◌, ◌+◌, ◌*◌, ◌/◌, ◌%◌, ◌^◌, ◌-◌, ◌<◌, ◌≤◌, length, drop, slice_index};
 ghost use Rattle.cm_spec.specs.Lookup2.{right_line, left_line, three_lines, mix as mixed, word_at, absorb as absorbed, finish as finished, words as words_of};
 
 use std::marker::Model;
@@ -103,7 +103,7 @@ fn absorb(s: Mixing, block: &[u8]) -> Mixing
     })
 }
 
-/// What the words of the state take in of the rest of a key.
+/// What the words of the state take in of the rest of a key. The lowest byte of the third is left to the length of the key.
 #[derive(Clone, Copy)]
 struct Tail {
     a: u32,
@@ -111,62 +111,76 @@ struct Tail {
     c: u32,
 }
 
-/// The words of the rest of a key. The lowest byte of the third is left to the length of the key.
+/// The word of the four bytes from `i` on.
 #[inline(always)]
-fn read_tail(rest: &[u8]) -> Tail
+fn four_at(bytes: &[u8], i: usize) -> u32
+    requires { i + 4 ≤ length bytes.now }
+    ensures { result ≡ word_at bytes.now i }
+{
+    word(&bytes[i..i + 4], 0)
+}
+
+/// The last `n` of the four bytes from `i` on, as a word.
+#[inline(always)]
+fn last_of_four(bytes: &[u8], i: usize, n: usize) -> u32
+    requires within { i + 4 ≤ length bytes.now }
+    requires few { n ≤ 4 }
+    ensures { result ≡ word_at bytes.now i / 2 ^ (8 * (4 - n)) }
+{
+    (u64::from(four_at(bytes, i)) >> (8 * (4 - n))) as u32
+}
+
+/// The words of a rest of 4 to 11 bytes. Each comes from four bytes that are there, without a jump that depends on their number.
+#[inline(always)]
+fn long_tail(rest: &[u8]) -> Tail
+    requires { (4 ≤ length rest.now) × (length rest.now < 12) }
     ensures a { result.a ≡ word_at rest.now 0 }
     ensures b { result.b ≡ word_at rest.now 4 }
     ensures c { result.c ≡ 256 * slice_index rest.now 8 + 65536 * slice_index rest.now 9 + 16777216 * slice_index rest.now 10 }
 {
+    let n = rest.len();
+    let second = (n - 4).min(4);
+    let third = n.saturating_sub(8);
     Tail {
-        a: word(rest, 0),
-        b: word(rest, 4),
-        c: 256 * byte_at(rest, 8) + 65536 * byte_at(rest, 9) + 16_777_216 * byte_at(rest, 10),
+        a: four_at(rest, 0),
+        b: last_of_four(rest, second, second),
+        c: 256 * last_of_four(rest, n - 4, third),
     }
 }
 
-/// The same of `N` bytes: with their number known, it isn't asked for each byte.
+/// The words of the rest of a key, which is what is left of it after its blocks of 12 bytes.
 #[inline(always)]
-fn tail_of<const N: usize>(rest: &[u8]) -> Tail
-    requires { length rest.now ≡ N }
+fn tail_of(key: &[u8], rest: &[u8]) -> Tail
+    requires { rest.now ≡ drop (length key.now / 12 * 12) key.now }
     ensures a { result.a ≡ word_at rest.now 0 }
     ensures b { result.b ≡ word_at rest.now 4 }
     ensures c { result.c ≡ 256 * slice_index rest.now 8 + 65536 * slice_index rest.now 9 + 16777216 * slice_index rest.now 10 }
 {
-    read_tail(&rest[..N])
-}
-
-/// The same of any number of bytes, with one jump for it in place of a guess for each byte.
-#[inline]
-fn tail_by_length(rest: &[u8]) -> Tail
-    ensures a { result.a ≡ word_at rest.now 0 }
-    ensures b { result.b ≡ word_at rest.now 4 }
-    ensures c { result.c ≡ 256 * slice_index rest.now 8 + 65536 * slice_index rest.now 9 + 16777216 * slice_index rest.now 10 }
-{
-    match rest.len() {
-        1 => tail_of::<1>(rest),
-        2 => tail_of::<2>(rest),
-        3 => tail_of::<3>(rest),
-        4 => tail_of::<4>(rest),
-        5 => tail_of::<5>(rest),
-        6 => tail_of::<6>(rest),
-        7 => tail_of::<7>(rest),
-        8 => tail_of::<8>(rest),
-        9 => tail_of::<9>(rest),
-        10 => tail_of::<10>(rest),
-        11 => tail_of::<11>(rest),
-        _ => read_tail(rest),
+    let n = rest.len();
+    if n >= 4 {
+        return long_tail(rest);
+    }
+    let last = if key.len() < 12 {
+        word(rest, 0)
+    } else {
+        last_of_four(key, key.len() - 4, n)
+    };
+    Tail {
+        a: last,
+        b: 0,
+        c: 0,
     }
 }
 
-/// Takes in the rest of a key of `len` bytes, which is below 12 bytes long.
-#[inline]
+/// Takes in the rest of a key.
+#[inline(always)]
 #[tactic(auto, unfolding(cm_spec::specs::Lookup2::finish))]
-fn finish(rest: &[u8], len: usize, s: Mixing) -> Mixing
-    ensures { result ≡ finished rest.now len s }
+fn finish(key: &[u8], rest: &[u8], s: Mixing) -> Mixing
+    requires { rest.now ≡ drop (length key.now / 12 * 12) key.now }
+    ensures { result ≡ finished rest.now (length key.now) s }
 {
-    let low = (len % 0x1_0000_0000) as u32;
-    let last = tail_by_length(rest);
+    let low = (key.len() % 0x1_0000_0000) as u32;
+    let last = tail_of(key, rest);
     mix(Mixing {
         a: s.a.wrapping_add(last.a),
         b: s.b.wrapping_add(last.b),
@@ -175,6 +189,7 @@ fn finish(rest: &[u8], len: usize, s: Mixing) -> Mixing
 }
 
 /// The three words of a key under a seed, for any key and any seed.
+#[inline(always)]
 #[tactic(auto, unfolding(cm_spec::specs::Lookup2::words))]
 pub fn words(key: &[u8], seed: u32) -> [u32; 3]
     ensures words { result ≡ words_of key.now seed }
@@ -188,7 +203,7 @@ pub fn words(key: &[u8], seed: u32) -> [u32; 3]
     for block in blocks {
         s = absorb(s, block);
     }
-    let s = finish(rest, key.len(), s);
+    let s = finish(key, rest, s);
     [s.a, s.b, s.c]
 }
 

@@ -1,4 +1,4 @@
-ghost use Rattle.std.specs.Prelude.{◌≤◌, None};
+ghost use Rattle.std.specs.Prelude.{◌<◌, ◌≤◌, None};
 
 use crate::{QueryFault, Tally, front_of_text, noted_exactly, query, worked_rows};
 use cm_algo::{Answers, Place};
