@@ -8,6 +8,7 @@ ghost use Rattle.cm_spec.specs.Rule.{IsCount, IsSize};
 ghost use Rattle.cm_algo.specs.Fails.{HasBuildCause, IsToldFault, FailsPass, HasChanged};
 ghost use Rattle.cm_algo.specs.Hashed.{GivesWords};
 
+use crate::divisor::Divisor;
 use crate::fault::BuildFault;
 use crate::scheme::Scheme;
 use cm_graph::Edges;
@@ -83,19 +84,21 @@ fn next_words<P: KeyPass>(
 /// Adds the edge of a key by its words, and its tag where tags are kept.
 fn add_key<S: Scheme<K>, const K: usize>(
     scheme: &S,
+    divisor: &Divisor,
     hashed: [u32; 3],
     edges: &mut Edges<K>,
     tags: &mut Vec<u32>,
 ) -> Result<(), BuildFault>
     requires room { length edges.old.edges < 67108864 }
     requires size { IsSize (S.rule scheme.now) edges.old.vertices }
+    requires divisor { divisor.now ≡ S.divisor_of scheme.now edges.old.vertices }
     ensures memory { IfErr result (λ e. e ≡ BuildFault.Memory) }
     ensures vertices { edges.new.vertices ≡ edges.old.vertices }
     ensures edges { OnOk result (edges.new.edges ≡ edges.old.edges ++ (S.rule scheme.now).edge hashed edges.old.vertices ∷ []) }
     ensures tags { OnOk result (S.KEEPS_TAGS ≡ true → tags.new.items ≡ tags.old.items ++ (S.rule scheme.now).tag hashed ∷ []) }
     ensures untagged { S.KEEPS_TAGS ≡ false → tags.new.items ≡ tags.old.items }
 {
-    edges.push(scheme.edge(hashed, edges.vertices()))?;
+    edges.push(scheme.edge(hashed, edges.vertices(), divisor))?;
     if S::KEEPS_TAGS {
         tags.push(scheme.tag(hashed))?;
     }
@@ -126,6 +129,7 @@ pub(crate) fn hash_all<S: Scheme<K>, P: KeyPass, const K: usize>(
     ensures fault { IfErr result (λ e. ForSome (P.told keys.old) (λ told. FailsPass told m e)) }
 {
     keys.rewind()?;
+    let divisor = scheme.divisor(edges.vertices());
     let mut key = KeyBuf::new();
     for count in 0..m + 1 {
         match next_words(keys, &mut key, seed) {
@@ -136,7 +140,7 @@ pub(crate) fn hash_all<S: Scheme<K>, P: KeyPass, const K: usize>(
                         now: m + 1,
                     });
                 }
-                add_key(scheme, hashed, edges, tags)?;
+                add_key(scheme, &divisor, hashed, edges, tags)?;
             }
             Ok(None) => {
                 if count < m {

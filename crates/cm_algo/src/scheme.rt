@@ -2,6 +2,7 @@
 ghost use Rattle.std.specs.Prelude.{◌≡◌, ℕ, ◌+◌, ◌-◌, ◌*◌, ◌/◌, ◌%◌, ◌^◌, ◌<◌, ◌≤◌, Bool, false, List, length};
 ghost use Rattle.cm_spec.specs.Rule.{Rule, IsRule, IsCount, IsRatio, IsSize};
 
+use crate::divisor::Divisor;
 use cm_bits::Cells;
 
 /// An algorithm: from the words of a key to an edge with `K` ends, and from the number of a key to what its cells add up to.
@@ -11,6 +12,9 @@ pub trait Scheme<const K: usize> {
 
     /// All that the methods compute.
     ghost rule: { Self → Rule };
+
+    /// What the ends over so many vertices are remainders by.
+    ghost divisor_of: { Self → ℕ → ℕ };
 
     ghost KEEPS_TAGS: { Bool };
 
@@ -23,9 +27,15 @@ pub trait Scheme<const K: usize> {
         requires ratio { IsRatio c }
         ensures size { result ≡ (rule self.now).size m c };
 
-    /// The ends of a key over `n` vertices, from its three words.
-    fn edge(&self, words: [u32; 3], n: u32) -> [u32; K]
+    /// What the ends over `n` vertices are remainders by. It is taken once for many keys.
+    fn divisor(&self, n: u32) -> Divisor
         requires size { IsSize (rule self.now) n }
+        ensures divisor { result ≡ divisor_of self.now n };
+
+    /// The ends of a key over `n` vertices, from its three words, with the divisor of these vertices.
+    fn edge(&self, words: [u32; 3], n: u32, divisor: &Divisor) -> [u32; K]
+        requires size { IsSize (rule self.now) n }
+        requires divisor { divisor.now ≡ divisor_of self.now n }
         ensures edge { result ≡ (rule self.now).edge words n };
 
     /// What is kept of a key's words until the cells are set; 0 where nothing is.

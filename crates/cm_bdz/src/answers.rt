@@ -2,20 +2,22 @@
 ghost use Rattle.std.specs.Prelude.{ℕ, List, Option, Some, length};
 ghost use Rattle.cm_bdz.specs.Functions.{bdz_answer, bdz_ph_answer};
 ghost use Rattle.cm_spec.specs.Bdz.{bdz_edge};
-ghost use Rattle.cm_spec.specs.Lookup2.{words};
+ghost use Rattle.cm_spec.specs.Lookup2 as lookup2;
 
 use crate::bdz::Bdz;
 use crate::bdz_ph::BdzPh;
-use crate::choice::{chosen_among, ends_of};
+use crate::choice::chosen_among;
+use crate::scheme::triple;
 use cm_algo::{Answers, Place};
 use cm_bits::Cells;
+use cm_lookup2::words;
 
 /// A key that the function was built over gets a number below the number of keys, and no other of these keys the same. Another
 /// key gets any number, or none.
 impl Answers for Bdz {
     ghost span_of = { λ f. f.keys };
 
-    ghost place_of = { λ f key. bdz_edge (words key f.seed) (length f.cells) };
+    ghost place_of = { λ f key. bdz_edge (lookup2.words key f.seed) (length f.cells) };
 
     ghost answer_of = { λ f key. bdz_answer f key };
 
@@ -24,7 +26,7 @@ impl Answers for Bdz {
     }
 
     fn place(&self, key: &[u8]) -> Place {
-        ends_of(self.cells(), key, self.seed())
+        triple(words(key, self.seed()), self.third())
     }
 
     fn answer_at(&self, place: &Place) -> Option<u32> {
@@ -42,7 +44,7 @@ impl Answers for Bdz {
 impl Answers for BdzPh {
     ghost span_of = { λ f. length f.cells };
 
-    ghost place_of = { λ f key. bdz_edge (words key f.seed) (length f.cells) };
+    ghost place_of = { λ f key. bdz_edge (lookup2.words key f.seed) (length f.cells) };
 
     ghost answer_of = { λ f key. Some (bdz_ph_answer f key) };
 
@@ -51,7 +53,7 @@ impl Answers for BdzPh {
     }
 
     fn place(&self, key: &[u8]) -> Place {
-        ends_of(self.cells(), key, self.seed())
+        triple(words(key, self.seed()), self.third())
     }
 
     fn answer_at(&self, place: &Place) -> Option<u32> {

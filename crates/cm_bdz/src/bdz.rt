@@ -1,5 +1,5 @@
 //! Functions by BDZ.
-ghost use Rattle.std.specs.Prelude.{◌≡◌, ◌≢◌, ℕ, ◌<◌, ◌≤◌, length, count_by, IfOk, IfErr, OnErr, Err};
+ghost use Rattle.std.specs.Prelude.{◌≡◌, ◌≢◌, ℕ, ◌*◌, ◌^◌, ◌<◌, ◌≤◌, length, count_by, IfOk, IfErr, OnErr, Err};
 ghost use Rattle.cm_bdz.specs.Functions.{IsThirds};
 ghost use Rattle.cm_rank.specs.Ranks.{StandsFor};
 ghost use Rattle.cm_spec.specs.Bdz.{bdz_size, bdz_rule};
@@ -7,7 +7,7 @@ ghost use Rattle.cm_spec.specs.Cells.{is_busy};
 ghost use Rattle.cm_spec.specs.Rule.{IsRatio, IsSize};
 ghost use Rattle.cm_bdz.specs.declared.bdz.PartsFault.{PartsFault};
 
-use cm_algo::Built;
+use cm_algo::{Built, Divisor};
 use cm_bits::{Cells, Crumbs};
 use cm_rank::{Counted, RankTable};
 use std::alloc::Global;
@@ -27,12 +27,14 @@ pub enum PartsFault {
 #[derive(Drop)]
 pub struct Bdz {
     built: Built<Crumbs>,
+    // A third of the number of vertices, to take remainders by.
+    third: Divisor,
     ranks: RankTable,
     b: u8,
 }
 
 impl Model for Bdz {
-    ghost use Rattle.std.specs.Prelude.{◌≡◌, ◌≤◌, count_by, length};
+    ghost use Rattle.std.specs.Prelude.{◌≡◌, ◌≤◌, ◌/◌, count_by, length};
     ghost use Rattle.cm_bdz.specs.Functions.{Bdz};
     ghost use Rattle.cm_rank.specs.Ranks.{StandsFor};
     ghost use Rattle.cm_spec.specs.Bdz.{bdz_size};
@@ -47,6 +49,7 @@ impl Model for Bdz {
       many : (1 ≤ f.built.m) × (f.built.m ≤ 16777216);
       ratio : IsRatio f.built.c;
       size : length (⟦<Crumbs as Cells>⟧.cells f.built.cells) ≡ bdz_size f.built.m f.built.c;
+      third : f.third ≡ length (⟦<Crumbs as Cells>⟧.cells f.built.cells) / 3;
       idle : f.ranks.idle ≡ 3;
       b : (3 ≤ f.b) × (f.b ≤ 10);
       shift : f.ranks.shift ≡ f.b;
@@ -82,8 +85,14 @@ impl Bdz {
         if count_busy(&built.cells) != built.m {
             return Err(PartsFault::BadCount);
         }
+        let third = Divisor::new(built.cells.len() / 3);
         match RankTable::build(alloc, &built.cells, 3, b) {
-            Ok(ranks) => Ok(Bdz { built, ranks, b }),
+            Ok(ranks) => Ok(Bdz {
+                built,
+                third,
+                ranks,
+                b,
+            }),
             Err(_) => Err(PartsFault::Memory),
         }
     }
@@ -136,5 +145,13 @@ impl Bdz {
         ensures stands { StandsFor result.now self.now.cells }
     {
         &self.ranks
+    }
+
+    /// A third of its number of vertices, to take remainders by.
+    pub(crate) fn third(&self) -> &Divisor
+        ensures third { length self.now.cells ≡ 3 * result.now }
+        ensures room { 3 * result.now < 2 ^ 32 }
+    {
+        &self.third
     }
 }

@@ -1,11 +1,11 @@
 //! Functions by BDZ_PH.
-ghost use Rattle.std.specs.Prelude.{◌≡◌, ℕ, ◌≤◌, length};
+ghost use Rattle.std.specs.Prelude.{◌≡◌, ℕ, ◌*◌, ◌^◌, ◌<◌, ◌≤◌, length};
 ghost use Rattle.cm_bdz.specs.Functions.{IsThirds};
 ghost use Rattle.cm_bits.specs.declared.TheConstants.{MAX_CELLS};
 ghost use Rattle.cm_spec.specs.Bdz.{bdz_size};
 ghost use Rattle.cm_spec.specs.Rule.{IsRatio};
 
-use cm_algo::Built;
+use cm_algo::{Built, Divisor};
 use cm_bits::{Cells, Trits};
 use std::marker::Model;
 
@@ -13,10 +13,12 @@ use std::marker::Model;
 #[derive(Drop)]
 pub struct BdzPh {
     built: Built<Trits>,
+    // A third of the number of vertices, to take remainders by.
+    third: Divisor,
 }
 
 impl Model for BdzPh {
-    ghost use Rattle.std.specs.Prelude.{◌≡◌, ◌≤◌, length};
+    ghost use Rattle.std.specs.Prelude.{◌≡◌, ◌≤◌, ◌/◌, length};
     ghost use Rattle.cm_bdz.specs.Functions.{BdzPh};
     ghost use Rattle.cm_spec.specs.Bdz.{bdz_size};
     ghost use Rattle.cm_spec.specs.Rule.{IsRatio};
@@ -25,7 +27,12 @@ impl Model for BdzPh {
 
     ghost view = { λ f. record { keys = f.built.m; ratio = f.built.c; seed = f.built.seed; cells = ⟦<Trits as Cells>⟧.cells f.built.cells } };
 
-    ghost invariant = { λ f. (1 ≤ f.built.m) × (f.built.m ≤ 16777216) × IsRatio f.built.c × (length (⟦<Trits as Cells>⟧.cells f.built.cells) ≡ bdz_size f.built.m f.built.c) };
+    ghost invariant = { λ f. record {
+      many : (1 ≤ f.built.m) × (f.built.m ≤ 16777216);
+      ratio : IsRatio f.built.c;
+      size : length (⟦<Trits as Cells>⟧.cells f.built.cells) ≡ bdz_size f.built.m f.built.c;
+      third : f.third ≡ length (⟦<Trits as Cells>⟧.cells f.built.cells) / 3;
+    } };
 }
 
 impl BdzPh {
@@ -40,7 +47,8 @@ impl BdzPh {
         ensures seed { result.seed ≡ built.seed }
         ensures cells { result.cells ≡ ⟦<Trits as Cells>⟧.cells built.cells }
     {
-        BdzPh { built }
+        let third = Divisor::new(built.cells.len() / 3);
+        BdzPh { built, third }
     }
 
     /// How many keys the function was built over.
@@ -75,5 +83,13 @@ impl BdzPh {
         ensures few { length self.now.cells ≤ MAX_CELLS }
     {
         &self.built.cells
+    }
+
+    /// A third of its number of vertices, to take remainders by.
+    pub(crate) fn third(&self) -> &Divisor
+        ensures third { length self.now.cells ≡ 3 * result.now }
+        ensures room { 3 * result.now < 2 ^ 32 }
+    {
+        &self.third
     }
 }

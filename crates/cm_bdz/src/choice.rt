@@ -5,15 +5,16 @@ ghost use Rattle.cm_spec.specs.Bdz.{bdz_edge};
 ghost use Rattle.cm_spec.specs.Lookup2 as lookup2;
 
 use crate::scheme::triple;
+use cm_algo::Divisor;
 use cm_bits::Cells;
 use cm_lookup2::words;
 
 /// The three ends of a key. The number of cells is three times a number above 0.
-pub(crate) fn ends_of<C: Cells>(cells: &C, key: &[u8], seed: u32) -> [u32; 3]
+fn ends_of<C: Cells>(cells: &C, key: &[u8], seed: u32) -> [u32; 3]
     requires size { IsThirds (length (C.cells cells.now)) }
     ensures ends { result ≡ bdz_edge (lookup2.words key.now seed) (length (C.cells cells.now)) }
 {
-    triple(words(key, seed), cells.len() / 3)
+    triple(words(key, seed), &Divisor::new(cells.len() / 3))
 }
 
 /// Of three ends the one at the position that their cells add up to, modulo 3. The number of cells is three times a number above

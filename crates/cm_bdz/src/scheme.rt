@@ -4,7 +4,7 @@ ghost use Rattle.cm_bdz.specs.BdzLaws.{bdz_is_rule, bdz_ph_is_rule};
 ghost use Rattle.cm_spec.specs.Bdz.{bdz_edge, bdz_rule, bdz_ph_rule, bdz_size};
 ghost use Rattle.cm_spec.specs.Rule.{IsCount, IsRatio, IsSize};
 
-use cm_algo::Scheme;
+use cm_algo::{Divisor, Scheme};
 use cm_bits::{Crumbs, Trits};
 
 /// The number of vertices for `m` keys and the ratio `c` in millionths: three thirds, each an odd number of at least 3 for one
@@ -20,16 +20,16 @@ fn vertices(m: u32, c: u32) -> u32
     3 * third as u32
 }
 
-/// The ends for the words of a key over three thirds of `third` vertices: one in each.
-pub(crate) fn triple(words: [u32; 3], third: u32) -> [u32; 3]
-    requires some { 0 < third }
-    requires room { 3 * third < 2 ^ 32 }
-    ensures edge { result ≡ bdz_edge words (3 * third) }
+/// The ends for the words of a key over three thirds of the vertices, which have as many as this number: one in each.
+pub(crate) fn triple(words: [u32; 3], third: &Divisor) -> [u32; 3]
+    requires room { 3 * third.now < 2 ^ 32 }
+    ensures edge { result ≡ bdz_edge words (3 * third.now) }
 {
+    let n = third.value();
     [
-        words[0] % third,
-        third + words[1] % third,
-        2 * third + words[2] % third,
+        third.rem(words[0]),
+        n + third.rem(words[1]),
+        2 * n + third.rem(words[2]),
     ]
 }
 
@@ -42,6 +42,8 @@ impl Scheme<3> for BdzScheme {
     type Table = Crumbs;
 
     ghost rule = { λ _. bdz_rule };
+
+    ghost divisor_of = { λ _ n. n / 3 };
 
     ghost KEEPS_TAGS = { false };
 
@@ -57,8 +59,12 @@ impl Scheme<3> for BdzScheme {
         vertices(m, c)
     }
 
-    fn edge(&self, words: [u32; 3], n: u32) -> [u32; 3] {
-        triple(words, n / 3)
+    fn divisor(&self, n: u32) -> Divisor {
+        Divisor::new(n / 3)
+    }
+
+    fn edge(&self, words: [u32; 3], _n: u32, divisor: &Divisor) -> [u32; 3] {
+        triple(words, divisor)
     }
 
     fn tag(&self, _words: [u32; 3]) -> u32 {
@@ -91,6 +97,8 @@ impl Scheme<3> for BdzPhScheme {
 
     ghost rule = { λ _. bdz_ph_rule };
 
+    ghost divisor_of = { λ _ n. n / 3 };
+
     ghost KEEPS_TAGS = { false };
 
     ghost laws = { λ _. bdz_ph_is_rule };
@@ -105,8 +113,12 @@ impl Scheme<3> for BdzPhScheme {
         vertices(m, c)
     }
 
-    fn edge(&self, words: [u32; 3], n: u32) -> [u32; 3] {
-        triple(words, n / 3)
+    fn divisor(&self, n: u32) -> Divisor {
+        Divisor::new(n / 3)
+    }
+
+    fn edge(&self, words: [u32; 3], _n: u32, divisor: &Divisor) -> [u32; 3] {
+        triple(words, divisor)
     }
 
     fn tag(&self, _words: [u32; 3]) -> u32 {

@@ -22,13 +22,14 @@ impl Answers for Chm {
     }
 
     fn place(&self, key: &[u8]) -> Place {
-        let ends = ChmScheme {}.edge(words(key, self.seed()), self.cells().len());
+        let n = self.cells().len();
+        let ends = ChmScheme {}.edge(words(key, self.seed()), n, self.by_vertices());
         [ends[0], ends[1], 0]
     }
 
     fn answer_at(&self, place: &Place) -> Option<u32> {
         let cells = self.cells();
         let sum = cells.get(place[0]) + cells.get(place[1]);
-        Some(sum % self.keys())
+        Some(self.by_keys().rem(sum))
     }
 }

@@ -3,7 +3,7 @@ ghost use Rattle.std.specs.Prelude.{◌≡◌, ℕ, ◌<◌, ◌≤◌, length};
 ghost use Rattle.cm_spec.specs.Chm.{chm_size, chm_rule};
 ghost use Rattle.cm_spec.specs.Rule.{IsRatio, IsSize};
 
-use cm_algo::Built;
+use cm_algo::{Built, Divisor};
 use cm_bits::{Cells, Fields};
 use std::marker::Model;
 
@@ -11,6 +11,9 @@ use std::marker::Model;
 #[derive(Drop)]
 pub struct Chm {
     built: Built<Fields>,
+    // The numbers of keys and of vertices, to take remainders by.
+    keys: Divisor,
+    vertices: Divisor,
 }
 
 impl Model for Chm {
@@ -22,7 +25,14 @@ impl Model for Chm {
 
     ghost view = { λ f. record { keys = f.built.m; ratio = f.built.c; seed = f.built.seed; cells = ⟦<Fields as Cells>⟧.cells f.built.cells } };
 
-    ghost invariant = { λ f. (1 ≤ f.built.m) × (f.built.m ≤ 16777216) × IsRatio f.built.c × (⟦<Fields as Cells>⟧.bound_of f.built.cells ≡ f.built.m) × (length (⟦<Fields as Cells>⟧.cells f.built.cells) ≡ chm_size f.built.m f.built.c) };
+    ghost invariant = { λ f. record {
+      many : (1 ≤ f.built.m) × (f.built.m ≤ 16777216);
+      ratio : IsRatio f.built.c;
+      bound : ⟦<Fields as Cells>⟧.bound_of f.built.cells ≡ f.built.m;
+      size : length (⟦<Fields as Cells>⟧.cells f.built.cells) ≡ chm_size f.built.m f.built.c;
+      keys : f.keys ≡ f.built.m;
+      vertices : f.vertices ≡ length (⟦<Fields as Cells>⟧.cells f.built.cells);
+    } };
 }
 
 impl Chm {
@@ -38,7 +48,13 @@ impl Chm {
         ensures seed { result.seed ≡ built.seed }
         ensures cells { result.cells ≡ ⟦<Fields as Cells>⟧.cells built.cells }
     {
-        Chm { built }
+        let keys = Divisor::new(built.m);
+        let vertices = Divisor::new(built.cells.len());
+        Chm {
+            built,
+            keys,
+            vertices,
+        }
     }
 
     /// How many keys the function was built over.
@@ -72,5 +88,19 @@ impl Chm {
         ensures vertices { IsSize chm_rule (length self.now.cells) }
     {
         &self.built.cells
+    }
+
+    /// Its number of keys, to take remainders by.
+    pub(crate) fn by_keys(&self) -> &Divisor
+        ensures keys { result.now ≡ self.now.keys }
+    {
+        &self.keys
+    }
+
+    /// Its number of vertices, to take remainders by.
+    pub(crate) fn by_vertices(&self) -> &Divisor
+        ensures vertices { result.now ≡ length self.now.cells }
+    {
+        &self.vertices
     }
 }

@@ -3,8 +3,16 @@ ghost use Rattle.std.specs.Prelude.{◌≡◌, ℕ, ◌+◌, ◌-◌, ◌*◌, �
 ghost use Rattle.cm_spec.specs.Chm.{chm_rule};
 ghost use Rattle.cm_chm.specs.ChmLaws.{chm_is_rule};
 
-use cm_algo::Scheme;
+use cm_algo::{Divisor, Scheme};
 use cm_bits::Fields;
+
+/// The vertex after `v`, of `n`: the first one after the last.
+fn next_vertex(v: u32, n: u32) -> u32
+    requires inside { v < n }
+    ensures next { result ≡ (v + 1) % n }
+{
+    if v + 1 == n { 0 } else { v + 1 }
+}
 
 /// Edges of two ends, and cells below the number of keys that add up to the key's number.
 #[derive(Clone, Copy, Drop)]
@@ -14,6 +22,8 @@ impl Scheme<2> for ChmScheme {
     type Table = Fields;
 
     ghost rule = { λ _. chm_rule };
+
+    ghost divisor_of = { λ _ n. n };
 
     ghost KEEPS_TAGS = { false };
 
@@ -30,11 +40,15 @@ impl Scheme<2> for ChmScheme {
         if n < 2 { 2 } else { n as u32 }
     }
 
-    fn edge(&self, words: [u32; 3], n: u32) -> [u32; 2] {
-        let first = words[0] % n;
-        let second = words[1] % n;
+    fn divisor(&self, n: u32) -> Divisor {
+        Divisor::new(n)
+    }
+
+    fn edge(&self, words: [u32; 3], n: u32, divisor: &Divisor) -> [u32; 2] {
+        let first = divisor.rem(words[0]);
+        let second = divisor.rem(words[1]);
         if first == second {
-            [first, (first + 1) % n]
+            [first, next_vertex(first, n)]
         } else {
             [first, second]
         }

@@ -4,7 +4,7 @@ use Rattle.cm_spec.specs.Rule.{IsSize}
 use Rattle.cm_algo.proofs.passes.add_key.Goals as goal
 
 pub edge-requires : goal.edge-requires
-edge-requires g c = (omega (arith, (g.met.S.Scheme.laws c.args.scheme.now).two_or_three.1), subst (λ (n : ℕ). IsSize (g.S.Scheme.rule c.args.scheme.now) n) (sym c.vertices.ensures.count) c.requires.size)
+edge-requires g c = (omega (arith, (g.met.S.Scheme.laws c.args.scheme.now).two_or_three.1), (subst (λ (n : ℕ). IsSize (g.S.Scheme.rule c.args.scheme.now) n) (sym c.vertices.ensures.count) c.requires.size, c.requires.divisor ∙ ap (g.S.Scheme.divisor_of c.args.scheme.now) (sym c.vertices.ensures.count)))
 
 pub push-requires : goal.push-requires
 push-requires g c =

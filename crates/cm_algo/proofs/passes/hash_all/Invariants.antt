@@ -13,6 +13,7 @@ invariant-loop-count g l =
       few : l.count ≤ l.m;
       at : P.place l.keys ≡ l.count;
       vertices : l.edges.vertices ≡ l.fn.edges.vertices;
+      divisor : l.divisor ≡ g.S.Scheme.divisor_of l.scheme l.fn.edges.vertices;
       edges_long : length l.edges.edges ≡ l.count;
       edges : ForSome (P.told l.fn.keys) (λ told. l.edges.edges ++ map (edge_of (g.S.Scheme.rule l.scheme) l.fn.edges.vertices l.seed) (drop (P.place l.keys) told.keys) ≡ map (edge_of (g.S.Scheme.rule l.scheme) l.fn.edges.vertices l.seed) told.keys);
       tags_long : g.S.Scheme.KEEPS_TAGS ≡ true → length l.tags.items ≡ l.count;

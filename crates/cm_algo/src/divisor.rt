@@ -1,0 +1,62 @@
+//! Remainders by a number that is known before, with a multiplication in place of each division.
+ghost use Rattle.std.specs.Prelude.{◌≡◌, ℕ, ◌/◌, ◌%◌, ◌^◌, ◌<◌};
+
+use std::marker::Model;
+
+/// A number from 1 to `2^32 - 1` to take remainders by. Its reciprocal is kept beside it, so that a remainder costs two
+/// multiplications and no division (Barrett 1986, "Implementing the Rivest Shamir and Adleman public key encryption algorithm on
+/// a standard digital signal processor"). Clauses see the number.
+#[derive(Clone, Copy, Drop)]
+pub struct Divisor {
+    n: u32,
+    // `2^32 / n`, rounded down.
+    scaled: u64,
+}
+
+impl Model for Divisor {
+    ghost Value = { ℕ };
+
+    ghost view = { λ d. d.n };
+
+    ghost invariant = { λ d. (0 < d.n) × (d.scaled ≡ 2 ^ 32 / d.n) };
+
+    ghost inverse = { λ n. record { n = n; scaled = 2 ^ 32 / n } };
+}
+
+impl Divisor {
+    /// Takes the reciprocal of `n`, which is not 0. This is the one division.
+    pub fn new(n: u32) -> Divisor
+        requires some { 0 < n }
+        ensures value { result ≡ n }
+    {
+        Divisor {
+            n,
+            scaled: 4_294_967_296 / n as u64,
+        }
+    }
+
+    /// The number itself.
+    pub fn value(&self) -> u32
+        ensures value { result ≡ self.now }
+        ensures some { 0 < result }
+    {
+        self.n
+    }
+
+    /// The remainder of any `x` by this number, and so below it.
+    #[inline]
+    pub fn rem(&self, x: u32) -> u32
+        ensures remainder { result ≡ x % self.now }
+        ensures below { result < self.now }
+    {
+        let n = self.n as u64;
+        // The quotient is the true one, or one less.
+        let quotient = (x as u64 * self.scaled) >> 32;
+        let left = x as u64 - quotient * n;
+        if left >= n {
+            (left - n) as u32
+        } else {
+            left as u32
+        }
+    }
+}
