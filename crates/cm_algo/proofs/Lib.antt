@@ -1,6 +1,5 @@
 pub mod Alone
 pub mod InPlace
-pub mod OneByOne
 pub mod OneSeed
 pub mod Solving
 pub mod Sums
