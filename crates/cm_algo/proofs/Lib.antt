@@ -2,5 +2,4 @@ pub mod Alone
 pub mod InPlace
 pub mod OneSeed
 pub mod Solving
-pub mod Sums
 pub mod Tags

@@ -274,19 +274,10 @@ map_agree f g (x ∷ xs) h =
     ap (λ y. y ∷ map f xs) (h 0 0 (omega arith)) ∙ ap (λ ys. g x ∷ ys) (map_agree f g xs (λ k d low. h (suc k) d (omega arith)))
 
 -- the loops
-pub drop_all : (xs : List ℕ) (i : ℕ) → i ≡ length xs → drop i xs ≡ []
-drop_all [] zero h = refl
-drop_all [] (suc i) h = absurd (omega arith)
-drop_all (x ∷ xs) zero h = absurd (omega arith)
-drop_all (x ∷ xs) (suc i) h = drop_all xs i (omega arith)
-
 pub drop_one : (xs : List ℕ) (i : ℕ) → i < length xs → drop i xs ≡ get_or xs i 0 ∷ drop (suc i) xs
 drop_one [] i h = absurd (omega arith)
 drop_one (x ∷ xs) zero h = refl
 drop_one (x ∷ xs) (suc i) h = drop_one xs i (omega arith)
-
-pub settle_init : (p : Plan) (before es : List ℕ) (i : ℕ) → i ≡ length es → before ≡ one_by_one p before (drop i es)
-settle_init p before es i h = ap (one_by_one p before) (sym (drop_all es i h))
 
 pub settle_step : (p : Plan) (before cells new es ends : List ℕ) (i position target modulus : ℕ) → cells ≡ one_by_one p before (drop i es)
     → new ≡ set cells (get_or ends position 0) (completing modulus target (sum_but cells (get_or ends position 0) ends))
