@@ -1,11 +1,10 @@
 -- What the cells solve, and the steps of the loop.
-use Rattle.std.proofs.Common.{◌≡◌, ◌≢◌, ◌⊎◌, ℕ, zero, suc, ◌+◌, ◌-◌, ◌*◌, ◌/◌, ◌%◌, ◌<◌, ◌≤◌, Bool, true, false, cond, not, eqb, ◌&&◌, ◌||◌, List, [], ◌∷◌, ◌++◌, length, get_or, set, drop, Some, sym, refl, ap, ◌∙◌, subst, inl, inr, arith}
-use Rattle.std.specs.List.{AllPairs, sum_by, count_by, slice_get}
+use Rattle.std.proofs.Common.{◌≡◌, ◌≢◌, ◌⊎◌, ℕ, zero, suc, ◌+◌, ◌-◌, ◌*◌, ◌/◌, ◌%◌, ◌<◌, ◌≤◌, Bool, true, false, cond, not, eqb, ◌&&◌, ◌||◌, List, [], ◌∷◌, ◌++◌, length, get_or, set, take, drop, map, sym, refl, ap, ◌∙◌, subst, inl, inr, arith}
+use Rattle.std.specs.List.{All, AllPairs, sum_by, count_by}
 use Rattle.std.proofs.lemmas.Bool.{both_ways, cases_Bool, cases_eq, eqb-true, eq-eqb, ne_eqb, or_cases, or_left, or_right, false≢true}
 use Rattle.std.proofs.lemmas.List.Sums.{sum_by-cons, sum_by-set}
 use Rattle.std.proofs.lemmas.List.Folds.{list_any-append, Any-from_list_any, sum_by-replicate}
-use Rattle.std.proofs.lemmas.List.{get_or-set_same, get_or-set_other, get_or-replicate, length-replicate}
-use Rattle.std.proofs.lemmas.Option.{get_or_from_slice_get}
+use Rattle.std.proofs.lemmas.List.{drop-drop, take-append-drop, get_or-set_same, get_or-set_other, get_or-replicate, length-replicate}
 use Rattle.std.proofs.lemmas.Nat.{mod_below}
 use Rattle.std.proofs.Math.Nat.{mod-eq_of_lt, div-add-mod, add-mul-mod_self_left, mul-add}
 use Rattle.cm_spec.specs.Graph.{ends_at}
@@ -16,11 +15,11 @@ use Rattle.cm_peel.proofs.Core.{left_after-zero, left_after-suc}
 use Rattle.cm_peel.proofs.RoundFacts.{removed_rises, removed_is_left, has_place, has_removed}
 use Rattle.cm_spec.specs.Graph.{AreEdges}
 use Rattle.cm_peel.proofs.Advance.{length-order}
-use Rattle.cm_algo.proofs.OneByOne.{one_by_one}
+use Rattle.cm_algo.specs.OneByOne.{one_by_one}
 use Rattle.cm_spec.specs.Cells.{plan_of, Plan, pivot_vertex, cell_but, sum_but, completing, value_at, cells_of, all_idle, is_busy, AreSolved}
 use Rattle.cm_spec.specs.Rule.{Rule, IsRule, IsCount}
 use Rattle.cm_algo.proofs.Alone.{alone, left_before, removed_not_left, removed_place, removed_level, pivot_at}
-use Rattle.cm_algo.proofs.InPlace.{kept, length-one_by_one, rounds, rounds_are, sum_by-agree, cells_are}
+use Rattle.cm_algo.proofs.InPlace.{kept, length-one_by_one, one_by_one-append, rounds, rounds_are, sum_by-agree, cells_are}
 
 -- an edge that some round removes
 pub record IsRemoved (edges : List (List ℕ)) (e : ℕ) : Type 0 where
@@ -264,38 +263,44 @@ plan_solved k r n edges tags law many are none = cells_solved (plan_of r n edges
 pub long_at : (p : Plan) (cells es : List ℕ) → cells ≡ one_by_one p (all_idle p) es → length cells ≡ p.vertices
 long_at p cells es h = ap length h ∙ (length-one_by_one p (all_idle p) es ∙ length-replicate p.vertices p.idle)
 
--- the loop
-pub drop_all : (xs : List ℕ) (i : ℕ) → i ≡ length xs → drop i xs ≡ []
-drop_all [] zero h = refl
-drop_all [] (suc i) h = absurd (omega arith)
-drop_all (x ∷ xs) zero h = absurd (omega arith)
-drop_all (x ∷ xs) (suc i) h = drop_all xs i (omega arith)
+-- an edge is removed where none is left
+pub removed_at : (edges : List (List ℕ)) (e : ℕ) → rest_of edges ≡ [] → e < length edges → IsRemoved edges e
+removed_at edges e none h = order_removed edges (length edges) e (all_removed edges (length edges) e h (ap (λ xs. has xs e) none))
 
+-- functions that agree on a list
+pub map_agree : {Y : Type 0} (f g : ℕ → Y) (xs : List ℕ) → All (λ x. f x ≡ g x) xs → map f xs ≡ map g xs
+map_agree f g [] h = refl
+map_agree f g (x ∷ xs) h =
+    ap (λ y. y ∷ map f xs) (h 0 0 (omega arith)) ∙ ap (λ ys. g x ∷ ys) (map_agree f g xs (λ k d low. h (suc k) d (omega arith)))
+
+-- the loops
 pub drop_one : (xs : List ℕ) (i : ℕ) → i < length xs → drop i xs ≡ get_or xs i 0 ∷ drop (suc i) xs
 drop_one [] i h = absurd (omega arith)
 drop_one (x ∷ xs) zero h = refl
 drop_one (x ∷ xs) (suc i) h = drop_one xs i (omega arith)
 
-pub loop_init : (p : Plan) (cells order : List ℕ) (i : ℕ) → cells ≡ all_idle p → i ≡ length order → cells ≡ one_by_one p (all_idle p) (drop i order)
-loop_init p cells order i h l = h ∙ ap (one_by_one p (all_idle p)) (sym (drop_all order i l))
-
-pub loop_step : (p : Plan) (cells new order ends : List ℕ) (i e position target modulus : ℕ) → cells ≡ one_by_one p (all_idle p) (drop i order)
+pub settle_step : (p : Plan) (before cells new es ends : List ℕ) (i position target modulus : ℕ) → cells ≡ one_by_one p before (drop i es)
     → new ≡ set cells (get_or ends position 0) (completing modulus target (sum_but cells (get_or ends position 0) ends))
-    → slice_get p.edges e ≡ Some ends → position ≡ pivot_of p.edges e → target ≡ p.target e → modulus ≡ p.modulus → e ≡ get_or order (i - 1) 0 → 0 < i → i ≤ length order
-    → new ≡ one_by_one p (all_idle p) (drop (i - 1) order)
-loop_step p cells new order ends zero e position target modulus h n g po ta mo is some within = absurd (omega arith)
-loop_step p cells new order ends (suc i) e position target modulus h n g po ta mo is some within =
-    let same : ends ≡ ends_at p.edges e = sym (get_or_from_slice_get p.edges e ends [] g) in
+    → ends ≡ ends_at p.edges (get_or es (i - 1) 0) → position ≡ pivot_of p.edges (get_or es (i - 1) 0) → target ≡ p.target (get_or es (i - 1) 0) → modulus ≡ p.modulus → 0 < i → i ≤ length es
+    → new ≡ one_by_one p before (drop (i - 1) es)
+settle_step p before cells new es ends zero position target modulus h n en po ta mo some within = absurd (omega arith)
+settle_step p before cells new es ends (suc i) position target modulus h n en po ta mo some within =
     let less : suc i - 1 ≡ i = omega arith in
-    let e_is : e ≡ get_or order i 0 = is ∙ ap (λ k. get_or order k 0) less in
-    let at : get_or ends position 0 ≡ pivot_vertex p.edges e = ap (λ xs. get_or xs position 0) same ∙ ap (λ k. get_or (ends_at p.edges e) k 0) po in
+    let e : ℕ = get_or es i 0 in
+    let e_is : get_or es (suc i - 1) 0 ≡ e = ap (λ k. get_or es k 0) less in
+    let same : ends ≡ ends_at p.edges e = en ∙ ap (ends_at p.edges) e_is in
+    let at : get_or ends position 0 ≡ pivot_vertex p.edges e = ap (λ xs. get_or xs position 0) same ∙ ap (λ k. get_or (ends_at p.edges e) k 0) (po ∙ ap (pivot_of p.edges) e_is) in
     let value : completing modulus target (sum_but cells (get_or ends position 0) ends) ≡ value_at p cells e =
-    ap (λ k. completing k target (sum_but cells (get_or ends position 0) ends)) mo ∙ (ap (λ k. completing p.modulus k (sum_but cells (get_or ends position 0) ends)) ta
+    ap (λ k. completing k target (sum_but cells (get_or ends position 0) ends)) mo ∙ (ap (λ k. completing p.modulus k (sum_but cells (get_or ends position 0) ends)) (ta ∙ ap p.target e_is)
     ∙ (ap (λ k. completing p.modulus (p.target e) (sum_but cells k ends)) at ∙ ap (λ xs. completing p.modulus (p.target e) (sum_but cells (pivot_vertex p.edges e) xs)) same)) in
     n ∙ (ap (λ k. set cells k (completing modulus target (sum_but cells (get_or ends position 0) ends))) at ∙ (ap (λ x. set cells (pivot_vertex p.edges e) x) value
     ∙ (ap (λ c. set c (pivot_vertex p.edges e) (value_at p c e)) h
-    ∙ (ap (λ f. set (one_by_one p (all_idle p) (drop (suc i) order)) (pivot_vertex p.edges f) (value_at p (one_by_one p (all_idle p) (drop (suc i) order)) f)) e_is
-    ∙ (ap (one_by_one p (all_idle p)) (sym (drop_one order i (omega arith))) ∙ ap (λ k. one_by_one p (all_idle p) (drop k order)) (sym less))))))
+    ∙ (ap (one_by_one p before) (sym (drop_one es i (omega arith))) ∙ ap (λ k. one_by_one p before (drop k es)) (sym less)))))
+
+-- one more chunk
+pub chunk_step : (p : Plan) (before cells new order : List ℕ) (at n : ℕ) → cells ≡ one_by_one p before (drop (at + n) order) → new ≡ one_by_one p cells (take n (drop at order)) → new ≡ one_by_one p before (drop at order)
+chunk_step p before cells new order at n h is =
+    is ∙ (ap (λ c. one_by_one p c (take n (drop at order))) h ∙ (sym (one_by_one-append p before (take n (drop at order)) (drop (at + n) order)) ∙ ap (one_by_one p before) (ap (λ xs. take n (drop at order) ++ xs) (sym (drop-drop n at order)) ∙ take-append-drop n (drop at order))))
 
 pub loop_end : (p : Plan) (cells order : List ℕ) (i : ℕ) → cells ≡ one_by_one p (all_idle p) (drop i order) → i ≡ 0 → order ≡ order_of p.edges → cells ≡ cells_of p
 loop_end p cells order i h z o = h ∙ (ap (λ k. one_by_one p (all_idle p) (drop k order)) z ∙ (ap (one_by_one p (all_idle p)) o ∙ sym (cells_are p)))

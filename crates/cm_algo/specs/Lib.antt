@@ -1,3 +1,4 @@
 pub mod Builds
 pub mod Fails
 pub mod Hashed
+pub mod OneByOne

@@ -1,6 +1,7 @@
 pub mod Chaining
 pub mod Chains
 pub mod Changes
+pub mod Filled
 pub mod Places
 pub mod Relinks
 pub mod Shares

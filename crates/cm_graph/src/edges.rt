@@ -1,6 +1,6 @@
 //! A list of edges over vertices, each with `K` ends.
-ghost use Rattle.std.specs.Prelude.{◌≡◌, ℕ, ◌<◌, ◌≤◌, [], ◌∷◌, ◌++◌, length, IfOk, IsOk, OnOk, OnErr, slice_get, Some};
-ghost use Rattle.cm_spec.specs.Graph.{IsEdge, AreEdges};
+ghost use Rattle.std.specs.Prelude.{◌≡◌, ℕ, ◌<◌, ◌≤◌, [], ◌∷◌, ◌++◌, length, map, All, IfOk, IsOk, OnOk, OnErr, slice_get, Some};
+ghost use Rattle.cm_spec.specs.Graph.{IsEdge, AreEdges, ends_at};
 ghost use Rattle.cm_graph.specs.Graph.{IsWidth};
 
 use std::alloc::{AllocError, Global};
@@ -97,5 +97,17 @@ impl<const K: usize> Edges<K> {
         ensures width { IsWidth K }
     {
         self.ends[e as usize]
+    }
+
+    /// Reads the ends of the edges at some places into a list of the same length.
+    pub fn gather(&self, chunk: &[u32], ends: &mut [[u32; K]])
+        requires places { All (λ e. e < length self.now.edges) chunk.now }
+        requires long { length ends.old ≡ length chunk.now }
+        ensures ends { ends.new ≡ map (ends_at self.now.edges) chunk.now }
+        ensures edges { All (λ each. IsEdge self.now.vertices each) ends.new }
+    {
+        for (i, e) in chunk.iter().enumerate() {
+            ends[i] = self.ends(*e);
+        }
     }
 }

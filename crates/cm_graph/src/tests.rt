@@ -106,6 +106,9 @@ fn edges(rt: HostRuntime) -> Result<(), Fail> {
     assert_eq!(rt; pairs.len(), 2);
     assert_eq!(rt; pairs.vertices(), 4);
     assert_eq!(rt; pairs.ends(1), [3, 1]);
+    let mut gathered = [[0; 2]; 3];
+    pairs.gather(&[1, 0, 1], &mut gathered);
+    assert_eq!(rt; gathered, [[3, 1], [0, 1], [3, 1]]);
     let mut triples = Edges::<3>::with_capacity(rt.alloc(), 671088645, 1)?;
     triples.push([671088644, 0, 7])?;
     assert_eq!(rt; triples.len(), 1);

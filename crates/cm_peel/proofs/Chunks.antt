@@ -1,23 +1,13 @@
 -- Lists that are filled by a loop, and pieces of lists.
-use Rattle.std.proofs.Common.{◌≡◌, ◌≢◌, ℕ, suc, ◌+◌, ◌<◌, ◌≤◌, Bool, true, false, cond, eqb, List, [], ◌∷◌, ◌++◌, length, get_or, set, take, map, sym, ap, ◌∙◌, arith, refl, append-nil, below_more, get_or-set_other}
+use Rattle.std.proofs.Common.{◌≡◌, ◌≢◌, ℕ, ◌+◌, ◌<◌, ◌≤◌, Bool, true, false, cond, eqb, List, [], ◌∷◌, ◌++◌, length, get_or, set, take, sym, ap, ◌∙◌, arith, refl, append-nil, below_more, get_or-set_other}
 use Rattle.std.specs.List.Sorted.{IsStrictlyIncreasing}
 use mir.Val.{bool_byte}
-use Rattle.std.proofs.Math.Seq.{take-suc-set}
 use Rattle.std.proofs.lemmas.Bool.{or_parts, eqb-false}
 use Rattle.std.proofs.lemmas.Grind.{get_or-set_at}
-use Rattle.std.proofs.lemmas.List.{take_more, take_more_set, take-set-le, take_all, map-append}
+use Rattle.std.proofs.lemmas.List.{take_more, take_more_set, take-set-le}
 use Rattle.std.proofs.lemmas.List.Kept.{AllPairs-from_increasing}
 use Rattle.cm_spec.specs.Lists.{has}
 use Rattle.cm_peel.proofs.Taking.{has-push}
-
--- one more element of a list that is filled with the values of a function
-pub filled_more : {X Y : Type 0} (f : X → Y) (xs : List X) (now : List Y) (i : ℕ) (d : X) (y : Y) → i < length xs → length now ≡ length xs → y ≡ f (get_or xs i d) → take i now ≡ map f (take i xs) → take (i + 1) (set now i y) ≡ map f (take (i + 1) xs)
-filled_more f xs now i d y h long is was =
-    let s : i + 1 ≡ suc i = omega arith in
-    ap (λ k. take k (set now i y)) s ∙ (take-suc-set now i y (omega arith) ∙ (ap (λ ys. ys ++ y ∷ []) was ∙ (ap (λ z. map f (take i xs) ++ z ∷ []) is ∙ (sym (map-append f (take i xs) (get_or xs i d ∷ [])) ∙ ap (map f) (sym (take_more xs i d h))))))
-
-pub filled_all : {X Y : Type 0} (f : X → Y) (xs : List X) (now : List Y) (i : ℕ) → length xs ≤ i → length now ≡ length xs → take i now ≡ map f (take i xs) → now ≡ map f xs
-filled_all f xs now i end long was = sym (take_all i now (omega arith)) ∙ (was ∙ ap (map f) (take_all i xs end))
 
 -- an element written behind the first ones of a list, and kept or not
 pub byte_small : (b : Bool) → bool_byte b ≤ 1

@@ -4,12 +4,12 @@ ghost use Rattle.std.specs.Prelude.{◌≡◌, ℕ, ◌+◌, ◌*◌, ◌<◌, �
 ghost use Rattle.std.specs.List.{concat, position_or_len};
 ghost use Rattle.std.specs.List.Sorted.{IsStrictlyIncreasing};
 ghost use Rattle.cm_spec.specs.Lists.{has};
-ghost use Rattle.cm_spec.specs.Graph.{IsEdge, ends_at};
+ghost use Rattle.cm_spec.specs.Graph.{IsEdge};
 ghost use Rattle.cm_graph.specs.Graph.{IsLinked, degree_of, sole_of};
 ghost use Rattle.cm_peel.specs.AtRound.{AreTaken};
 ghost use Rattle.cm_peel.specs.Incident.{is_free, soles_of_all, unlinked_all};
 
-use cm_graph::{Edges, Incidence, Steps};
+use cm_graph::{Incidence, Steps};
 use std::alloc::AllocError;
 use std::sync::ledger::Ledger;
 
@@ -18,19 +18,6 @@ pub(crate) const CHUNK: usize = 64;
 
 /// How many ends these have at most.
 pub(crate) const CHUNK_ENDS: usize = 192;
-
-/// The ends of the edges of a chunk.
-pub(crate) fn gather<const K: usize>(edges: &Edges<K>, chunk: &[u32], ends: &mut [[u32; K]])
-    requires small { K ≤ 3 }
-    requires places { All (λ e. e < length edges.now.edges) chunk.now }
-    requires long { length ends.old ≡ length chunk.now }
-    ensures ends { ends.new ≡ map (ends_at edges.now.edges) chunk.now }
-    ensures edges { All (λ each. IsEdge edges.now.vertices each) ends.new }
-{
-    for (i, e) in chunk.iter().enumerate() {
-        ends[i] = edges.ends(*e);
-    }
-}
 
 /// Unlinks the edges of a chunk.
 pub(crate) fn unlink_each<const K: usize, I: Incidence<K>, L: Ledger>(

@@ -1,4 +1,5 @@
--- The order in which the cells are set: one edge after another, the last that was removed first.
+-- The order in which the cells are set: one edge after another, the last that was removed first. Only the contracts of the
+-- steps cite this.
 use Rattle.std.specs.Prelude.{ℕ, List, [], ◌∷◌, slice_set}
 use Rattle.cm_spec.specs.Cells.{Plan, pivot_vertex, value_at}
 

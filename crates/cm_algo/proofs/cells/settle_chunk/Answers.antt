@@ -1,0 +1,68 @@
+use Rattle.std.proofs.Common.{rules, ◌≡◌, ◌∙◌, ℕ, ◌<◌, ◌≤◌, List, [], length, map, get_or, sym, ap, subst, arith}
+use Rattle.std.specs.List.{All}
+use Rattle.std.proofs.lemmas.List.{length-map}
+use Rattle.std.proofs.lemmas.List.Elements.{All-map}
+use Rattle.cm_peel.specs.Peeling.{Peeling, IsPeelingOf}
+use Rattle.cm_spec.specs.Cells.{plan_of}
+use Rattle.cm_spec.specs.Graph.{ends_at, AreEdges}
+use Rattle.cm_spec.specs.Rounds.{rest_of, pivot_of}
+use Rattle.cm_spec.specs.Rule.{Rule, IsCount}
+use Rattle.cm_algo.proofs.Solving.{map_agree, removed_at}
+use Rattle.cm_algo.proofs.cells.settle_chunk.Goals as goal
+
+-- what is looked up is the pivots and the targets of the plan
+pivot_is : (edges : List (List ℕ)) (p : Peeling) (e : ℕ) → IsPeelingOf edges p → rest_of edges ≡ [] → e < length edges → get_or p.pivots e 0 ≡ pivot_of edges e
+pivot_is edges p e peeling none place = peeling.pivot e place (removed_at edges e none place).level
+
+pivots_are : (edges : List (List ℕ)) (p : Peeling) (chunk positions : List ℕ) → IsPeelingOf edges p → rest_of edges ≡ [] → All (λ e. e < length edges) chunk → positions ≡ map (λ e. get_or p.pivots e 0) chunk → positions ≡ map (pivot_of edges) chunk
+pivots_are edges p chunk positions peeling none places is = is ∙ map_agree _ _ chunk (λ k d h. pivot_is edges p (get_or chunk k d) peeling none (places k d h))
+
+targets_are : (r : Rule) (n : ℕ) (edges : List (List ℕ)) (tags : List ℕ) (p : Peeling) (chunk targets : List ℕ) → IsPeelingOf edges p → rest_of edges ≡ [] → All (λ e. e < length edges) chunk → targets ≡ map (λ e. r.target e (get_or p.pivots e 0) (get_or tags e 0)) chunk
+    → targets ≡ map (plan_of r n edges tags).target chunk
+targets_are r n edges tags p chunk targets peeling none places is =
+    is ∙ map_agree _ _ chunk (λ k d h. ap (λ (q : ℕ). r.target (get_or chunk k d) q (get_or tags (get_or chunk k d) 0)) (pivot_is edges p (get_or chunk k d) peeling none (places k d h)))
+
+pivots_within : (k n : ℕ) (edges : List (List ℕ)) (chunk : List ℕ) → AreEdges k n edges → rest_of edges ≡ [] → All (λ e. e < length edges) chunk → All (λ position. position < k) (map (pivot_of edges) chunk)
+pivots_within k n edges chunk are none places = All-map (λ position. position < k) (pivot_of edges) chunk (λ i d h.
+    let e : ℕ = get_or chunk i d in
+    let place : e < length edges = places i d h in
+    omega (arith, (removed_at edges e none place).within, (are e [] place).0))
+
+pub settle_each-requires : goal.settle_each-requires
+settle_each-requires g c =
+    let edges : List (List ℕ) = c.args.edges.now.edges in
+    let chunk : List ℕ = c.args.chunk.now in
+    let law = g.met.S.Scheme.laws c.args.scheme.now in
+    let many : IsCount (length edges) = c.requires.many in
+    let m_is : c.modulus-modulus.result ≡ (g.S.Scheme.rule c.args.scheme.now).modulus (length edges) = c.modulus-modulus.ensures.modulus ∙ ap (λ (m : ℕ). (g.S.Scheme.rule c.args.scheme.now).modulus m) c.len.ensures.count in
+    let some : 0 < c.modulus-modulus.result = omega (arith, m_is, law.target_below (length edges) 0 0 0 many (omega (arith, many.0)) (omega (arith, c.len.ensures.width.0))) in
+    let within : c.modulus-modulus.result ≤ g.S.Table.Cells.bound_of c.args.table.now = omega (arith, m_is, c.requires.bound, law.modulus_within (length edges) many) in
+    let ends : length c.gather.new.ends ≡ length chunk = ap length c.gather.ensures.ends ∙ length-map chunk (ends_at edges) in
+    let positions : c.look_up.new.positions ≡ map (pivot_of edges) chunk = pivots_are edges c.args.peeled.now chunk _ c.requires.peeling c.requires.empty c.requires.places c.look_up.ensures.positions in
+    let targets : length c.look_up.new.targets ≡ length chunk = ap length c.look_up.ensures.targets ∙ length-map chunk _ in (
+      search rules,
+      (
+        c.len.ensures.width.1,
+        (
+          (some, within),
+          (
+            λ k d h k' d' h'. omega (arith, (c.gather.ensures.edges k d h).0 k' d' h', c.requires.long),
+            (
+              subst (λ (xs : List ℕ). All (λ position. position < g.row.K) xs) (sym positions) (pivots_within g.row.K c.args.edges.now.vertices edges chunk c.len.ensures.edges c.requires.empty c.requires.places),
+              (ap length positions ∙ (length-map chunk (pivot_of edges) ∙ sym ends), targets ∙ sym ends),
+            ),
+          ),
+        ),
+      ),
+    )
+
+pub returns-clause-cells : goal.returns-clause-cells
+returns-clause-cells g c =
+    let edges : List (List ℕ) = c.args.edges.now.edges in
+    let chunk : List ℕ = c.args.chunk.now in
+    let r : Rule = g.S.Scheme.rule c.args.scheme.now in
+    c.settle_each.ensures.cells (plan_of r c.args.edges.now.vertices edges c.args.tags.now) chunk
+    (sym (c.modulus-modulus.ensures.modulus ∙ ap (λ (m : ℕ). r.modulus m) c.len.ensures.count))
+    c.gather.ensures.ends
+    (pivots_are edges c.args.peeled.now chunk _ c.requires.peeling c.requires.empty c.requires.places c.look_up.ensures.positions)
+    (targets_are r c.args.edges.now.vertices edges c.args.tags.now c.args.peeled.now chunk _ c.requires.peeling c.requires.empty c.requires.places c.look_up.ensures.targets)
