@@ -38,7 +38,7 @@ pub(crate) fn count_all<P: KeyPass>(keys: &mut P) -> Result<u32, KeyFault>
 }
 
 /// The words of the next key under a seed, where it is at hand: it is hashed where it stands. Where there is none, nothing changes.
-#[inline]
+#[inline(always)]
 fn words_at_hand<P: KeyPass>(keys: &mut P, seed: u32) -> Option<[u32; 3]>
     requires usable { IsTrue (P.usable keys.old) }
     ensures told { P.told keys.new ≡ P.told keys.old }
@@ -56,7 +56,30 @@ fn words_at_hand<P: KeyPass>(keys: &mut P, seed: u32) -> Option<[u32; 3]>
     Some(hashed)
 }
 
+/// The words of the next key under a seed, or none at the end, by way of the buffer.
+#[inline(never)]
+fn read_words<P: KeyPass>(
+    keys: &mut P,
+    key: &mut KeyBuf,
+    seed: u32,
+) -> Result<Option<[u32; 3]>, KeyFault>
+    requires usable { IsTrue (P.usable keys.old) }
+    ensures told { P.told keys.new ≡ P.told keys.old }
+    ensures gives { ForSome (P.told keys.old) (λ told. GivesWords told (P.place keys.old) (P.place keys.new) seed result) }
+    ensures cause { HasKeyCause (P.faults keys.old) (P.faults keys.new) result }
+    ensures counts { IfOk result (λ o. IfSome o (λ _. P.place keys.new ≡ P.place keys.old + 1)) }
+    ensures ended { IfOk result (λ o. IfNone o (P.place keys.new ≡ P.place keys.old)) }
+    ensures usable { OnOk result (P.usable keys.new ≡ true) }
+{
+    match keys.next(key) {
+        Ok(true) => Ok(Some(words(key.as_slice(), seed))),
+        Ok(false) => Ok(None),
+        Err(fault) => Err(fault),
+    }
+}
+
 /// The words of the next key under a seed, or none at the end. The buffer is for its use.
+#[inline(always)]
 fn next_words<P: KeyPass>(
     keys: &mut P,
     key: &mut KeyBuf,
@@ -71,13 +94,8 @@ fn next_words<P: KeyPass>(
     ensures usable { OnOk result (P.usable keys.new ≡ true) }
 {
     match words_at_hand(keys, seed) {
-        Some(hashed) => return Ok(Some(hashed)),
-        None => {}
-    }
-    match keys.next(key) {
-        Ok(true) => Ok(Some(words(key.as_slice(), seed))),
-        Ok(false) => Ok(None),
-        Err(fault) => Err(fault),
+        Some(hashed) => Ok(Some(hashed)),
+        None => read_words(keys, key, seed),
     }
 }
 
