@@ -1,4 +1,5 @@
 mod PieceLemmas
+mod NearLemmas
 mod WholeLemmas
 mod LeaveLemmas
 pub mod NumberingLemmas

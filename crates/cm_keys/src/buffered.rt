@@ -180,7 +180,8 @@ impl<S: Source> Buffered<S> {
         ensures none { IfNone result (HasNoEnd end (ready_in self.now.buf self.now.start self.now.until)) }
     {
         let ready = &self.buf[self.start..self.until];
-        let n = match memchr(end, ready) {
+        // The search of an iterator begins with the next few bytes.
+        let n = match memchr_iter(end, ready).next() {
             Some(n) => n,
             None => return None,
         };
