@@ -37,26 +37,7 @@ pub(crate) fn count_all<P: KeyPass>(keys: &mut P) -> Result<u32, KeyFault>
     unreachable!()
 }
 
-/// The words of the next key under a seed, where it is at hand: it is hashed where it stands. Where there is none, nothing changes.
-#[inline(always)]
-fn words_at_hand<P: KeyPass>(keys: &mut P, seed: u32) -> Option<[u32; 3]>
-    requires usable { IsTrue (P.usable keys.old) }
-    ensures told { P.told keys.new ≡ P.told keys.old }
-    ensures gives { IfSome result (λ hashed. ForSome (P.told keys.old) (λ told. GivesWords told (P.place keys.old) (P.place keys.new) seed (Ok (Some hashed)))) }
-    ensures cause { P.faults keys.new ≡ P.faults keys.old }
-    ensures counts { IfSome result (λ _. P.place keys.new ≡ P.place keys.old + 1) }
-    ensures usable { P.usable keys.new ≡ true }
-    ensures unchanged { IfNone result (keys.new ≡ keys.old) }
-{
-    let (hashed, len) = match keys.peek() {
-        Some((_, key)) => (words(key, seed), key.len()),
-        None => return None,
-    };
-    keys.pass(len);
-    Some(hashed)
-}
-
-/// The words of the next key under a seed, or none at the end, by way of the buffer.
+/// The words of the next key under a seed, or none at the end. The buffer is for its use.
 #[inline(never)]
 fn read_words<P: KeyPass>(
     keys: &mut P,
@@ -78,28 +59,8 @@ fn read_words<P: KeyPass>(
     }
 }
 
-/// The words of the next key under a seed, or none at the end. The buffer is for its use.
-#[inline(always)]
-fn next_words<P: KeyPass>(
-    keys: &mut P,
-    key: &mut KeyBuf,
-    seed: u32,
-) -> Result<Option<[u32; 3]>, KeyFault>
-    requires usable { IsTrue (P.usable keys.old) }
-    ensures told { P.told keys.new ≡ P.told keys.old }
-    ensures gives { ForSome (P.told keys.old) (λ told. GivesWords told (P.place keys.old) (P.place keys.new) seed result) }
-    ensures cause { HasKeyCause (P.faults keys.old) (P.faults keys.new) result }
-    ensures counts { IfOk result (λ o. IfSome o (λ _. P.place keys.new ≡ P.place keys.old + 1)) }
-    ensures ended { IfOk result (λ o. IfNone o (P.place keys.new ≡ P.place keys.old)) }
-    ensures usable { OnOk result (P.usable keys.new ≡ true) }
-{
-    match words_at_hand(keys, seed) {
-        Some(hashed) => Ok(Some(hashed)),
-        None => read_words(keys, key, seed),
-    }
-}
-
 /// Adds the edge of a key by its words, and its tag where tags are kept.
+#[inline(always)]
 fn add_key<S: Scheme<K>, const K: usize>(
     scheme: &S,
     divisor: &Divisor,
@@ -121,6 +82,43 @@ fn add_key<S: Scheme<K>, const K: usize>(
         tags.push(scheme.tag(hashed))?;
     }
     Ok(())
+}
+
+/// Adds the edge of the next key under a seed, and its tag where tags are kept, if it is at hand: it is hashed where it stands. If
+/// it isn't, nothing changes.
+#[inline(always)]
+fn add_at_hand<S: Scheme<K>, P: KeyPass, const K: usize>(
+    scheme: &S,
+    divisor: &Divisor,
+    keys: &mut P,
+    seed: u32,
+    edges: &mut Edges<K>,
+    tags: &mut Vec<u32>,
+) -> Result<bool, BuildFault>
+    requires usable { IsTrue (P.usable keys.old) }
+    requires room { length edges.old.edges < 67108864 }
+    requires size { IsSize (S.rule scheme.now) edges.old.vertices }
+    requires divisor { divisor.now ≡ S.divisor_of scheme.now edges.old.vertices }
+    ensures told { P.told keys.new ≡ P.told keys.old }
+    ensures cause { P.faults keys.new ≡ P.faults keys.old }
+    ensures memory { IfErr result (λ e. e ≡ BuildFault.Memory) }
+    ensures usable { P.usable keys.new ≡ true }
+    ensures vertices { edges.new.vertices ≡ edges.old.vertices }
+    ensures untagged { S.KEEPS_TAGS ≡ false → tags.new.items ≡ tags.old.items }
+    ensures unchanged { result ≡ Ok false → (keys.new ≡ keys.old) × (edges.new ≡ edges.old) × (tags.new ≡ tags.old) }
+    ensures counts { result ≡ Ok true → P.place keys.new ≡ P.place keys.old + 1 }
+    ensures adds { result ≡ Ok true → (hashed : List ℕ)
+        × (edges.new.edges ≡ edges.old.edges ++ (S.rule scheme.now).edge hashed edges.old.vertices ∷ [])
+        × (S.KEEPS_TAGS ≡ true → tags.new.items ≡ tags.old.items ++ (S.rule scheme.now).tag hashed ∷ [])
+        × ForSome (P.told keys.old) (λ told. GivesWords told (P.place keys.old) (P.place keys.new) seed (Ok (Some hashed))) }
+{
+    let (hashed, len) = match keys.peek() {
+        Some((_, key)) => (words(key, seed), key.len()),
+        None => return Ok(false),
+    };
+    keys.pass(len);
+    add_key(scheme, divisor, hashed, edges, tags)?;
+    Ok(true)
 }
 
 /// The edges of the keys, which are to be `m`, and their tags where tags are kept.
@@ -150,7 +148,10 @@ pub(crate) fn hash_all<S: Scheme<K>, P: KeyPass, const K: usize>(
     let divisor = scheme.divisor(edges.vertices());
     let mut key = KeyBuf::new();
     for count in 0..m + 1 {
-        match next_words(keys, &mut key, seed) {
+        if count < m && add_at_hand(scheme, &divisor, keys, seed, edges, tags)? {
+            continue;
+        }
+        match read_words(keys, &mut key, seed) {
             Ok(Some(hashed)) => {
                 if count == m {
                     return Err(BuildFault::Changed {
