@@ -1,7 +1,7 @@
 -- Pairs of bits of a number that are 3, and the words of an image of pairs of bits.
 use Rattle.std.specs.Prelude.{◌≡◌, ℕ, zero, suc, ◌+◌, ◌-◌, ◌*◌, ◌/◌, ◌%◌, ◌^◌, ◌<◌, ◌≤◌, nat_eq, List, length, slice_index, count_by, bit_and, refl}
-use Rattle.std.proofs.Common.{arith, ap, sym, ◌∙◌, cond, lit<}
-use Rattle.std.proofs.lemmas.Bool.{eqb-true}
+use Rattle.std.proofs.Common.{arith, ap, sym, ◌∙◌, ⊎_elim, min, cond, lit<}
+use Rattle.std.proofs.lemmas.Bool.{cases_lt, eqb-true}
 use Rattle.std.proofs.lemmas.Nat.{and_block, and_le_r, and_mask, and_mod, and_shr, mod_below, ones-le, ones_cat, pow_pos, shr-shr, shr_split}
 use Rattle.std.proofs.lemmas.List.FromFn.{fill_by_all, get_or-map-range_with_len, length-map-range_with_len, sum_by-map-range_with_len_more}
 use Rattle.std.specs.Int.Count.{ones}
@@ -21,10 +21,10 @@ use Rattle.cm_spec.specs.Lists.{list_of}
 abbrev pub lower_bits : ℕ → ℕ
 lower_bits n = digits_sum 4 (λ _. 1) n
 
--- those of a word, shifted
-pub lower_bits-shifted : (n : ℕ) → n ≤ 32 → 6148914691236517205 / 2 ^ (2 * (32 - n)) ≡ lower_bits n
+-- those of a word, shifted in two steps
+pub lower_bits-shifted : (n : ℕ) → n ≤ 32 → 6148914691236517205 / 2 ^ (32 - n) / 2 ^ (32 - n) ≡ lower_bits n
 unfolding all_below digits_sum
-lower_bits-shifted n l = eqb-true _ _ (passes (λ t. nat_eq (6148914691236517205 / 2 ^ (2 * (32 - t))) (lower_bits t)) 33 n refl (omega arith))
+lower_bits-shifted n l = eqb-true _ _ (passes (λ t. nat_eq (6148914691236517205 / 2 ^ (32 - t) / 2 ^ (32 - t)) (lower_bits t)) 33 n refl (omega arith))
 
 -- the lowest bit of what a number shares with its half
 shared : ℕ → ℕ
@@ -101,17 +101,41 @@ cells_busy cells q n below there few inside =
     fill_by_all f (crumbs_of word n) n 0 (length-map-range_with_len _ 0 n) (λ k l. get_or-map-range_with_len (λ i. word / 4 ^ i % 4) 0 n k k 0 l (omega arith) ∙ crumb k l) in
     rw (window_of_cells cells q there, same) (rank_run 3 cells (4 * q) n inside)
 
+-- how long an image is
+pub length-image : (cells bytes : List ℕ) → bytes ≡ list_of (packed_byte 4 4 cells) (packed_len 4 (length cells)) → length bytes ≡ packed_len 4 (length cells)
+length-image cells bytes image = ap length image ∙ length-map-range_with_len _ 0 _
+
 -- the same for the cells from a place on that a byte begins with
 pub word_busy : (cells bytes : List ℕ) (from n word count : ℕ) → AllBelow 4 cells → bytes ≡ list_of (packed_byte 4 4 cells) (packed_len 4 (length cells)) → from % 4 ≡ 0 → from / 4 + 8 ≤ length bytes → n ≤ 32 → from + n ≤ length cells → word ≡ window_at bytes (from / 4) → count ≡ count_by (is_busy 3) (crumbs_of word n) → rank_of 3 cells from + count ≡ rank_of 3 cells (from + n)
 word_busy cells bytes from n word count below image whole there few inside read is =
     let place : 4 * (from / 4) ≡ from = omega arith in
-    let len : length bytes ≡ packed_len 4 (length cells) = ap length image ∙ length-map-range_with_len _ 0 _ in
+    let len = length-image cells bytes image in
     let busy = cells_busy cells (from / 4) n below (omega (arith, there, len)) few (rw place inside) in
     rw (is, read, image) (rw place at busy)
 
 -- eight bytes are there where all 32 cells of a word are
 pub word_there : (cells bytes : List ℕ) (from : ℕ) → bytes ≡ list_of (packed_byte 4 4 cells) (packed_len 4 (length cells)) → from + 32 ≤ length cells → from / 4 + 8 ≤ length bytes
 word_there cells bytes from image inside =
-    let len : length bytes ≡ packed_len 4 (length cells) = ap length image ∙ length-map-range_with_len _ 0 _ in
+    let len = length-image cells bytes image in
     let room : length cells ≤ packed_len 4 (length cells) * 4 = le-packed_len 4 (length cells) (lit< tt) in
     omega arith
+
+-- one word more of a count that looks at each word, where so many cells are counted
+pub words_more : (cells bytes : List ℕ) (from left k n word count more : ℕ) → AllBelow 4 cells → bytes ≡ list_of (packed_byte 4 4 cells) (packed_len 4 (length cells))
+    → from % 4 ≡ 0 → from / 4 + 8 * k + 8 ≤ length bytes → from + left ≤ length cells → n ≡ min (left - 32 * k) 32
+    → word ≡ window_at bytes (from / 4 + 8 * k) → more ≡ count_by (is_busy 3) (crumbs_of word n)
+    → rank_of 3 cells from + count ≡ rank_of 3 cells (from + min left (32 * k))
+    → rank_of 3 cells from + (count + more) ≡ rank_of 3 cells (from + min left (32 * (k + 1)))
+words_more cells bytes from left k n word count more below image whole there inside many read is was = ⊎_elim
+    (λ some.
+    let place : (from + 32 * k) / 4 ≡ from / 4 + 8 * k = omega (arith, whole) in
+    let busy = word_busy cells bytes (from + 32 * k) n word more below image (omega (arith, whole)) (omega (arith, there, place)) (omega (arith, many)) (omega (arith, inside, many, some)) (read ∙ ap (window_at bytes) (sym place)) is in
+    let old : rank_of 3 cells (from + min left (32 * k)) ≡ rank_of 3 cells (from + 32 * k) = ap (λ (i : ℕ). rank_of 3 cells i) (omega (arith, some)) in
+    let new : rank_of 3 cells (from + 32 * k + n) ≡ rank_of 3 cells (from + min left (32 * (k + 1))) = ap (λ (i : ℕ). rank_of 3 cells i) (omega (arith, some, many)) in
+    omega (arith, was, busy, old, new))
+    (λ over.
+    let none : n ≡ 0 = omega (arith, many, over) in
+    let nothing : more ≡ 0 = is ∙ ap (λ (i : ℕ). count_by (is_busy 3) (crumbs_of word i)) none in
+    let same : rank_of 3 cells (from + min left (32 * k)) ≡ rank_of 3 cells (from + min left (32 * (k + 1))) = ap (λ (i : ℕ). rank_of 3 cells i) (omega (arith, over)) in
+    omega (arith, was, nothing, same))
+    (cases_lt (32 * k) left)

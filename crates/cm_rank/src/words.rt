@@ -1,8 +1,9 @@
 //! Counts of pairs of bits that are not 3, a word of 32 of them at once.
-ghost use Rattle.std.specs.Prelude.{◌≡◌, ◌+◌, ◌%◌, ◌<◌, ◌≤◌, length, count_by};
+ghost use Rattle.std.specs.Prelude.{◌≡◌, ◌+◌, ◌/◌, ◌%◌, ◌<◌, ◌≤◌, length, count_by};
 ghost use Rattle.cm_bits.specs.Held.{packed_cells};
 ghost use Rattle.cm_rank.specs.Ranks.{crumbs_of, rank_of};
 ghost use Rattle.cm_spec.specs.Cells.{is_busy};
+ghost use Rattle.cm_spec.specs.Image.{packed_len};
 
 use crate::counted::count_each;
 use cm_bits::{Cells, Crumbs, window};
@@ -10,17 +11,20 @@ use cm_bits::{Cells, Crumbs, window};
 // How many pairs of bits a word has.
 const PAIRS: u32 = 32;
 
+// How many words are counted together.
+const WORDS: u32 = 4;
+
 // The lower bit of each pair.
 const LOWER_BITS: u64 = 0x5555_5555_5555_5555;
 
 // How many of the lowest `many` pairs of bits of a word are not 3.
 #[inline]
 pub fn busy_pairs(word: u64, many: u32) -> u32
-    requires some { 1 ≤ many }
     requires fit { many ≤ 32 }
     ensures { result ≡ count_by (is_busy 3) (crumbs_of word many) }
 {
-    let lower = LOWER_BITS >> (2 * (PAIRS - many));
+    // In two steps, since none of the bits may be left.
+    let lower = LOWER_BITS >> (PAIRS - many) >> (PAIRS - many);
     many - (word & (word >> 1) & lower).count_ones()
 }
 
@@ -32,6 +36,9 @@ pub fn busy_crumbs(cells: &Crumbs, from: u32, until: u32) -> u32
     ensures busy { rank_of 3 (⟦<Crumbs as Cells>⟧.cells cells.now) from + result ≡ rank_of 3 (⟦<Crumbs as Cells>⟧.cells cells.now) until }
 {
     let bytes = cells.image();
+    if until - from <= WORDS * PAIRS && (from / 4 + 8 * WORDS) as usize <= bytes.len() {
+        return busy_in_words(cells, from, until);
+    }
     let words = (until - from) / PAIRS;
     let mut count = 0;
     for k in 0..words {
@@ -39,6 +46,27 @@ pub fn busy_crumbs(cells: &Crumbs, from: u32, until: u32) -> u32
         count += busy_pairs(window(bytes, at as usize), PAIRS);
     }
     count + busy_rest(cells, from + PAIRS * words, until)
+}
+
+// The same of as many cells as `WORDS` words have, or fewer, where so many are there: all are looked at, and what is past the end
+// counts for nothing, so that no jump depends on how many cells there are.
+#[inline]
+fn busy_in_words(cells: &Crumbs, from: u32, until: u32) -> u32
+    requires order { from ≤ until }
+    requires few { until ≤ from + 128 }
+    requires inside { until ≤ length (⟦<Crumbs as Cells>⟧.cells cells.now) }
+    requires whole { from % 4 ≡ 0 }
+    requires there { from / 4 + 32 ≤ packed_len 4 (length (⟦<Crumbs as Cells>⟧.cells cells.now)) }
+    ensures busy { rank_of 3 (⟦<Crumbs as Cells>⟧.cells cells.now) from + result ≡ rank_of 3 (⟦<Crumbs as Cells>⟧.cells cells.now) until }
+{
+    let bytes = cells.image();
+    let mut count = 0;
+    for k in 0..WORDS {
+        let many = (until - from).saturating_sub(PAIRS * k).min(PAIRS);
+        let at = from / 4 + 8 * k;
+        count += busy_pairs(window(bytes, at as usize), many);
+    }
+    count
 }
 
 // The same of less than a word: cell by cell where the image ends before eight bytes.
