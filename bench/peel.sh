@@ -61,7 +61,7 @@ awk '
     }' "$out/peel.times"
 
 echo
-echo "Bytes for an edge at the peak, past those of a run on one edge; the rule is 8 n + (4 K + 9) m."
+echo "Bytes for an edge at the peak, past those of a run on one edge; the rule is 8 n + (4 K + 9.125) m."
 echo
 echo "| ends | edges | proved | the rule | plain Rust |"
 echo "|---|---|---|---|---|"
@@ -76,7 +76,7 @@ awk '
     END {
         for (i = 1; i <= count; i++) {
             key = order[i]
-            rule = 8 * (ends[key] == 3 ? 1.23 : 2.09) + 4 * ends[key] + 9
+            rule = 8 * (ends[key] == 3 ? 1.23 : 2.09) + 4 * ends[key] + 9.125
             printf "| %s | %.2f | %.2f | %.2f |\n", key, each("proved", key), rule, each("plain", key)
         }
     }' "$out/peel.times"

@@ -11,4 +11,5 @@ pub mod Pivots
 pub mod RoundFacts
 pub mod Sets
 pub mod Taking
-pub mod Levels
+pub mod Listing
+pub mod Marking

@@ -171,6 +171,9 @@ next_is graph t l order levels old at r is place =
     let upto : List ℕ = order_upto graph.edges (suc t) in
     ap (drop at) (is ∙ r.order_is) ∙ (ap (λ k. drop k (upto ++ r.next)) place ∙ drop-append_seam upto r.next)
 
+pub next_places : (graph : Graph) (t : ℕ) (l : Links) (order levels : List ℕ) → (r : InRound graph t (length (removed_after graph.edges t)) l order levels) → All (λ e. e < length graph.edges) r.next
+next_places graph t l order levels r = All-from_get_or (λ e. e < length graph.edges) r.next 0 (λ k h. r.inside _ (has-from_Contains r.next _ (Contains-get_or r.next k 0 h)))
+
 -- the order after its end is sorted
 pub sorted_round : (graph : Graph) (t : ℕ) (l : Links) (order levels old new : List ℕ) (at : ℕ) → InRound graph t (length (removed_after graph.edges t)) l order levels → old ≡ order → at ≡ length (order_upto graph.edges (suc t)) → take at new ≡ take at old → IsSorted nat_cmp (drop at new) → IsPermutation (drop at old) (drop at new)
     → (drop at new ≡ removed_after graph.edges (suc t)) × (new ≡ order_upto graph.edges (suc t) ++ drop at new)

@@ -1,3 +1,4 @@
 pub mod Peeling
 pub mod AtRound
 pub mod Incident
+pub mod Marks

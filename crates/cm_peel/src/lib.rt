@@ -3,6 +3,7 @@
 
 mod chunk;
 pub mod laws;
+mod marks;
 pub mod peeled;
 mod round;
 

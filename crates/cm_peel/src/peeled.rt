@@ -97,6 +97,7 @@ pub fn peel<const K: usize, I: Incidence<K> + Drop, L: Ledger>(
         &mut order,
         steps,
     )?;
+    let mut marks = vec![in alloc; 0; m.div_ceil(64) as usize]?;
     let mut start = 0;
     let mut rounds = 0;
     'rounds: while start < order.len() {
@@ -109,6 +110,7 @@ pub fn peel<const K: usize, I: Incidence<K> + Drop, L: Ledger>(
             &mut levels,
             &mut pivots,
             &mut order,
+            &mut marks,
             steps,
         )?;
         start = end;

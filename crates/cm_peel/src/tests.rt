@@ -198,3 +198,75 @@ fn long_path(rt: HostRuntime) -> Result<(), Fail> {
     assert!(rt; is_path_peeled(&chained, m));
     Ok(())
 }
+
+/// How many edges of its path come before and after an edge of a forest. Twenty paths have 21 edges and one has 721, and
+/// edges that follow each other in a path have numbers that lie far apart.
+fn around(e: u32) -> (u32, u32)
+    requires { e < 1141 }
+    ensures before { result.0 < 721 }
+    ensures after { result.1 < 721 }
+{
+    let place = e * 500 % 1141;
+    if place < 420 {
+        (place % 21, 20 - place % 21)
+    } else {
+        (place - 420, 1140 - place)
+    }
+}
+
+/// The first end of such an edge. The other one is the vertex after it.
+fn first_end(e: u32) -> u32
+    requires { e < 1141 }
+    ensures { result < 1161 }
+{
+    let place = e * 500 % 1141;
+    if place < 420 {
+        place / 21 * 22 + place % 21
+    } else {
+        place + 20
+    }
+}
+
+/// Whether that forest is peeled from the ends of its paths, in each round by rising number.
+fn is_forest_peeled(peeled: &Peeled<2>) -> bool
+    requires levels { length peeled.now.levels ≡ 1141 }
+    requires pivots { length peeled.now.pivots ≡ 1141 }
+{
+    for e in 0..1141u32 {
+        let (before, after) = around(e);
+        if peeled.level(e) != before.min(after) + 1 || peeled.pivot(e) != (before > after) as u32 {
+            return false;
+        }
+    }
+    let order = peeled.order();
+    if order.len() != 1141 || peeled.rest().len() != 0 {
+        return false;
+    }
+    for i in 1..1141usize {
+        let (d, e) = (order[i - 1], order[i]);
+        if d >= 1141 || e >= 1141 {
+            return false;
+        }
+        let (now, next) = (peeled.level(d), peeled.level(e));
+        if now > next || (now == next && d >= e) {
+            return false;
+        }
+    }
+    true
+}
+
+/// The first ten rounds have 42 edges each, which are marked, and the last ones two, which are sorted.
+#[test]
+fn forest(rt: HostRuntime) -> Result<(), Fail> {
+    let mut edges = Edges::<2>::new(rt.alloc(), 1162);
+    for e in 0..1141u32 {
+        let v = first_end(e);
+        assert!(rt; add(&mut edges, v, v + 1)?);
+    }
+    assert_eq!(rt; edges.len(), 1141);
+    let peeled = peeled_pairs(rt.alloc(), &edges)?;
+    assert!(rt; is_forest_peeled(&peeled));
+    let chained = chained_pairs(rt.alloc(), &edges)?;
+    assert!(rt; is_forest_peeled(&chained));
+    Ok(())
+}

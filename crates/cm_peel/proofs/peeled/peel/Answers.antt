@@ -31,11 +31,13 @@ rounds-preserved g c =
     let inv = c.rounds.invariant in
     let levels = written_back c.advance.new.levels c.rounds.levels.items c.rounds.levels.len c.rounds.levels.ok.0 (c.advance.auto.levels ∙ ap length c.deref_mut-in-rounds.ensures.value) in
     let pivots = written_back c.advance.new.pivots c.rounds.pivots.items c.rounds.pivots.len c.rounds.pivots.ok.0 (c.advance.auto.pivots ∙ ap length c.deref_mut-in-rounds-2.ensures.value) in
+    let marks = written_back c.advance.new.marks c.rounds.marks.items c.rounds.marks.len c.rounds.marks.ok.0 (c.advance.auto.marks ∙ ap length c.deref_mut-in-rounds-3.ensures.value) in
     let state : AtRound c.args.edges.now (c.rounds.rounds + 1) (g.I.Incidence.links c.advance.new.incidence) c.len-end.result c.advance.new.order.items c.advance.new.levels c.advance.new.pivots =
     subst (λ (n : ℕ). AtRound c.args.edges.now (c.rounds.rounds + 1) (g.I.Incidence.links c.advance.new.incidence) n c.advance.new.order.items c.advance.new.levels c.advance.new.pivots) (sym c.len-end.ensures) c.in_ok-advance.ensures.state in
     record {
       state = rw (levels, pivots) state;
       fits = inv.fits;
+      marks = rw marks c.advance.ensures.marks;
       within = omega (arith, round_long _ _ _ _ _ _ _ state, c.advance.new.order.ok.0);
       steps = subst (λ (n : ℕ). c.advance.new.steps ≤ c.args.steps.now + 2 * (g.row.K * length c.args.edges.now.edges) + 4 * (g.row.K * n) + g.row.K * (vec_len c.advance.new.order - n)) (sym c.len-end.ensures)
           (steps_next g.row.K c.args.steps.now c.rounds.steps c.advance.new.steps (length c.args.edges.now.edges) c.rounds.start (vec_len c.rounds.order) (vec_len c.advance.new.order) inv.steps c.in_ok-advance.ensures.steps inv.within);
