@@ -173,7 +173,7 @@ pub(crate) fn take(
 }
 
 /// The degrees of an edge's ends.
-fn degrees_of<const K: usize, I: Incidence<K>, L: Ledger>(
+pub(crate) fn degrees_of<const K: usize, I: Incidence<K>, L: Ledger>(
     incidence: &I,
     ends: [u32; K],
     steps: &mut Steps<L>,
@@ -209,7 +209,7 @@ pub(crate) fn note_degrees<const K: usize, I: Incidence<K>, L: Ledger>(
 }
 
 /// The lowest position of a degree one, or `K`.
-fn first_one<const K: usize>(degrees: [u32; K]) -> u8
+pub(crate) fn first_one<const K: usize>(degrees: [u32; K]) -> u8
     requires small { K ≤ 3 }
     ensures { result ≡ position_or_len (λ d. d == 1) degrees.entry }
 {
