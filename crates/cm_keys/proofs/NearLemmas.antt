@@ -1,8 +1,8 @@
 -- The first place of a byte, as the head of its places.
-use Rattle.std.proofs.Common.{◌≡◌, ◌∙◌, ℕ, zero, suc, ◌+◌, ◌-◌, List, [], ◌∷◌, length, ap, sym, arith, refl, subst, Bool, true, false, if◌then◌else◌, ⊎_elim}
+use Rattle.std.proofs.Common.{◌≡◌, ◌∙◌, ℕ, zero, suc, ◌+◌, ◌-◌, List, [], ◌∷◌, length, ap, sym, arith, refl, subst, Option, None, Some, Bool, true, false, if◌then◌else◌, ⊎_elim}
 use Rattle.std.specs.Prelude.{slice_index}
 use Rattle.std.proofs.Math.Nat.{eq-or-lt_of_le}
-use Rattle.memchr.specs.Find.{NoneBefore, Nowhere, Passes, places, places_from}
+use Rattle.memchr.specs.Find.{IsFirstByte, NoneBefore, Nowhere, Passes, TakesFirst, places, places_from}
 
 -- the first place from i on, where it passes and where it doesn't
 first_of : (test : ℕ → Bool) (hay : List ℕ) (i n k : ℕ) (ks later : List ℕ) (t : Bool) → test (slice_index hay i) ≡ t
@@ -34,7 +34,7 @@ from_start n = omega arith
 to_end : (n : ℕ) → 0 + n ≡ n
 to_end n = omega arith
 
-pub first_place : (test : ℕ → Bool) (hay : List ℕ) (k : ℕ) (ks : List ℕ) → places test hay ≡ k ∷ ks → NoneBefore (Passes test hay) 0 (length hay) k × Passes test hay k
+first_place : (test : ℕ → Bool) (hay : List ℕ) (k : ℕ) (ks : List ℕ) → places test hay ≡ k ∷ ks → NoneBefore (Passes test hay) 0 (length hay) k × Passes test hay k
 first_place test hay k ks e = subst (λ (to : ℕ). NoneBefore (Passes test hay) 0 to k × Passes test hay k) (to_end (length hay)) (first_from test hay 0 (length hay) k ks (ap (places_from test hay 0) (sym (from_start (length hay))) ∙ e))
 
 none_of : (test : ℕ → Bool) (hay : List ℕ) (i n : ℕ) (later : List ℕ) (t : Bool) → test (slice_index hay i) ≡ t
@@ -48,5 +48,10 @@ unfolding places_from
 none_from test hay i zero e = λ j low high. absurd (omega (arith, low, high))
 none_from test hay i (suc n) e = none_of test hay i n (places_from test hay (i + 1) n) (test (slice_index hay i)) refl (none_from test hay (i + 1) n) e
 
-pub no_place : (test : ℕ → Bool) (hay : List ℕ) → places test hay ≡ [] → Nowhere (Passes test hay) 0 (length hay)
+no_place : (test : ℕ → Bool) (hay : List ℕ) → places test hay ≡ [] → Nowhere (Passes test hay) 0 (length hay)
 no_place test hay e = subst (λ (to : ℕ). Nowhere (Passes test hay) 0 to) (to_end (length hay)) (none_from test hay 0 (length hay) (ap (places_from test hay 0) (sym (from_start (length hay))) ∙ e))
+
+-- what an iterator over the places gives first
+pub first_taken : (test : ℕ → Bool) (hay old new : List ℕ) (r : Option ℕ) → old ≡ places test hay → TakesFirst old r new → IsFirstByte test hay r
+first_taken test hay old new None is takes = no_place test hay (sym is ∙ takes.0)
+first_taken test hay old new (Some k) is takes = first_place test hay k new (sym is ∙ takes)

@@ -2,6 +2,7 @@
 ghost use Rattle.std.specs.Prelude.{◌≡◌, ◌<◌, ◌≤◌, ◌++◌, ◌+◌, ℕ, List, [], true, false, Ok, IfOk, IfSome, IfNone, OnOk, length, drop};
 ghost use Rattle.std.specs.Option.{ForSome};
 ghost use Rattle.cm_outer.specs.Causes.{HasCause};
+ghost use Rattle.memchr.specs.Find.{IsFirstByte, is_byte};
 ghost use Rattle.cm_keys.specs.Buffering.{ready_in, left_bytes, HasNoEnd, TakesLines, TakesPart, ReadsLine};
 ghost use Rattle.cm_keys.specs.declared.buffered.TheConstants.{ROOM};
 
@@ -180,8 +181,7 @@ impl<S: Source> Buffered<S> {
         ensures none { IfNone result (HasNoEnd end (ready_in self.now.buf self.now.start self.now.until)) }
     {
         let ready = &self.buf[self.start..self.until];
-        // The search of an iterator begins with the next few bytes.
-        let n = match memchr_iter(end, ready).next() {
+        let n = match near_end(end, ready) {
             Some(n) => n,
             None => return None,
         };
@@ -217,6 +217,14 @@ impl<S: Source> Buffered<S> {
         self.start += last + 1;
         count as u32
     }
+}
+
+/// The first place of a byte. The search of an iterator begins with the next few bytes, where a line mostly ends.
+#[inline(never)]
+fn near_end(end: u8, bytes: &[u8]) -> Option<usize>
+    ensures { IsFirstByte (is_byte end) bytes.now result }
+{
+    memchr_iter(end, bytes).next()
 }
 
 /// Appends to a key, if there is room.
