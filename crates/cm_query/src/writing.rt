@@ -1,10 +1,10 @@
 //! What a query writes of one key.
-ghost use Rattle.std.specs.Prelude.{◌≡◌, ◌+◌, ◌++◌, ◌≤◌, ◌∷◌, [], ℕ, List, Option, codes, decimal, length};
+ghost use Rattle.std.specs.Prelude.{◌≡◌, ◌+◌, ◌++◌, ◌≤◌, ◌∷◌, [], ℕ, List, Option, Some, codes, decimal, length};
 ghost use Rattle.cm_outer.specs.Causes.{HasCause};
 ghost use Rattle.cm_outer.specs.Noting.{Noted};
 ghost use Rattle.cm_outer.specs.Writing.{Writes, joined};
 ghost use Rattle.cm_query.specs.Texts.{line_of, note_of, repeated_note, unknown_note};
-ghost use Rattle.cm_query.specs.declared.writing.TheConstants.{LINE_END};
+ghost use Rattle.cm_query.specs.declared.writing.TheConstants.{LINE_END, SHORT_KEY};
 
 use arrayvec::ArrayVec;
 use cm_outer::{Failed, Notes, Sink, write_pieces};
@@ -13,25 +13,46 @@ use itoa::Buffer;
 /// The byte that ends a line of the text on out.
 pub const LINE_END: u8 = 10;
 
+/// How long a line is at most that is put together before it is written, and what its key may have of it.
+const SHORT_LINE: usize = 256;
+const SHORT_KEY: usize = 241;
+
 /// Appends a part for which there is room.
-fn append(tail: &mut ArrayVec<u8, 15>, part: &[u8])
-    requires room { length tail.old.items + length part.now ≤ 15 }
-    ensures all { tail.new.items ≡ tail.old.items ++ part.now }
+fn append<const N: usize>(line: &mut ArrayVec<u8, N>, part: &[u8])
+    requires room { length line.old.items + length part.now ≤ N }
+    ensures all { line.new.items ≡ line.old.items ++ part.now }
 {
-    if tail.try_extend_from_slice(part).is_err() {
+    if line.try_extend_from_slice(part).is_err() {
         unreachable!();
     }
 }
 
-/// Puts into an empty tail what follows a key in its line: an arrow, the number in decimal, and the byte that ends the line.
-fn put_tail(tail: &mut ArrayVec<u8, 15>, number: u32, buffer: &mut Buffer)
-    requires empty { tail.old.items ≡ [] }
-    ensures tail { tail.new.items ≡ joined (codes " -> " ∷ decimal number ∷ (LINE_END ∷ []) ∷ []) }
+/// Appends what follows a key in its line: an arrow, the number in decimal, and the byte that ends the line.
+fn append_tail<const N: usize>(line: &mut ArrayVec<u8, N>, number: u32, buffer: &mut Buffer)
+    requires room { length line.old.items + 15 ≤ N }
+    ensures tail { line.new.items ≡ line.old.items ++ joined (codes " -> " ∷ decimal number ∷ (LINE_END ∷ []) ∷ []) }
 {
     let digits = buffer.format(number).as_bytes();
-    append(tail, b" -> ");
-    append(tail, digits);
-    tail.push(LINE_END);
+    append(line, b" -> ");
+    append(line, digits);
+    line.push(LINE_END);
+}
+
+/// Writes the line of a short key and its number as one piece.
+fn write_short<O: Sink>(
+    out: &mut O,
+    key: &[u8],
+    number: u32,
+    buffer: &mut Buffer,
+) -> Result<(), Failed>
+    requires short { length key.now ≤ SHORT_KEY }
+    ensures line { Writes (O.written out.old) (O.written out.new) (line_of LINE_END key.now (Some number)) result }
+    ensures cause { HasCause (O.faults out.old) (O.faults out.new) result }
+{
+    let mut line = ArrayVec::<u8, SHORT_LINE>::new();
+    append(&mut line, key);
+    append_tail(&mut line, number, buffer);
+    out.write(line.as_slice())
 }
 
 /// Writes the line of a key, if it has an answer. Fails exactly where the sink does, which has then taken a prefix of the line.
@@ -47,8 +68,11 @@ pub(crate) fn write_line<O: Sink>(
     let Some(number) = answer else {
         return Ok(());
     };
-    let mut tail = ArrayVec::new();
-    put_tail(&mut tail, number, buffer);
+    if key.len() <= SHORT_KEY {
+        return write_short(out, key, number, buffer);
+    }
+    let mut tail = ArrayVec::<u8, 15>::new();
+    append_tail(&mut tail, number, buffer);
     write_pieces(out, &[key, tail.as_slice()])
 }
 
