@@ -13,8 +13,10 @@ use itoa::Buffer;
 /// The byte that ends a line of the text on out.
 pub const LINE_END: u8 = 10;
 
-/// How long a line is at most that is put together before it is written, and what its key may have of it.
+/// How long a line is at most that is put together before it is written.
 const SHORT_LINE: usize = 256;
+
+/// How long the key of such a line is at most.
 const SHORT_KEY: usize = 241;
 
 /// Appends a part for which there is room.
