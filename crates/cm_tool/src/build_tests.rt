@@ -51,7 +51,7 @@ impl KeyPass for Changing<'_> {
 
     ghost faults = { λ p. p.faults };
 
-    ghost stands = { λ _ _. ⊥ };
+    ghost stands = { λ p _. p.given < 16777216 };
 
     fn usable(&self) -> bool {
         self.usable
@@ -73,7 +73,7 @@ impl KeyPass for Changing<'_> {
     }
 
     fn pass(&mut self, _len: usize) {
-        unreachable!()
+        self.given += 1;
     }
 
     fn rewind(&mut self) -> Result<(), KeyFault> {
