@@ -4,7 +4,7 @@
 mod plain;
 mod triples;
 
-use plain::{Edges, Function, Peeled};
+use plain::{Divisor, Edges, Function, Peeled};
 use std::io::{self, Write};
 use triples::{Cells, chosen};
 
@@ -13,6 +13,9 @@ const IDLE: u32 = 3;
 /// A word of 64 bits has 32 cells, and every fourth word, that is every 128th cell, has a rank.
 const PER_WORD: u32 = 32;
 const WORDS: u32 = 4;
+
+/// So many bytes follow the cells, so that whole words can be read.
+const SPARE: usize = 32;
 
 /// Cells of two bits, four a byte, with spare bytes at the end.
 struct Crumbs {
@@ -24,7 +27,7 @@ impl Crumbs {
     fn idle(n: u32) -> Crumbs {
         let mut bytes = vec![0xff; (n / 4) as usize];
         bytes.push((1 << (2 * (n % 4))) - 1);
-        bytes.resize(n.div_ceil(4) as usize + 8, 0);
+        bytes.resize(n.div_ceil(4) as usize + SPARE, 0);
         Crumbs { bytes }
     }
 
@@ -47,13 +50,8 @@ impl Cells for Crumbs {
 
 /// How many of the first cells of a word, at most 32, are not idle.
 fn busy(word: u64, cells: u32) -> u32 {
-    let idle = word & (word >> 1) & 0x5555_5555_5555_5555;
-    let looked = if cells < PER_WORD {
-        (1 << (2 * cells)) - 1
-    } else {
-        u64::MAX
-    };
-    cells - (idle & looked).count_ones()
+    let looked = 0x5555_5555_5555_5555 >> (PER_WORD - cells) >> (PER_WORD - cells);
+    cells - (word & (word >> 1) & looked).count_ones()
 }
 
 struct Bdz {
@@ -62,13 +60,16 @@ struct Bdz {
 }
 
 impl Bdz {
-    /// How many cells before this one are not idle.
+    /// How many cells before this one are not idle: all words of a sample are looked at, without a jump on how many count.
     fn rank(&self, v: u32) -> u32 {
-        let (last, cells) = (v / PER_WORD, v % PER_WORD);
-        let place = last / WORDS;
-        let whole = place * WORDS..last;
-        let counted: u32 = whole.map(|i| busy(self.cells.word(i), PER_WORD)).sum();
-        self.ranks[place as usize] + counted + busy(self.cells.word(last), cells)
+        let (place, cells) = (v / (WORDS * PER_WORD), v % (WORDS * PER_WORD));
+        let counted: u32 = (0..WORDS)
+            .map(|k| {
+                let many = cells.saturating_sub(k * PER_WORD).min(PER_WORD);
+                busy(self.cells.word(place * WORDS + k), many)
+            })
+            .sum();
+        self.ranks[place as usize] + counted
     }
 }
 
@@ -94,8 +95,12 @@ impl Function<3> for Bdz {
         triples::vertices(m)
     }
 
-    fn edge(words: [u32; 3], n: u32) -> [u32; 3] {
-        triples::edge(words, n)
+    fn range(n: u32) -> u32 {
+        n / 3
+    }
+
+    fn edge(words: [u32; 3], range: &Divisor) -> [u32; 3] {
+        triples::edge(words, range)
     }
 
     fn assign(edges: &Edges<3>, peeled: &Peeled, order: &[u32]) -> Bdz {
@@ -107,7 +112,7 @@ impl Function<3> for Bdz {
 
     fn save(&self, file: &mut impl Write) -> io::Result<()> {
         let bytes = &self.cells.bytes;
-        file.write_all(&bytes[..bytes.len() - 8])?;
+        file.write_all(&bytes[..bytes.len() - SPARE])?;
         for rank in &self.ranks {
             file.write_all(&rank.to_le_bytes())?;
         }
@@ -118,7 +123,7 @@ impl Function<3> for Bdz {
         let ranks = bytes.split_off(n.div_ceil(4) as usize);
         let ranks = ranks.as_chunks().0.iter();
         let ranks = ranks.map(|rank| u32::from_le_bytes(*rank)).collect();
-        bytes.extend_from_slice(&[0; 8]);
+        bytes.extend_from_slice(&[0; SPARE]);
         let cells = Crumbs { bytes };
         Bdz { cells, ranks }
     }

@@ -4,7 +4,7 @@
 mod plain;
 mod triples;
 
-use plain::{Edges, Function, Peeled};
+use plain::{Divisor, Edges, Function, Peeled};
 use std::io::{self, Write};
 use triples::{Cells, chosen};
 
@@ -56,8 +56,12 @@ impl Function<3> for BdzPh {
         triples::vertices(m)
     }
 
-    fn edge(words: [u32; 3], n: u32) -> [u32; 3] {
-        triples::edge(words, n)
+    fn range(n: u32) -> u32 {
+        n / 3
+    }
+
+    fn edge(words: [u32; 3], range: &Divisor) -> [u32; 3] {
+        triples::edge(words, range)
     }
 
     fn assign(edges: &Edges<3>, peeled: &Peeled, order: &[u32]) -> BdzPh {

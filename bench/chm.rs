@@ -3,8 +3,11 @@
 
 mod plain;
 
-use plain::{Edges, Function, Peeled};
+use plain::{Divisor, Edges, Function, Peeled};
 use std::io::{self, Write};
+
+/// How many edges are worked on together.
+const CHUNK: usize = 64;
 
 fn width(bound: u32) -> u32 {
     (1..27).find(|w| bound <= 1 << w).unwrap()
@@ -57,27 +60,39 @@ impl Function<2> for Chm {
         (Self::RATIO as u64 * m as u64).div_ceil(1_000_000) as u32
     }
 
-    fn edge(words: [u32; 3], n: u32) -> [u32; 2] {
-        let first = words[0] % n;
-        let second = words[1] % n;
-        if first == second {
-            [first, (first + 1) % n]
-        } else {
+    fn range(n: u32) -> u32 {
+        n
+    }
+
+    fn edge(words: [u32; 3], range: &Divisor) -> [u32; 2] {
+        let first = range.rem(words[0]);
+        let second = range.rem(words[1]);
+        if first != second {
             [first, second]
+        } else if first + 1 < range.n {
+            [first, first + 1]
+        } else {
+            [first, 0]
         }
     }
 
-    /// Edge by edge in the reverse of the order of peeling.
+    /// Edge by edge in the reverse of the order of peeling. The ends of some edges are read before the first of their cells is set.
     fn assign(edges: &Edges<2>, peeled: &Peeled, order: &[u32]) -> Chm {
         let m = edges.ends.len() as u32;
         let len = (edges.vertices as u64 * width(m) as u64).div_ceil(8) as usize;
         let mut cells = Fields::new(vec![0; len + 8], m);
-        for e in order.iter().rev() {
-            let ends = edges.ends[*e as usize];
-            let position = peeled.pivots[*e as usize] as usize;
-            let other = cells.get(ends[1 - position]);
-            let value = (*e as u64 + m as u64 - other as u64) % m as u64;
-            cells.set(ends[position], value as u32);
+        let mut ends = [[0; 2]; CHUNK];
+        let mut positions = [0; CHUNK];
+        for chunk in order.rchunks(CHUNK) {
+            for (i, e) in chunk.iter().enumerate() {
+                ends[i] = edges.ends[*e as usize];
+                positions[i] = peeled.pivots[*e as usize] as usize;
+            }
+            for (i, e) in chunk.iter().enumerate().rev() {
+                let other = cells.get(ends[i][1 - positions[i]]);
+                let value = e + if *e < other { m } else { 0 } - other;
+                cells.set(ends[i][positions[i]], value);
+            }
         }
         Chm { m, cells }
     }

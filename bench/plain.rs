@@ -33,8 +33,11 @@ pub trait Function<const K: usize> {
     /// How many vertices there are for m keys.
     fn vertices(m: u32) -> u32;
 
-    /// The ends for the words of a key over n vertices.
-    fn edge(words: [u32; 3], n: u32) -> [u32; K];
+    /// What the ends over n vertices are remainders by.
+    fn range(n: u32) -> u32;
+
+    /// The ends for the words of a key.
+    fn edge(words: [u32; 3], range: &Divisor) -> [u32; K];
 
     /// The function of edges of which peeling has left none.
     fn assign(edges: &Edges<K>, peeled: &Peeled, order: &[u32]) -> Self;
@@ -61,29 +64,71 @@ fn mix(s: [u32; 3]) -> [u32; 3] {
     [a, b, c]
 }
 
-fn word(bytes: &[u8]) -> u32 {
-    let mut word = 0;
-    for (i, byte) in bytes.iter().take(4).enumerate() {
-        word |= (*byte as u32) << (8 * i);
+fn four(bytes: &[u8], at: usize) -> u32 {
+    u32::from_le_bytes(bytes[at..at + 4].try_into().unwrap())
+}
+
+/// The last `n` of four bytes.
+fn last_of_four(bytes: &[u8], at: usize, n: usize) -> u32 {
+    ((four(bytes, at) as u64) >> (8 * (4 - n))) as u32
+}
+
+/// What is left of a key after its blocks of 12 bytes, without a jump on how much that is.
+fn tail(key: &[u8], rest: &[u8]) -> [u32; 3] {
+    let n = rest.len();
+    if n >= 4 {
+        let second = (n - 4).min(4);
+        let third = last_of_four(rest, n - 4, n.saturating_sub(8));
+        return [
+            four(rest, 0),
+            last_of_four(rest, second, second),
+            third << 8,
+        ];
     }
-    word
+    let first = if key.len() >= 12 {
+        last_of_four(key, key.len() - 4, n)
+    } else {
+        let bytes = rest.iter().rev();
+        bytes.fold(0, |word, byte| word << 8 | *byte as u32)
+    };
+    [first, 0, 0]
 }
 
 /// The three words of lookup2 (Jenkins 1997).
+#[inline(always)]
 fn words(key: &[u8], seed: u32) -> [u32; 3] {
     let mut s = [0x9e37_79b9, 0x9e37_79b9, seed];
     let (blocks, rest) = key.as_chunks::<12>();
     for block in blocks {
-        s[0] = s[0].wrapping_add(word(&block[..4]));
-        s[1] = s[1].wrapping_add(word(&block[4..8]));
-        s[2] = s[2].wrapping_add(word(&block[8..]));
+        s[0] = s[0].wrapping_add(four(block, 0));
+        s[1] = s[1].wrapping_add(four(block, 4));
+        s[2] = s[2].wrapping_add(four(block, 8));
         s = mix(s);
     }
-    s[0] = s[0].wrapping_add(word(rest));
-    s[1] = s[1].wrapping_add(word(rest.get(4..).unwrap_or(&[])));
-    let high = word(rest.get(8..).unwrap_or(&[])) << 8;
-    s[2] = s[2].wrapping_add(high).wrapping_add(key.len() as u32);
+    let [first, second, third] = tail(key, rest);
+    s[0] = s[0].wrapping_add(first);
+    s[1] = s[1].wrapping_add(second);
+    s[2] = s[2].wrapping_add(third).wrapping_add(key.len() as u32);
     mix(s)
+}
+
+/// A number to take remainders by, with its reciprocal (Barrett 1986).
+pub struct Divisor {
+    pub n: u32,
+    scaled: u64,
+}
+
+impl Divisor {
+    fn new(n: u32) -> Divisor {
+        let scaled = (1 << 32) / n as u64;
+        Divisor { n, scaled }
+    }
+
+    pub fn rem(&self, x: u32) -> u32 {
+        let quotient = (x as u64 * self.scaled) >> 32;
+        let left = x as u64 - quotient * self.n as u64;
+        left.min(left.wrapping_sub(self.n as u64)) as u32
+    }
 }
 
 // The lines
@@ -103,15 +148,54 @@ fn read_line(reader: &mut impl BufRead, bytes: &mut Vec<u8>) -> io::Result<bool>
     Ok(true)
 }
 
-/// Calls `each` with the lines of a file.
+/// The first line end, which is mostly near.
+fn find_end(bytes: &[u8]) -> Option<usize> {
+    bytes.iter().position(|byte| *byte == b'\n')
+}
+
+/// Calls `each` with the lines of a file, where they stand in the buffer but for those that lie across two reads.
 fn for_lines(path: &str, mut each: impl FnMut(&[u8])) -> io::Result<()> {
     let mut reader = open(path)?;
-    let mut line = Vec::new();
-    while read_line(&mut reader, &mut line)? {
-        each(&line);
-        line.clear();
+    let mut part = Vec::new();
+    loop {
+        let buffer = reader.fill_buf()?;
+        let (read, mut left) = (buffer.len(), buffer);
+        if read == 0 {
+            break;
+        }
+        while let Some(end) = find_end(left) {
+            if part.is_empty() {
+                each(&left[..end]);
+            } else {
+                part.extend_from_slice(&left[..end]);
+                each(&part);
+                part.clear();
+            }
+            left = &left[end + 1..];
+        }
+        part.extend_from_slice(left);
+        reader.consume(read);
+    }
+    if !part.is_empty() {
+        each(&part);
     }
     Ok(())
+}
+
+/// How many lines a file has.
+fn count_lines(path: &str) -> io::Result<u32> {
+    let mut reader = open(path)?;
+    let (mut count, mut last) = (0, b'\n');
+    loop {
+        let buffer = reader.fill_buf()?;
+        let read = buffer.len();
+        if read == 0 {
+            return Ok(count + (last != b'\n') as u32);
+        }
+        count += buffer.iter().filter(|byte| **byte == b'\n').count() as u32;
+        last = buffer[read - 1];
+        reader.consume(read);
+    }
 }
 
 /// Some keys, one after another.
@@ -162,12 +246,12 @@ fn save<F: Function<K>, const K: usize>(path: &str, m: u32, seed: u32, f: &F) ->
 
 fn build<F: Function<K>, const K: usize>(path: &str, seed: u32, timed: bool) -> io::Result<()> {
     let mut start = Instant::now();
-    let mut m = 0u32;
-    for_lines(path, |_| m += 1)?;
+    let m = count_lines(path)?;
     tell(timed, "count", &mut start);
     let n = F::vertices(m);
+    let range = Divisor::new(F::range(n));
     let mut ends = Vec::with_capacity(m as usize);
-    for_lines(path, |key| ends.push(F::edge(words(key, seed), n)))?;
+    for_lines(path, |key| ends.push(F::edge(words(key, seed), &range)))?;
     let edges = Edges { vertices: n, ends };
     tell(timed, "hash", &mut start);
     let linked = link(&edges);
@@ -234,6 +318,7 @@ fn load<F: Function<K>, const K: usize>(path: &str) -> io::Result<(F, u32, u32)>
 /// Some keys at a time: first the ends of all, then the answers of all. So the looks into the cells don't wait for one another.
 fn query<F: Function<K>, const K: usize>(path: &str) -> io::Result<()> {
     let (function, seed, n) = load::<F, K>(&format!("{path}.mph"))?;
+    let range = Divisor::new(F::range(n));
     let mut reader = open(path)?;
     let mut batch = Batch {
         bytes: Vec::with_capacity(PIECE),
@@ -248,7 +333,7 @@ fn query<F: Function<K>, const K: usize>(path: &str) -> io::Result<()> {
     batch.read(&mut reader)?;
     while !batch.ends.is_empty() {
         for (edge, key) in edges.iter_mut().zip(batch.keys()) {
-            *edge = F::edge(words(key, seed), n);
+            *edge = F::edge(words(key, seed), &range);
         }
         for (answer, edge) in answers.iter_mut().zip(&edges[..batch.ends.len()]) {
             *answer = function.answer(*edge);

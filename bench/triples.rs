@@ -1,8 +1,11 @@
 //! What BDZ and BDZ_PH share: edges of three ends, and cells that add up to the position of a key's own vertex, modulo 3.
 
-use crate::plain::{Edges, Peeled};
+use crate::plain::{Divisor, Edges, Peeled};
 
 pub const RATIO: u32 = 1_230_000;
+
+/// How many edges are worked on together.
+const CHUNK: usize = 64;
 
 /// A table of cells below 4.
 pub trait Cells {
@@ -19,22 +22,30 @@ pub fn vertices(m: u32) -> u32 {
 }
 
 /// One end in each third.
-pub fn edge(words: [u32; 3], n: u32) -> [u32; 3] {
-    let third = n / 3;
+pub fn edge(words: [u32; 3], third: &Divisor) -> [u32; 3] {
     [
-        words[0] % third,
-        third + words[1] % third,
-        2 * third + words[2] % third,
+        third.rem(words[0]),
+        third.n + third.rem(words[1]),
+        2 * third.n + third.rem(words[2]),
     ]
 }
 
-/// Sets the idle cells of a table, edge by edge in the reverse of the order of peeling. Idle cells are 0, modulo 3.
+/// Sets the idle cells of a table, edge by edge in the reverse of the order of peeling. Idle cells are 0, modulo 3. The ends of
+/// some edges are read before the first of their cells is set.
 pub fn assign(cells: &mut impl Cells, edges: &Edges<3>, peeled: &Peeled, order: &[u32]) {
-    for e in order.iter().rev() {
-        let ends = edges.ends[*e as usize];
-        let position = peeled.pivots[*e as usize] as usize;
-        let others = ends.map(|v| cells.get(v)).iter().sum::<u32>() - cells.get(ends[position]);
-        cells.set(ends[position], (position as u32 + 6 - others) % 3);
+    let mut ends = [[0; 3]; CHUNK];
+    let mut positions = [0; CHUNK];
+    for chunk in order.rchunks(CHUNK) {
+        for (i, e) in chunk.iter().enumerate() {
+            ends[i] = edges.ends[*e as usize];
+            positions[i] = peeled.pivots[*e as usize] as usize;
+        }
+        for i in (0..chunk.len()).rev() {
+            let own = ends[i][positions[i]];
+            let other = |v| if v == own { 0 } else { cells.get(v) };
+            let others: u32 = ends[i].map(other).iter().sum();
+            cells.set(own, (positions[i] as u32 + 9 - others) % 3);
+        }
     }
 }
 
