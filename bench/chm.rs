@@ -3,11 +3,8 @@
 
 mod plain;
 
-use plain::{Divisor, Edges, Function, Peeled};
+use plain::{CHUNK, Divisor, Edges, Function, Peeled, gather};
 use std::io::{self, Write};
-
-/// How many edges are worked on together.
-const CHUNK: usize = 64;
 
 fn width(bound: u32) -> u32 {
     (1..27).find(|w| bound <= 1 << w).unwrap()
@@ -84,10 +81,7 @@ impl Function<2> for Chm {
         let mut ends = [[0; 2]; CHUNK];
         let mut positions = [0; CHUNK];
         for chunk in order.rchunks(CHUNK) {
-            for (i, e) in chunk.iter().enumerate() {
-                ends[i] = edges.ends[*e as usize];
-                positions[i] = peeled.pivots[*e as usize] as usize;
-            }
+            gather(edges, peeled, chunk, &mut ends, &mut positions);
             for (i, e) in chunk.iter().enumerate().rev() {
                 let other = cells.get(ends[i][1 - positions[i]]);
                 let value = e + if *e < other { m } else { 0 } - other;

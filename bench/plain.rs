@@ -22,6 +22,23 @@ const PIECE: usize = 65_536;
 /// How many keys a query answers together.
 const BATCH: usize = 32;
 
+/// How many edges are worked on together where cells are set.
+pub const CHUNK: usize = 64;
+
+/// Reads the ends of some edges, and the position of each one's pivot, before the first of their cells is set.
+pub fn gather<const K: usize>(
+    edges: &Edges<K>,
+    peeled: &Peeled,
+    chunk: &[u32],
+    ends: &mut [[u32; K]; CHUNK],
+    positions: &mut [usize; CHUNK],
+) {
+    for (i, e) in chunk.iter().enumerate() {
+        ends[i] = edges.ends[*e as usize];
+        positions[i] = peeled.pivots[*e as usize] as usize;
+    }
+}
+
 /// A function of one algorithm, over edges of K ends.
 pub trait Function<const K: usize> {
     /// The algorithm and its parameter, as a function file has them.

@@ -1,11 +1,8 @@
 //! What BDZ and BDZ_PH share: edges of three ends, and cells that add up to the position of a key's own vertex, modulo 3.
 
-use crate::plain::{Divisor, Edges, Peeled};
+use crate::plain::{CHUNK, Divisor, Edges, Peeled, gather};
 
 pub const RATIO: u32 = 1_230_000;
-
-/// How many edges are worked on together.
-const CHUNK: usize = 64;
 
 /// A table of cells below 4.
 pub trait Cells {
@@ -36,10 +33,7 @@ pub fn assign(cells: &mut impl Cells, edges: &Edges<3>, peeled: &Peeled, order: 
     let mut ends = [[0; 3]; CHUNK];
     let mut positions = [0; CHUNK];
     for chunk in order.rchunks(CHUNK) {
-        for (i, e) in chunk.iter().enumerate() {
-            ends[i] = edges.ends[*e as usize];
-            positions[i] = peeled.pivots[*e as usize] as usize;
-        }
+        gather(edges, peeled, chunk, &mut ends, &mut positions);
         for i in (0..chunk.len()).rev() {
             let own = ends[i][positions[i]];
             let other = |v| if v == own { 0 } else { cells.get(v) };
