@@ -1,21 +1,20 @@
 -- What holds when a round would remove nothing.
-use Rattle.std.proofs.Common.{◌≡◌, ◌⊎◌, ℕ, zero, suc, ◌+◌, ◌-◌, ◌*◌, ◌<◌, ◌≤◌, Bool, true, false, cond, not, eqb, ◌&&◌, List, [], ◌∷◌, ◌++◌, length, get_or, map, sym, refl, ap, ◌∙◌, inl, inr, arith, append-nil}
+use Rattle.std.proofs.Common.{◌≡◌, ◌⊎◌, ℕ, zero, suc, ◌+◌, ◌-◌, ◌*◌, ◌<◌, ◌≤◌, Bool, true, false, cond, not, ltb, ◌&&◌, List, [], ◌∷◌, ◌++◌, length, get_or, map, sym, refl, ap, ◌∙◌, inl, inr, arith, append-nil}
 use Rattle.std.specs.List.{filter, list_all}
-use Rattle.std.proofs.lemmas.Bool.{cases_Bool, and_from, cond-true, cond-false, eq-eqb, ne_eqb}
+use Rattle.std.proofs.lemmas.Bool.{cases_Bool, and_from, cond-true, cond-false, lt-ltb, le-ltb}
 use Rattle.std.proofs.Math.Nat.{mul-le-mul_left}
 use Rattle.std.proofs.lemmas.Grind.{same_number_lists, get_or_default_zero}
-use Rattle.std.proofs.lemmas.List.Elements.{filter-append}
 use Rattle.cm_spec.specs.Lists.{numbers_from, has}
 use Rattle.cm_spec.specs.Graph.{places}
 use Rattle.cm_spec.specs.Rounds.{is_left, is_held, left_after, removed_after, rest_of, level_of, order_upto, order_of}
 use Rattle.cm_graph.specs.Graph.{Graph, Links}
 use Rattle.cm_peel.specs.AtRound.{AtRound}
-use Rattle.cm_peel.specs.Peeling.{IsPeelingOf, is_zero_at, zeros_of}
+use Rattle.cm_peel.specs.Peeling.{IsPeelingOf, levels_of, is_past, past_of}
+use Rattle.cm_peel.proofs.First.{kept_next}
 use Rattle.cm_peel.proofs.Sets.{filter_agree_on}
 use Rattle.cm_peel.proofs.Core.{left_after_is, IsStable, stable_stays, stable_next, no_length}
-use Rattle.cm_peel.proofs.Pieces.{numbers-append}
 use Rattle.cm_peel.proofs.RoundFacts.{has_left_from, place_below}
-use Rattle.cm_peel.proofs.Advance.{length-order, level_above}
+use Rattle.cm_peel.proofs.Advance.{length-order}
 use Rattle.cm_peel.proofs.NextRound.{round_long}
 
 pub passes_all : (p : ℕ → Bool) (xs : List ℕ) → filter (λ e. not (p e)) xs ≡ [] → list_all p xs ≡ true
@@ -72,49 +71,65 @@ length-map_numbers f b zero = refl
 length-map_numbers f b (suc n) = ap suc (length-map_numbers f (suc b) n)
 
 -- a round that would begin past the order removes nothing
-pub none_next : (graph : Graph) (t : ℕ) (l : Links) (start : ℕ) (order levels pivots : List ℕ) → AtRound graph t l start order levels pivots → length order ≤ start → removed_after graph.edges t ≡ []
-none_next graph t l start order levels pivots a past = no_length (removed_after graph.edges t) (omega (arith, round_long graph t l start order levels pivots a))
+pub none_next : (k : ℕ) (graph : Graph) (t : ℕ) (l : Links) (start : ℕ) (order levels pivots : List ℕ) → AtRound k graph t l start order levels pivots → length order ≤ start → removed_after graph.edges t ≡ []
+none_next k graph t l start order levels pivots a past = no_length (removed_after graph.edges t) (omega (arith, round_long k graph t l start order levels pivots a))
 
-pub ended : (graph : Graph) (t : ℕ) (l : Links) (start : ℕ) (order levels pivots rest : List ℕ) → AtRound graph t l start order levels pivots → length order ≤ start → rest ≡ zeros_of levels → IsPeelingOf graph.edges (record { order = order; levels = levels; pivots = pivots; rest = rest })
-ended graph t l start order levels pivots rest a past rest_are = record {
+-- what is left then is the rest
+pub rest_now : (k : ℕ) (graph : Graph) (t : ℕ) (l : Links) (start : ℕ) (order levels pivots : List ℕ) → AtRound k graph t l start order levels pivots → length order ≤ start → rest_of graph.edges ≡ left_after graph.edges (suc t)
+rest_now k graph t l start order levels pivots a past = rest_is graph.edges t few none ∙ sym (stable_stays graph.edges t (stable_at graph.edges t none)) where
+  none : removed_after graph.edges t ≡ []
+  none = none_next k graph t l start order levels pivots a past
+
+  few : t ≤ length graph.edges
+  few = omega (arith, a.few, a.start_is, length-order graph.edges t)
+
+-- the edges past their ends are those that are left, and the order has the others
+past_are : (k : ℕ) (graph : Graph) (t : ℕ) (l : Links) (start : ℕ) (order levels pivots : List ℕ) → AtRound k graph t l start order levels pivots → past_of k pivots ≡ left_after graph.edges (suc t)
+past_are k graph t l start order levels pivots a = ap (λ m. filter (is_past k pivots) (numbers_from 0 m)) a.pivots_long ∙ (filter_agree_on (is_past k pivots) (is_left graph.edges (suc t)) (places graph.edges)
+    (λ e m. ap not (a.taken e (place_below graph.edges e m)) ∙ not-not (is_left graph.edges (suc t) e)) ∙ sym (left_after_is graph.edges (suc t))) where
+      not-not : (b : Bool) → not (not b) ≡ b
+      not-not true = refl
+      not-not false = refl
+
+pub past_many : (k : ℕ) (graph : Graph) (t : ℕ) (l : Links) (start : ℕ) (order levels pivots : List ℕ) → AtRound k graph t l start order levels pivots → length order + length (past_of k pivots) ≡ length graph.edges
+past_many k graph t l start order levels pivots a = omega (arith, length-order graph.edges (suc t), ap length a.order_is, ap length (past_are k graph t l start order levels pivots a))
+
+pub ended : (k : ℕ) (graph : Graph) (t : ℕ) (l : Links) (start : ℕ) (order levels pivots rest : List ℕ) → AtRound k graph t l start order levels pivots → length order ≤ start → rest ≡ past_of k pivots → IsPeelingOf graph.edges (record { order = order; levels = levels; pivots = pivots; rest = rest })
+ended k graph t l start order levels pivots rest a past rest_are = record {
   order = a.order_is ∙ (ap (λ (xs : List ℕ). order_upto edges t ++ xs) none ∙ (append-nil _ ∙ sym (order_is edges t few none)));
-  level = same_number_lists levels (map (level_of edges) (places edges)) (a.levels_long ∙ sym (length-map_numbers (level_of edges) 0 (length edges)))
-      (λ k h. level_at k (omega (arith, a.levels_long)) ∙ sym (map_numbers (level_of edges) 0 (length edges) k (omega (arith, a.levels_long)) ∙ ap (level_of edges) (omega arith)));
   pivot = λ e h above. a.pivot e h (gone e h above (cases_Bool (is_left edges (suc t) e)));
-  levels_long = a.levels_long;
   pivots_long = a.pivots_long;
-  rest = rest_are ∙ (ap (λ m. filter (is_zero_at levels) (numbers_from 0 m)) a.levels_long ∙ (filter_agree_on (is_zero_at levels) (is_left edges (length edges)) (places edges)
-      (λ e m. let h : e < length edges = place_below edges e m in ap (λ x. eqb x 0) (level_at e h) ∙ zero_where e h (cases_Bool (is_left edges (length edges) e))) ∙ sym (left_after_is edges (length edges))));
+  rest = rest_are ∙ (past_are k graph t l start order levels pivots a ∙ sym (rest_now k graph t l start order levels pivots a past));
 } where
   edges : List (List ℕ)
   edges = graph.edges
 
   none : removed_after graph.edges t ≡ []
-  none = none_next graph t l start order levels pivots a past
+  none = none_next k graph t l start order levels pivots a past
 
   few : t ≤ length graph.edges
   few = omega (arith, a.few, a.start_is, length-order graph.edges t)
 
-  same : rest_of graph.edges ≡ left_after graph.edges (suc t)
-  same = rest_is graph.edges t few none ∙ sym (stable_stays graph.edges t (stable_at graph.edges t none))
-
-  here_zero : (e : ℕ) → e < length graph.edges → is_left graph.edges (suc t) e ≡ true → level_of graph.edges e ≡ 0
-  here_zero e h here = level_zero edges e (ap (λ (xs : List ℕ). has xs e) same ∙ has_left_from edges (suc t) e h here)
-
-  level_by : (e : ℕ) → e < length graph.edges → (is_left graph.edges (suc t) e ≡ true) ⊎ (is_left graph.edges (suc t) e ≡ false) → cond (is_left graph.edges (suc t) e) 0 (level_of graph.edges e) ≡ level_of graph.edges e
-  level_by e h (inl here) = cond-true _ 0 (level_of edges e) here ∙ sym (here_zero e h here)
-  level_by e h (inr out) = cond-false _ 0 (level_of edges e) out
-
-  level_at : (e : ℕ) → e < length graph.edges → get_or levels e 0 ≡ level_of graph.edges e
-  level_at e h = a.level e h ∙ level_by e h (cases_Bool (is_left edges (suc t) e))
-
   gone : (e : ℕ) → e < length graph.edges → 0 < level_of graph.edges e → (is_left graph.edges (suc t) e ≡ true) ⊎ (is_left graph.edges (suc t) e ≡ false) → is_left graph.edges (suc t) e ≡ false
-  gone e h above (inl here) = let z : level_of graph.edges e ≡ 0 = here_zero e h here in absurd (omega arith)
+  gone e h above (inl here) =
+      let z : level_of graph.edges e ≡ 0 = level_zero edges e (ap (λ (xs : List ℕ). has xs e) (rest_now k graph t l start order levels pivots a past) ∙ has_left_from edges (suc t) e h here) in
+      absurd (omega arith)
   gone e h above (inr out) = out
 
-  zero_where : (e : ℕ) → e < length graph.edges → (is_left graph.edges (length graph.edges) e ≡ true) ⊎ (is_left graph.edges (length graph.edges) e ≡ false) → eqb (level_of graph.edges e) 0 ≡ is_left graph.edges (length graph.edges) e
-  zero_where e h (inl here) = eq-eqb _ 0 (level_zero edges e (has_left_from edges (length edges) e h here)) ∙ sym here
-  zero_where e h (inr out) = ne_eqb _ 0 (λ z. absurd (omega (arith, level_above edges e h out))) ∙ sym out
+-- the levels that are noted then
+pub levels_ended : (k : ℕ) (graph : Graph) (t : ℕ) (l : Links) (start : ℕ) (order levels pivots : List ℕ) → AtRound k graph t l start order levels pivots → length order ≤ start → (e : ℕ) → e < length levels → get_or levels e 0 ≡ level_of graph.edges e
+levels_ended k graph t l start order levels pivots a past e h = a.level e h ∙ go (cases_Bool (is_left graph.edges (suc t) e)) where
+  place : e < length graph.edges
+  place = omega (arith, a.levels_kept (omega arith))
+
+  go : (is_left graph.edges (suc t) e ≡ true) ⊎ (is_left graph.edges (suc t) e ≡ false) → cond (is_left graph.edges (suc t) e) 0 (level_of graph.edges e) ≡ level_of graph.edges e
+  go (inl here) = cond-true _ 0 (level_of graph.edges e) here ∙ sym (level_zero graph.edges e (ap (λ (xs : List ℕ). has xs e) (rest_now k graph t l start order levels pivots a past) ∙ has_left_from graph.edges (suc t) e place here))
+  go (inr out) = cond-false _ 0 (level_of graph.edges e) out
+
+-- a table of all levels
+pub all_levels : (edges : List (List ℕ)) (levels : List ℕ) → length levels ≡ length edges → ((e : ℕ) → e < length levels → get_or levels e 0 ≡ level_of edges e) → levels ≡ levels_of edges
+all_levels edges levels long each = same_number_lists levels (map (level_of edges) (places edges)) (long ∙ sym (length-map_numbers (level_of edges) 0 (length edges)))
+    (λ k h. each k h ∙ sym (map_numbers (level_of edges) 0 (length edges) k (omega (arith, long)) ∙ ap (level_of edges) (omega arith)))
 
 -- the steps of the whole
 pub steps_next : (k s₀ s s' m start at now : ℕ) → s ≤ s₀ + 2 * (k * m) + 4 * (k * start) + k * (at - start) → s' ≤ s + 3 * (k * (at - start)) + k * (now - at) → start ≤ at → s' ≤ s₀ + 2 * (k * m) + 4 * (k * at) + k * (now - at)
@@ -139,15 +154,12 @@ steps_end k s₀ s m start at a h few =
     let less : at - start ≤ m = omega arith in
     omega (arith, mul-le-mul_left k h, mul-le-mul_left k less)
 
--- one more place of the rest
-pub zeros_more : (levels now new : List ℕ) (e : ℕ) → now ≡ filter (is_zero_at levels) (numbers_from 0 e) → new ≡ now ++ cond (is_zero_at levels e) (e ∷ []) [] → new ≡ filter (is_zero_at levels) (numbers_from 0 (e + 1))
-zeros_more levels now new e was is =
-    let z : 0 + e ≡ e = omega arith in
-    let t : numbers_from 0 (e + 1) ≡ numbers_from 0 e ++ e ∷ [] = sym (numbers-append 0 e 1) ∙ ap (λ x. numbers_from 0 e ++ x ∷ []) z in
-    is ∙ (ap (λ (xs : List ℕ). xs ++ cond (is_zero_at levels e) (e ∷ []) []) was ∙ (sym (filter-append (is_zero_at levels) (numbers_from 0 e) (e ∷ [])) ∙ ap (filter (is_zero_at levels)) (sym t)))
+-- one more edge
+pub past_more : (k : ℕ) (pivots now new : List ℕ) (e : ℕ) → now ≡ filter (is_past k pivots) (numbers_from 0 e) → new ≡ now ++ cond (is_past k pivots e) (e ∷ []) [] → new ≡ filter (is_past k pivots) (numbers_from 0 (e + 1))
+past_more k pivots now new e was is = is ∙ (ap (λ (xs : List ℕ). xs ++ cond (is_past k pivots e) (e ∷ []) []) was ∙ sym (kept_next (is_past k pivots) e))
 
-pub zero_here : (levels : List ℕ) (e x : ℕ) → e < length levels → x ≡ get_or levels e x → x ≡ 0 → is_zero_at levels e ≡ true
-zero_here levels e x h read z = eq-eqb _ 0 (sym (get_or_default_zero levels e x h) ∙ (sym read ∙ z))
+pub past_here : (k : ℕ) (pivots : List ℕ) (e x : ℕ) → e < length pivots → x ≡ get_or pivots e x → k ≤ x → is_past k pivots e ≡ true
+past_here k pivots e x h read far = ap not (ap (λ y. ltb y k) (sym (read ∙ get_or_default_zero pivots e x h)) ∙ le-ltb x k far)
 
-pub not_zero_here : (levels : List ℕ) (e x : ℕ) → e < length levels → x ≡ get_or levels e x → (x ≡ 0 → ⊥) → is_zero_at levels e ≡ false
-not_zero_here levels e x h read z = ne_eqb _ 0 (λ s. z (read ∙ (get_or_default_zero levels e x h ∙ s)))
+pub not_past_here : (k : ℕ) (pivots : List ℕ) (e x : ℕ) → e < length pivots → x ≡ get_or pivots e x → x < k → is_past k pivots e ≡ false
+not_past_here k pivots e x h read low = ap not (ap (λ y. ltb y k) (sym (read ∙ get_or_default_zero pivots e x h)) ∙ lt-ltb x k low)

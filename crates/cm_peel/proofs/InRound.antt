@@ -1,21 +1,21 @@
 -- What the chunks of a round do, one after another.
-use Rattle.std.proofs.Common.{◌≡◌, ◌≢◌, ◌⊎◌, ℕ, suc, ◌+◌, ◌<◌, ◌≤◌, Bool, true, false, cond, not, eqb, ◌&&◌, ◌||◌, List, [], ◌∷◌, ◌++◌, length, get_or, map, take, drop, sym, refl, ap, ◌∙◌, subst, inl, inr, arith, append-nil, append_assoc}
+use Rattle.std.proofs.Common.{◌≡◌, ◌≢◌, ◌⊎◌, ℕ, suc, ◌+◌, ◌<◌, ◌≤◌, Bool, true, false, not, eqb, ltb, ◌&&◌, ◌||◌, List, [], ◌∷◌, ◌++◌, length, get_or, map, take, drop, sym, refl, ap, ◌∙◌, subst, inl, inr, arith, append-nil, append_assoc}
 use Rattle.std.specs.List.{All, count_by, filter, list_any}
 use Rattle.std.proofs.Math.Seq.{take-add}
 use Rattle.std.proofs.lemmas.List.{take-append-drop}
 use Rattle.std.proofs.lemmas.List.Elements.{All-from_get_or, Contains-get_or}
-use Rattle.std.proofs.lemmas.Bool.{cases_Bool, eqb-true, eq-eqb, ne_eqb, and_parts, and_from, and_left, and_right, or_cases, or_parts, or_left, or_right, cond-true, cond-false, false≢true, not_from_true, not_from_false}
+use Rattle.std.proofs.lemmas.Bool.{cases_Bool, eqb-true, eq-eqb, lt-ltb, and_parts, and_from, and_left, and_right, or_cases, or_parts, or_left, or_right, cond-true, cond-false, false≢true, not_from_true, not_from_false}
 use Rattle.cm_spec.specs.Lists.{has}
 use Rattle.cm_spec.specs.Graph.{touches, places, ends_at, degree_in}
-use Rattle.cm_spec.specs.Rounds.{is_left, is_held, left_after, removed_after, level_of, order_upto}
+use Rattle.cm_spec.specs.Rounds.{is_left, is_held, left_after, removed_after, order_upto}
 use Rattle.cm_graph.specs.Graph.{Graph, Links, degree_of, sole_of}
 use Rattle.cm_peel.specs.Incident.{AreLinked, is_free, is_picked, soles_of_all, unlinked_all}
 use Rattle.cm_peel.specs.AtRound.{AtRound, InRound, AreTaken}
+use Rattle.cm_peel.specs.Peeling.{is_past}
 use Rattle.cm_peel.proofs.Sets.{and_true, filter-filter, has-filter, has-from_Contains}
 use Rattle.cm_peel.proofs.Incident.{AreLinked-agree, AreLinked-unlinked_all, degree_linked}
-use Rattle.cm_peel.proofs.Taking.{has-append, AreApart-append}
+use Rattle.cm_peel.proofs.Taking.{has-append, AreApart-append, or_none}
 use Rattle.cm_peel.proofs.RoundFacts.{count_by_some, count_by_found, count_by-both, has_place, has_left_from, has_removed, picked_is, sole_found, sole_is, IsSoleOf, sole_among, sole_from}
-use Rattle.cm_peel.proofs.Advance.{not_left_later, level_above}
 
 -- an end of degree one
 pub any_found : (l : Links) (xs : List ℕ) → list_any (is_free l) xs ≡ true → (v : ℕ) × (has xs v ≡ true) × (degree_of l v ≡ 1)
@@ -86,16 +86,17 @@ newly_picked graph p es l m e a b h linked before now =
     subst (λ x. has (soles_of_all m (map (ends_at edges) es)) x ≡ true) is (sole_from m edges es c.0 v (not_not _ parts.1) c.2 f.2)
 
 -- before the first chunk
-pub in_round_none : (graph : Graph) (t : ℕ) (l : Links) (start : ℕ) (order levels pivots : List ℕ) → AtRound graph t l start order levels pivots → InRound graph t 0 l order levels
-in_round_none graph t l start order levels pivots a = record {
-  linked = AreLinked-agree graph (is_left graph.edges t) (λ e. is_left graph.edges t e && true) l a.linked (λ k h. and_true (is_left graph.edges t k));
+pub in_round_none : (k : ℕ) (graph : Graph) (t : ℕ) (l : Links) (start : ℕ) (order levels pivots : List ℕ) → AtRound k graph t l start order levels pivots → InRound k graph t 0 l order pivots
+in_round_none k graph t l start order levels pivots a = record {
+  linked = AreLinked-agree graph (is_left graph.edges t) (λ e. is_left graph.edges t e && true) l a.linked (λ e h. and_true (is_left graph.edges t e));
   next = [];
   order_is = a.order_is ∙ sym (append-nil _);
   apart = tt;
   inside = λ e m. absurd (false≢true m);
   members = λ e h. sym (none e h (cases_Bool (is_left graph.edges (suc t) e)));
-  levels_long = a.levels_long;
-  level = a.level;
+  pivots_long = a.pivots_long;
+  pivot = a.pivot;
+  taken = a.taken;
 } where
   none : (e : ℕ) → e < length graph.edges → (is_left graph.edges (suc t) e ≡ true) ⊎ (is_left graph.edges (suc t) e ≡ false) → (is_left graph.edges (suc t) e && is_picked l graph.edges e) ≡ false
   none e h (inl here) =
@@ -136,23 +137,21 @@ still_here edges t d n e here =
     and_from _ _ (and_from _ _ both.0 (not_from_false _ parts.0)) (not_from_false _ (not_taken (drop d (removed_after edges t)) n e parts.1).0)
 
 -- one more chunk
-pub in_round_more : (graph : Graph) (t d n : ℕ) (l m : Links) (order levels order' levels' : List ℕ) → InRound graph t d l order levels → t < length graph.edges → m ≡ unlinked_all l (take n (drop d (removed_after graph.edges t)))
-    → AreTaken (soles_of_all m (map (ends_at graph.edges) (take n (drop d (removed_after graph.edges t))))) (suc (suc t)) levels levels' order order' → InRound graph t (d + n) m order' levels'
-in_round_more graph t d n l m order levels order' levels' r early is k = record {
+pub in_round_more : (w : ℕ) (graph : Graph) (t d n : ℕ) (l m : Links) (order pivots order' pivots' : List ℕ) → InRound w graph t d l order pivots → 0 < w → m ≡ unlinked_all l (take n (drop d (removed_after graph.edges t)))
+    → AreTaken w (soles_of_all m (map (ends_at graph.edges) (take n (drop d (removed_after graph.edges t))))) pivots pivots' order order' → InRound w graph t (d + n) m order' pivots'
+in_round_more w graph t d n l m order pivots order' pivots' r wide is k = record {
   linked = linked;
   next = r.next ++ k.fresh;
   order_is = k.order_is ∙ (ap (λ (xs : List ℕ). xs ++ k.fresh) r.order_is ∙ append_assoc (order_upto edges (suc t)) r.next k.fresh);
   apart = AreApart-append r.next k.fresh r.apart k.apart old_not_fresh;
   inside = λ e h. inside e (or_cases (has r.next e) (has k.fresh e) (sym (has-append r.next k.fresh e) ∙ h));
   members = λ e h. has-append r.next k.fresh e ∙ (ap (λ b. has r.next e || b) (k.members e) ∙ members e h (cases_Bool (is_left edges (suc t) e)) (cases_Bool (has r.next e)));
-  levels_long = k.levels_long ∙ r.levels_long;
-  level = λ e h. k.level e (omega (arith, r.levels_long)) ∙ (ap (λ x. cond (has k.fresh e) (suc (suc t)) x) (r.level e h) ∙ (nested (has r.next e) (has k.fresh e) (suc (suc t)) _ ∙ ap (λ b. cond b (suc (suc t)) (cond (is_left edges (suc t) e) 0 (level_of edges e))) (sym (has-append r.next k.fresh e))));
+  pivots_long = k.pivots_long ∙ r.pivots_long;
+  pivot = λ e h gone. k.pivot e (omega (arith, r.pivots_long)) ∙ (cond-false _ 0 (get_or pivots e 0) (gone_not_fresh e h gone) ∙ r.pivot e h gone);
+  taken = λ e h. taken e h (cases_Bool (has k.fresh e));
 } where
   edges : List (List ℕ)
   edges = graph.edges
-
-  round : List ℕ
-  round = removed_after graph.edges t
 
   chunk : List ℕ
   chunk = take n (drop d (removed_after graph.edges t))
@@ -163,11 +162,6 @@ in_round_more graph t d n l m order levels order' levels' r early is k = record 
   before : AreLinked graph (without (is_left graph.edges t) (take d (removed_after graph.edges t))) l
   before = r.linked
 
-  nested : (a b : Bool) (x y : ℕ) → cond b x (cond a x y) ≡ cond (a || b) x y
-  nested true true x y = refl
-  nested true false x y = refl
-  nested false b x y = refl
-
   linked : AreLinked graph (without (is_left graph.edges t) (take (d + n) (removed_after graph.edges t))) m
   linked = subst (λ (x : Links). AreLinked graph (without (is_left graph.edges t) (take (d + n) (removed_after graph.edges t))) x) (sym is) (linked_chunk graph t d n l before)
 
@@ -175,36 +169,47 @@ in_round_more graph t d n l m order levels order' levels' r early is k = record 
   after = subst (λ (x : Links). AreLinked graph (without (without (is_left graph.edges t) (take d (removed_after graph.edges t))) (take n (drop d (removed_after graph.edges t)))) x) (sym is)
       (AreLinked-unlinked_all graph (take n (drop d (removed_after graph.edges t))) (without (is_left graph.edges t) (take d (removed_after graph.edges t))) l before)
 
+  -- what was taken before
+  within_not_fresh : (e : ℕ) → ltb (get_or pivots e 0) w ≡ true → has k.fresh e ≡ false
+  within_not_fresh e h = k.members e ∙ and_right (has soles e) _ (ap not h)
+
   old_not_fresh : (e : ℕ) → has r.next e ≡ true → has k.fresh e ≡ false
-  old_not_fresh e h =
-      let two : get_or levels e 0 ≡ suc (suc t) = r.level e (r.inside e h) ∙ cond-true _ (suc (suc t)) _ h in
-      k.members e ∙ and_right (has soles e) _ (ne_eqb (get_or levels e 0) 0 (λ z. absurd (omega arith)))
+  old_not_fresh e h = within_not_fresh e (r.taken e (r.inside e h) ∙ or_left (has r.next e) _ h)
+
+  gone_not_fresh : (e : ℕ) → e < length graph.edges → is_left graph.edges (suc t) e ≡ false → has k.fresh e ≡ false
+  gone_not_fresh e h gone = within_not_fresh e (r.taken e h ∙ or_right (has r.next e) _ (not_from_false _ gone))
+
+  taken : (e : ℕ) → e < length graph.edges → (has k.fresh e ≡ true) ⊎ (has k.fresh e ≡ false) → ltb (get_or pivots' e 0) w ≡ (has (r.next ++ k.fresh) e || not (is_left graph.edges (suc t) e))
+  taken e h (inl m) =
+      let first : get_or pivots' e 0 ≡ 0 = k.pivot e (omega (arith, r.pivots_long)) ∙ cond-true _ 0 (get_or pivots e 0) m in
+      lt-ltb _ w (omega arith) ∙ sym (or_left _ _ (has-append r.next k.fresh e ∙ or_right (has r.next e) _ m))
+  taken e h (inr m) =
+      ap (λ x. ltb x w) (k.pivot e (omega (arith, r.pivots_long)) ∙ cond-false _ 0 (get_or pivots e 0) m)
+      ∙ (r.taken e h ∙ ap (λ b. b || not (is_left edges (suc t) e)) (sym (has-append r.next k.fresh e ∙ (ap (λ b. has r.next e || b) m ∙ or_none (has r.next e)))))
 
   inside : (e : ℕ) → (has r.next e ≡ true) ⊎ (has k.fresh e ≡ true) → e < length graph.edges
   inside e (inl h) = r.inside e h
   inside e (inr h) = (sole_picked graph _ chunk m e linked (and_parts (has soles e) _ (sym (k.members e) ∙ h)).0).0
 
   members : (e : ℕ) → e < length graph.edges → (is_left graph.edges (suc t) e ≡ true) ⊎ (is_left graph.edges (suc t) e ≡ false) → (has r.next e ≡ true) ⊎ (has r.next e ≡ false)
-      → (has r.next e || (has (soles_of_all m (map (ends_at graph.edges) (take n (drop d (removed_after graph.edges t))))) e && eqb (get_or levels e 0) 0)) ≡ (is_left graph.edges (suc t) e && is_picked m graph.edges e)
+      → (has r.next e || (has (soles_of_all m (map (ends_at graph.edges) (take n (drop d (removed_after graph.edges t))))) e && is_past w pivots e)) ≡ (is_left graph.edges (suc t) e && is_picked m graph.edges e)
   members e h (inl here) old = go old ∙ sym (ap (λ b. b && is_picked m graph.edges e) here) where
     linked_still : without (without (is_left graph.edges t) (take d (removed_after graph.edges t))) (take n (drop d (removed_after graph.edges t))) e ≡ true
     linked_still = still_here graph.edges t d n e here
 
-    go : (has r.next e ≡ true) ⊎ (has r.next e ≡ false) → (has r.next e || (has (soles_of_all m (map (ends_at graph.edges) (take n (drop d (removed_after graph.edges t))))) e && eqb (get_or levels e 0) 0)) ≡ is_picked m graph.edges e
+    go : (has r.next e ≡ true) ⊎ (has r.next e ≡ false) → (has r.next e || (has (soles_of_all m (map (ends_at graph.edges) (take n (drop d (removed_after graph.edges t))))) e && is_past w pivots e)) ≡ is_picked m graph.edges e
     go (inl o) =
         let pick : is_picked l graph.edges e ≡ true = (and_parts (is_left edges (suc t) e) _ (sym (r.members e h) ∙ o)).1 in
-        or_left (has r.next e) (has soles e && eqb (get_or levels e 0) 0) o ∙ sym (still_picked graph _ chunk l m e before after h linked_still pick)
+        or_left (has r.next e) (has soles e && is_past w pivots e) o ∙ sym (still_picked graph _ chunk l m e before after h linked_still pick)
     go (inr o) =
-        let zero' : get_or levels e 0 ≡ 0 = r.level e h ∙ (cond-false _ (suc (suc t)) _ o ∙ cond-true _ 0 (level_of edges e) here) in
+        let past : is_past w pivots e ≡ true = ap not (r.taken e h ∙ (ap (λ b. b || not (is_left edges (suc t) e)) o ∙ ap not here)) in
         let unpicked : is_picked l graph.edges e ≡ false = sym (r.members e h ∙ ap (λ b. b && is_picked l graph.edges e) here) ∙ o in
-        ap (λ b. b || (has soles e && eqb (get_or levels e 0) 0)) o ∙ (ap (λ b. has soles e && b) (eq-eqb (get_or levels e 0) 0 zero') ∙ (and_true (has soles e)
+        ap (λ b. b || (has soles e && is_past w pivots e)) o ∙ (ap (λ b. has soles e && b) past ∙ (and_true (has soles e)
         ∙ same_from (λ s. (sole_picked graph _ chunk m e linked s).1) (λ p. newly_picked graph _ chunk l m e before after h linked_still unpicked p)))
   members e h (inr gone) old =
       let none : has r.next e ≡ false = r.members e h ∙ and_left _ (is_picked l graph.edges e) gone in
-      let above : 0 < level_of edges e = level_above edges e h (not_left_later edges (length edges) (suc t) e (omega arith) gone) in
-      let level : get_or levels e 0 ≡ level_of edges e = r.level e h ∙ (cond-false _ (suc (suc t)) _ none ∙ cond-false _ 0 (level_of edges e) gone) in
-      let f : eqb (get_or levels e 0) 0 ≡ false = ne_eqb (get_or levels e 0) 0 (λ z. absurd (omega arith)) in
-      ap (λ b. b || (has soles e && eqb (get_or levels e 0) 0)) none ∙ (and_right (has soles e) _ f ∙ sym (and_left _ (is_picked m graph.edges e) gone))
+      let low : is_past w pivots e ≡ false = ap not (r.taken e h ∙ or_right (has r.next e) _ (not_from_false _ gone)) in
+      ap (λ b. b || (has soles e && is_past w pivots e)) none ∙ (and_right (has soles e) _ low ∙ sym (and_left _ (is_picked m graph.edges e) gone))
 
 -- the soles of a chunk are edges
 pub soles_inside : (graph : Graph) (q : ℕ → Bool) (es : List ℕ) (m : Links) → AreLinked graph q m → All (λ e. e < length graph.edges) (soles_of_all m (map (ends_at graph.edges) es))

@@ -1,14 +1,15 @@
--- Taking those of some edges that have no level yet, one after another.
-use Rattle.std.proofs.Common.{◌≡◌, ◌≢◌, ◌⊎◌, ℕ, ◌<◌, Bool, true, false, cond, eqb, ◌&&◌, ◌||◌, List, [], ◌∷◌, ◌++◌, length, get_or, set, sym, refl, ap, ◌∙◌, inl, inr, arith, append-nil, append_assoc, get_or-set_other}
+-- Taking those of some edges whose position is past their ends, one after another.
+use Rattle.std.proofs.Common.{◌≡◌, ◌≢◌, ◌⊎◌, ℕ, ◌<◌, ◌≤◌, Bool, true, false, cond, eqb, ltb, not, ◌&&◌, ◌||◌, List, [], ◌∷◌, ◌++◌, length, get_or, set, sym, refl, ap, ◌∙◌, inl, inr, arith, append-nil, append_assoc, get_or-set_other}
 use Rattle.std.specs.List.{IsDistinct, AllByRecursion}
 use Rattle.std.specs.List.Sorted.{IsStrictlyIncreasing, IsNonDecreasing}
-use Rattle.std.proofs.lemmas.Bool.{cases_Bool, cases_eq, eq-eqb, ne_eqb, and_parts, and_from, and_right, or_parts, or_left, or_right, cond-true, cond-false, false≢true}
+use Rattle.std.proofs.lemmas.Bool.{cases_Bool, cases_eq, eq-eqb, ne_eqb, lt-ltb, le-ltb, and_parts, and_from, and_right, or_parts, or_left, or_right, cond-true, cond-false, false≢true}
 use Rattle.std.proofs.lemmas.Grind.{get_or-set_at}
 use Rattle.std.proofs.lemmas.List.Folds.{list_any-append}
 use Rattle.std.proofs.lemmas.Map.Keys.{IsDistinct-cons, IsStrictlyIncreasing-from_distinct}
 use Rattle.std.proofs.Math.ListN.{length-set}
 use Rattle.cm_spec.specs.Lists.{has}
 use Rattle.cm_peel.specs.AtRound.{AreApart, AreTaken}
+use Rattle.cm_peel.specs.Peeling.{is_past}
 
 pub or_none : (b : Bool) → (b || false) ≡ b
 or_none true = refl
@@ -58,76 +59,78 @@ pub are_distinct : (xs : List ℕ) → AreApart xs → IsDistinct eqb xs
 are_distinct = distinct
 
 -- no edge yet
-pub taken_none : (given : ℕ) (levels order : List ℕ) → AreTaken [] given levels levels order order
-taken_none given levels order = record {
+pub taken_none : (k : ℕ) (pivots order : List ℕ) → AreTaken k [] pivots pivots order order
+taken_none k pivots order = record {
   fresh = [];
   order_is = sym (append-nil order);
   apart = tt;
   members = λ e. refl;
-  levels_long = refl;
-  level = λ e h. refl;
+  pivots_long = refl;
+  pivot = λ e h. refl;
 }
 
--- an edge that has a level, or got one
-pub taken_skip : (es : List ℕ) (e given : ℕ) (levels levels' order order' : List ℕ) → AreTaken es given levels levels' order order' → e < length levels → (get_or levels e 0 ≢ 0) ⊎ (get_or levels' e 0 ≢ 0) → AreTaken (es ++ e ∷ []) given levels levels' order order'
-taken_skip es e given levels levels' order order' t h some = record {
+-- an edge whose position is among its ends, before all or by now
+pub taken_skip : (k : ℕ) (es : List ℕ) (e : ℕ) (pivots pivots' order order' : List ℕ) → AreTaken k es pivots pivots' order order' → e < length pivots → (get_or pivots e 0 < k) ⊎ (get_or pivots' e 0 < k) → AreTaken k (es ++ e ∷ []) pivots pivots' order order'
+taken_skip k es e pivots pivots' order order' t h some = record {
   fresh = t.fresh;
   order_is = t.order_is;
   apart = t.apart;
   members = λ x. t.members x ∙ sym (go x some (cases_eq e x) (cases_Bool (has t.fresh e)));
-  levels_long = t.levels_long;
-  level = t.level;
+  pivots_long = t.pivots_long;
+  pivot = t.pivot;
 } where
-  old : (x : ℕ) → get_or levels e 0 ≢ 0 → e ≡ x → (has (es ++ e ∷ []) x && eqb (get_or levels x 0) 0) ≡ (has es x && eqb (get_or levels x 0) 0)
-  old x n same =
-      let f : eqb (get_or levels x 0) 0 ≡ false = ne_eqb _ 0 (λ z. n (ap (λ y. get_or levels y 0) same ∙ z)) in
+  old : (x : ℕ) → get_or pivots e 0 < k → e ≡ x → (has (es ++ e ∷ []) x && is_past k pivots x) ≡ (has es x && is_past k pivots x)
+  old x low same =
+      let f : is_past k pivots x ≡ false = ap not (ap (λ y. ltb (get_or pivots y 0) k) (sym same) ∙ lt-ltb _ k low) in
       and_right (has (es ++ e ∷ []) x) _ f ∙ sym (and_right (has es x) _ f)
 
-  go : (x : ℕ) → (get_or levels e 0 ≢ 0) ⊎ (get_or levels' e 0 ≢ 0) → (e ≡ x) ⊎ (e ≡ x → ⊥) → (has t.fresh e ≡ true) ⊎ (has t.fresh e ≡ false) → (has (es ++ e ∷ []) x && eqb (get_or levels x 0) 0) ≡ (has es x && eqb (get_or levels x 0) 0)
-  go x n (inr other) f = ap (λ b. b && eqb (get_or levels x 0) 0) (has-push_other es e x other)
-  go x (inl n) (inl same) f = old x n same
-  go x (inr n) (inl same) (inl m) =
+  go : (x : ℕ) → (get_or pivots e 0 < k) ⊎ (get_or pivots' e 0 < k) → (e ≡ x) ⊎ (e ≡ x → ⊥) → (has t.fresh e ≡ true) ⊎ (has t.fresh e ≡ false) → (has (es ++ e ∷ []) x && is_past k pivots x) ≡ (has es x && is_past k pivots x)
+  go x low (inr other) f = ap (λ b. b && is_past k pivots x) (has-push_other es e x other)
+  go x (inl low) (inl same) f = old x low same
+  go x (inr low) (inl same) (inl m) =
       let was : has es e ≡ true = (and_parts (has es e) _ (sym (t.members e) ∙ m)).0 in
       let was' : has es x ≡ true = ap (has es) (sym same) ∙ was in
-      ap (λ b. b && eqb (get_or levels x 0) 0) (has-push_same es e x same ∙ sym was')
-  go x (inr n) (inl same) (inr m) = old x (λ z. n (t.level e h ∙ (cond-false _ given _ m ∙ z))) same
+      ap (λ b. b && is_past k pivots x) (has-push_same es e x same ∙ sym was')
+  go x (inr low) (inl same) (inr m) =
+      let kept : get_or pivots' e 0 ≡ get_or pivots e 0 = t.pivot e h ∙ cond-false _ 0 _ m in
+      old x (omega arith) same
 
--- an edge that has none
-pub taken_add : (es : List ℕ) (e given : ℕ) (levels levels' order order' : List ℕ) → AreTaken es given levels levels' order order' → e < length levels → 0 < given → get_or levels' e 0 ≡ 0 → AreTaken (es ++ e ∷ []) given levels (set levels' e given) order (order' ++ e ∷ [])
-taken_add es e given levels levels' order order' t h some none = record {
+-- an edge whose position is past its ends
+pub taken_add : (k : ℕ) (es : List ℕ) (e : ℕ) (pivots pivots' order order' : List ℕ) → AreTaken k es pivots pivots' order order' → e < length pivots → 0 < k → k ≤ get_or pivots' e 0 → AreTaken k (es ++ e ∷ []) pivots (set pivots' e 0) order (order' ++ e ∷ [])
+taken_add k es e pivots pivots' order order' t h some past = record {
   fresh = t.fresh ++ e ∷ [];
   order_is = ap (λ (xs : List ℕ). xs ++ e ∷ []) t.order_is ∙ append_assoc order t.fresh (e ∷ []);
   apart = AreApart-push t.fresh e t.apart new;
   members = λ x. members x (cases_eq e x);
-  levels_long = length-set _ _ _ ∙ t.levels_long;
-  level = λ x h'. level x h' (cases_eq e x);
+  pivots_long = length-set _ _ _ ∙ t.pivots_long;
+  pivot = λ x h'. pivot x h' (cases_eq e x);
 } where
   new : has t.fresh e ≡ false
   new = go (cases_Bool (has t.fresh e)) where
     go : (has t.fresh e ≡ true) ⊎ (has t.fresh e ≡ false) → has t.fresh e ≡ false
-    go (inl m) = let z : given ≡ 0 = sym (t.level e h ∙ cond-true _ given (get_or levels e 0) m) ∙ none in absurd (omega arith)
+    go (inl m) = let z : get_or pivots' e 0 ≡ 0 = t.pivot e h ∙ cond-true _ 0 (get_or pivots e 0) m in absurd (omega arith)
     go (inr m) = m
 
-  zero_before : get_or levels e 0 ≡ 0
-  zero_before = sym (t.level e h ∙ cond-false _ given (get_or levels e 0) new) ∙ none
+  past_before : k ≤ get_or pivots e 0
+  past_before = let kept : get_or pivots' e 0 ≡ get_or pivots e 0 = t.pivot e h ∙ cond-false _ 0 (get_or pivots e 0) new in omega arith
 
-  members : (x : ℕ) → (e ≡ x) ⊎ (e ≡ x → ⊥) → has (t.fresh ++ e ∷ []) x ≡ (has (es ++ e ∷ []) x && eqb (get_or levels x 0) 0)
+  members : (x : ℕ) → (e ≡ x) ⊎ (e ≡ x → ⊥) → has (t.fresh ++ e ∷ []) x ≡ (has (es ++ e ∷ []) x && is_past k pivots x)
   members x (inl same) =
-      let z : eqb (get_or levels x 0) 0 ≡ true = eq-eqb _ 0 (ap (λ y. get_or levels y 0) (sym same) ∙ zero_before) in
+      let z : is_past k pivots x ≡ true = ap not (ap (λ y. ltb (get_or pivots y 0) k) (sym same) ∙ le-ltb _ k past_before) in
       has-push_same t.fresh e x same ∙ sym (and_from _ _ (has-push_same es e x same) z)
-  members x (inr other) = has-push_other t.fresh e x other ∙ (t.members x ∙ ap (λ b. b && eqb (get_or levels x 0) 0) (sym (has-push_other es e x other)))
+  members x (inr other) = has-push_other t.fresh e x other ∙ (t.members x ∙ ap (λ b. b && is_past k pivots x) (sym (has-push_other es e x other)))
 
-  level : (x : ℕ) → x < length levels → (e ≡ x) ⊎ (e ≡ x → ⊥) → get_or (set levels' e given) x 0 ≡ cond (has (t.fresh ++ e ∷ []) x) given (get_or levels x 0)
-  level x h' (inl same) =
-      let short : e < length levels' = omega (arith, t.levels_long) in
-      get_or-set_at levels' e x given 0 (sym same) short ∙ sym (cond-true _ given (get_or levels x 0) (has-push_same t.fresh e x same))
-  level x h' (inr other) =
+  pivot : (x : ℕ) → x < length pivots → (e ≡ x) ⊎ (e ≡ x → ⊥) → get_or (set pivots' e 0) x 0 ≡ cond (has (t.fresh ++ e ∷ []) x) 0 (get_or pivots x 0)
+  pivot x h' (inl same) =
+      let short : e < length pivots' = omega (arith, t.pivots_long) in
+      get_or-set_at pivots' e x 0 0 (sym same) short ∙ sym (cond-true _ 0 (get_or pivots x 0) (has-push_same t.fresh e x same))
+  pivot x h' (inr other) =
       let ne : x ≢ e = (λ s. other (sym s)) in
-      get_or-set_other levels' e x given 0 ne ∙ (t.level x h' ∙ ap (λ b. cond b given (get_or levels x 0)) (sym (has-push_other t.fresh e x other)))
+      get_or-set_other pivots' e x 0 0 ne ∙ (t.pivot x h' ∙ ap (λ b. cond b 0 (get_or pivots x 0)) (sym (has-push_other t.fresh e x other)))
 
 -- the same with what the code made
-pub taken_adds : (es : List ℕ) (e given : ℕ) (levels now levels' order kept order' : List ℕ) → AreTaken es given levels now order kept → e < length levels → 0 < given → get_or now e 0 ≡ 0 → levels' ≡ set now e given → order' ≡ kept ++ e ∷ [] → AreTaken (es ++ e ∷ []) given levels levels' order order'
-taken_adds es e given levels now levels' order kept order' t h some none is order_is = rw (is, order_is) (taken_add es e given levels now order kept t h some none)
+pub taken_adds : (k : ℕ) (es : List ℕ) (e : ℕ) (pivots now pivots' order kept order' : List ℕ) → AreTaken k es pivots now order kept → e < length pivots → 0 < k → k ≤ get_or now e 0 → pivots' ≡ set now e 0 → order' ≡ kept ++ e ∷ [] → AreTaken k (es ++ e ∷ []) pivots pivots' order order'
+taken_adds k es e pivots now pivots' order kept order' t h some past is order_is = rw (is, order_is) (taken_add k es e pivots now order kept t h some past)
 
-pub taken_skips : (es : List ℕ) (e given : ℕ) (levels now levels' order kept order' : List ℕ) → AreTaken es given levels now order kept → e < length levels → (get_or levels e 0 ≢ 0) ⊎ (get_or now e 0 ≢ 0) → levels' ≡ now → order' ≡ kept → AreTaken (es ++ e ∷ []) given levels levels' order order'
-taken_skips es e given levels now levels' order kept order' t h some is order_is = rw (is, order_is) (taken_skip es e given levels now order kept t h some)
+pub taken_skips : (k : ℕ) (es : List ℕ) (e : ℕ) (pivots now pivots' order kept order' : List ℕ) → AreTaken k es pivots now order kept → e < length pivots → (get_or pivots e 0 < k) ⊎ (get_or now e 0 < k) → pivots' ≡ now → order' ≡ kept → AreTaken k (es ++ e ∷ []) pivots pivots' order order'
+taken_skips k es e pivots now pivots' order kept order' t h low is order_is = rw (is, order_is) (taken_skip k es e pivots now order kept t h low)

@@ -121,55 +121,54 @@ pub(crate) fn list_soles<const K: usize, I: Incidence<K>, L: Ledger>(
     count
 }
 
-/// The levels of some edges.
-fn look_up(levels: &[u32], soles: &[u32], marks: &mut [u32])
-    requires places { All (λ e. e < length levels.now) soles.now }
+/// The positions that some edges have now.
+fn look_up(pivots: &[u8], soles: &[u32], marks: &mut [u8])
+    requires places { All (λ e. e < length pivots.now) soles.now }
     requires room { length soles.now ≤ length marks.old }
-    ensures { (i : ℕ) → i < length soles.now → slice_index marks.new i ≡ slice_index levels.now (slice_index soles.now i) }
+    ensures { (i : ℕ) → i < length soles.now → slice_index marks.new i ≡ slice_index pivots.now (slice_index soles.now i) }
 {
     for (i, e) in soles.iter().enumerate() {
-        marks[i] = levels[*e as usize];
+        marks[i] = pivots[*e as usize];
     }
 }
 
-/// Takes those of the edges that have no level yet, `marks` being their levels.
-fn take_fresh(
+/// Takes those of the edges whose position is past their ends, `marks` being their positions.
+fn take_fresh<const K: usize>(
     soles: &[u32],
-    marks: &[u32],
-    level: u32,
-    levels: &mut [u32],
+    marks: &[u8],
+    pivots: &mut [u8],
     order: &mut Vec<u32>,
 ) -> Result<(), AllocError>
-    requires places { All (λ e. e < length levels.old) soles.now }
+    requires some { 0 < K }
+    requires places { All (λ e. e < length pivots.old) soles.now }
     requires room { length soles.now ≤ length marks.now }
-    requires marks { (i : ℕ) → i < length soles.now → slice_index marks.now i ≡ slice_index levels.old (slice_index soles.now i) }
-    requires some { 0 < level }
-    ensures { OnOk result (AreTaken soles.now level levels.old levels.new order.old.items order.new.items) }
+    requires marks { (i : ℕ) → i < length soles.now → slice_index marks.now i ≡ slice_index pivots.old (slice_index soles.now i) }
+    ensures { OnOk result (AreTaken K soles.now pivots.old pivots.new order.old.items order.new.items) }
 {
     for (i, e) in soles.iter().enumerate() {
-        if marks[i] == 0 && levels[*e as usize] == 0 {
-            levels[*e as usize] = level;
+        if marks[i] as usize >= K && pivots[*e as usize] as usize >= K {
+            pivots[*e as usize] = 0;
             order.push(*e)?;
         }
     }
     Ok(())
 }
 
-/// Gives a level to those of the edges that have none, and adds them to the order. `marks` is room to work in.
-pub(crate) fn take(
+/// Adds those of the edges to the order whose position is past their ends, and gives them the first one, until the pivots of the
+/// round are set. `marks` is room to work in.
+pub(crate) fn take<const K: usize>(
     soles: &[u32],
-    level: u32,
-    marks: &mut [u32],
-    levels: &mut [u32],
+    marks: &mut [u8],
+    pivots: &mut [u8],
     order: &mut Vec<u32>,
 ) -> Result<(), AllocError>
-    requires places { All (λ e. e < length levels.old) soles.now }
+    requires some { 0 < K }
+    requires places { All (λ e. e < length pivots.old) soles.now }
     requires room { length soles.now ≤ length marks.old }
-    requires some { 0 < level }
-    ensures { OnOk result (AreTaken soles.now level levels.old levels.new order.old.items order.new.items) }
+    ensures { OnOk result (AreTaken K soles.now pivots.old pivots.new order.old.items order.new.items) }
 {
-    look_up(levels, soles, marks);
-    take_fresh(soles, marks, level, levels, order)
+    look_up(pivots, soles, marks);
+    take_fresh::<K>(soles, marks, pivots, order)
 }
 
 /// The degrees of an edge's ends.

@@ -1,7 +1,8 @@
 //! Peeling, and what it gives.
-ghost use Rattle.std.specs.Prelude.{◌≡◌, ℕ, ◌+◌, ◌*◌, ◌<◌, ◌≤◌, ◌^◌, length, IfOk, slice_index};
+ghost use Rattle.std.specs.Prelude.{◌≡◌, ℕ, ◌+◌, ◌*◌, ◌<◌, ◌≤◌, ◌^◌, [], length, IfOk, slice_index};
 ghost use Rattle.cm_spec.specs.Core.{IsCore};
-ghost use Rattle.cm_peel.specs.Peeling.{IsPeelingOf, zeros_of};
+ghost use Rattle.cm_spec.specs.Rounds.{level_of};
+ghost use Rattle.cm_peel.specs.Peeling.{IsPeelingOf, levels_of, past_of};
 
 use crate::round::{advance, begin, link_all};
 use cm_graph::{Edges, Incidence, Steps};
@@ -9,7 +10,8 @@ use std::alloc::{AllocError, Global};
 use std::marker::Model;
 use std::sync::ledger::Ledger;
 
-/// The removed edges in order, the level and the pivot of each edge, and the edges that are left.
+/// The removed edges in order, the level of each edge where levels are kept, the pivot of each removed edge, and the edges that are
+/// left.
 #[derive(Drop)]
 pub struct Peeled<const K: usize> {
     order: Vec<u32>,
@@ -41,7 +43,7 @@ impl<const K: usize> Peeled<K> {
         &self.rest
     }
 
-    /// The round that removed the edge, from 1, or 0 where it is left.
+    /// The round that removed the edge, from 1, or 0 where it is left. Levels have to be kept.
     pub fn level(&self, e: u32) -> u32
         requires { e < length self.now.levels }
         ensures { result ≡ slice_index self.now.levels e }
@@ -58,35 +60,45 @@ impl<const K: usize> Peeled<K> {
     }
 }
 
-/// The places at which a list has 0.
-fn zeros(alloc: Global, levels: &Vec<u32>) -> Result<Vec<u32>, AllocError>
-    requires { length levels.now.items ≤ 67108864 }
-    ensures { IfOk result (λ v. v.items ≡ zeros_of levels.now.items) }
+/// The edges whose position is past their ends, so many.
+fn past<const K: usize>(
+    alloc: Global,
+    pivots: &Vec<u8>,
+    many: usize,
+) -> Result<Vec<u32>, AllocError>
+    requires few { length pivots.now.items ≤ 67108864 }
+    requires many { many ≡ length (past_of K pivots.now.items) }
+    ensures { IfOk result (λ v. v.items ≡ past_of K pivots.now.items) }
 {
     let mut v = Vec::new(alloc);
-    for e in 0..levels.len() as u32 {
-        if levels[e as usize] == 0 {
+    if many == 0 {
+        return Ok(v);
+    }
+    for e in 0..pivots.len() as u32 {
+        if pivots[e as usize] as usize >= K {
             v.push(e)?;
         }
     }
     Ok(v)
 }
 
-/// Peels the edges by rounds. A round removes all edges that have an end of degree one where it begins. It looks at
-/// vertices at most `8 * K` times for each edge.
-pub fn peel<const K: usize, I: Incidence<K> + Drop, L: Ledger>(
+/// Peels the edges by rounds, and notes the level of each in a table that has 0 for each edge, or is empty.
+fn peel_noting<const K: usize, I: Incidence<K> + Drop, L: Ledger>(
     alloc: Global,
     edges: &Edges<K>,
+    mut levels: Vec<u32>,
     steps: &mut Steps<L>,
 ) -> Result<Peeled<K>, AllocError>
+    requires kept { 0 < length levels.items → length levels.items ≡ length edges.now.edges }
+    requires levels { (e : ℕ) → e < length levels.items → slice_index levels.items e ≡ 0 }
     ensures peeling { IfOk result (IsPeelingOf edges.now.edges) }
+    ensures levels { IfOk result (λ p. (length p.levels ≡ length levels.items) × ((e : ℕ) → e < length levels.items → slice_index p.levels e ≡ level_of edges.now.edges e)) }
     ensures core { IfOk result (λ p. IsCore edges.now.edges p.rest) }
     ensures steps { steps.new ≤ steps.old + 8 * (K * length edges.now.edges) }
 {
     let m = edges.len();
     let mut incidence = I::empty(alloc, edges.vertices(), m)?;
     link_all(edges, &mut incidence, steps);
-    let mut levels = vec![in alloc; 0; m as usize]?;
     let mut pivots = vec![in alloc; 0; m as usize]?;
     let mut order = Vec::with_capacity(alloc, m as usize)?;
     begin(
@@ -116,11 +128,42 @@ pub fn peel<const K: usize, I: Incidence<K> + Drop, L: Ledger>(
         start = end;
         rounds += 1;
     }
-    let rest = zeros(alloc, &levels)?;
+    let rest = past::<K>(alloc, &pivots, m as usize - order.len())?;
     Ok(Peeled {
         order,
         levels,
         pivots,
         rest,
     })
+}
+
+/// Peels the edges by rounds. A round removes all edges that have an end of degree one where it begins. It looks at
+/// vertices at most `8 * K` times for each edge.
+pub fn peel<const K: usize, I: Incidence<K> + Drop, L: Ledger>(
+    alloc: Global,
+    edges: &Edges<K>,
+    steps: &mut Steps<L>,
+) -> Result<Peeled<K>, AllocError>
+    ensures peeling { IfOk result (IsPeelingOf edges.now.edges) }
+    ensures levels { IfOk result (λ p. p.levels ≡ levels_of edges.now.edges) }
+    ensures long { IfOk result (λ p. length p.levels ≡ length edges.now.edges) }
+    ensures core { IfOk result (λ p. IsCore edges.now.edges p.rest) }
+    ensures steps { steps.new ≤ steps.old + 8 * (K * length edges.now.edges) }
+{
+    let levels = vec![in alloc; 0; edges.len() as usize]?;
+    peel_noting::<K, I, L>(alloc, edges, levels, steps)
+}
+
+/// Peels the edges as `peel` does, and keeps no levels: that takes 4 bytes an edge less.
+pub fn peel_without_levels<const K: usize, I: Incidence<K> + Drop, L: Ledger>(
+    alloc: Global,
+    edges: &Edges<K>,
+    steps: &mut Steps<L>,
+) -> Result<Peeled<K>, AllocError>
+    ensures peeling { IfOk result (IsPeelingOf edges.now.edges) }
+    ensures levels { IfOk result (λ p. p.levels ≡ []) }
+    ensures core { IfOk result (λ p. IsCore edges.now.edges p.rest) }
+    ensures steps { steps.new ≤ steps.old + 8 * (K * length edges.now.edges) }
+{
+    peel_noting::<K, I, L>(alloc, edges, Vec::new(alloc), steps)
 }

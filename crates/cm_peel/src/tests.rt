@@ -1,6 +1,6 @@
 ghost use Rattle.std.specs.Prelude.{◌≡◌, ◌<◌, length, IfOk};
 
-use crate::{Peeled, peel};
+use crate::{Peeled, peel, peel_without_levels};
 use cm_graph::{Edges, Incidence, Linked, Steps, Xored};
 use std::alloc::{AllocError, Global};
 use std::marker::Brand;
@@ -65,6 +65,27 @@ fn chained_triples(alloc: Global, edges: &Edges<3>) -> Result<Peeled<3>, AllocEr
     ensures pivots { IfOk result (λ p. length p.pivots ≡ length edges.now.edges) }
 {
     peel_triples::<Linked<3>, Brand>(alloc, edges, Blank::new(1))
+}
+
+/// Peels edges with two ends and keeps no levels, with steps that nobody reads.
+fn peel_bare<L: Ledger>(
+    alloc: Global,
+    edges: &Edges<2>,
+    blank: Blank,
+) -> Result<Peeled<2>, AllocError>
+    requires name { blank.name ≡ L.name }
+    requires parts { blank.parts ≡ L.parts }
+    requires some { 0 < blank.parts }
+    ensures pivots { IfOk result (λ p. length p.pivots ≡ length edges.now.edges) }
+{
+    let mut steps = Steps::<L>::new(blank);
+    peel_without_levels::<2, Xored<2>, L>(alloc, edges, &mut steps)
+}
+
+fn bare_pairs(alloc: Global, edges: &Edges<2>) -> Result<Peeled<2>, AllocError>
+    ensures pivots { IfOk result (λ p. length p.pivots ≡ length edges.now.edges) }
+{
+    peel_bare::<Brand>(alloc, edges, Blank::new(1))
 }
 
 /// Adds an edge, unless it isn't one over the vertices.
@@ -268,5 +289,24 @@ fn forest(rt: HostRuntime) -> Result<(), Fail> {
     assert!(rt; is_forest_peeled(&peeled));
     let chained = chained_pairs(rt.alloc(), &edges)?;
     assert!(rt; is_forest_peeled(&chained));
+    Ok(())
+}
+
+#[test]
+fn without_levels(rt: HostRuntime) -> Result<(), Fail> {
+    let mut edges = Edges::<2>::new(rt.alloc(), 7);
+    for v in 0..3u32 {
+        assert!(rt; add(&mut edges, v, (v + 1) % 3)?);
+    }
+    for v in 2..6u32 {
+        assert!(rt; add(&mut edges, v, v + 1)?);
+    }
+    let bare = bare_pairs(rt.alloc(), &edges)?;
+    assert_eq!(rt; bare.order(), [6, 5, 4, 3].as_slice());
+    assert_eq!(rt; bare.rest(), [0, 1, 2].as_slice());
+    for e in 3..7u32 {
+        assert!(rt; e < edges.len());
+        assert_eq!(rt; bare.pivot(e), 1);
+    }
     Ok(())
 }
