@@ -32,15 +32,19 @@ fn sum_others<C: Cells, const K: usize>(table: &C, ends: [u32; K], v: u32) -> u6
     sum
 }
 
-/// The number below the modulus that brings the sum to the target.
+/// The number below the modulus that brings the sum to the target, which is below the modulus too.
 #[tactic(auto, unfolding(cm_spec::specs::Cells::completing))]
 fn complete(modulus: u32, target: u32, sum: u64) -> u32
-    requires { 0 < modulus }
+    requires target { target < modulus }
     ensures value { result ≡ completing modulus target sum }
     ensures below { result < modulus }
 {
-    let left = modulus as u64 - sum % modulus as u64;
-    ((target as u64 + left) % modulus as u64) as u32
+    let left = (sum % modulus as u64) as u32;
+    if target >= left {
+        target - left
+    } else {
+        target + (modulus - left)
+    }
 }
 
 /// Gives the pivot's vertex its value.
@@ -54,6 +58,7 @@ fn settle<C: Cells, const K: usize>(
     requires small { K ≤ 3 }
     requires position { position < K }
     requires modulus { (0 < modulus) × (modulus ≤ C.bound_of table.old) }
+    requires target { target < modulus }
     requires within { All (λ u. u < length (C.cells table.old)) ends }
     ensures bound { C.bound_of table.new ≡ C.bound_of table.old }
     ensures cells { C.cells table.new ≡ slice_set (C.cells table.old) (slice_index ends.entry position) (completing modulus target (sum_but (C.cells table.old) (slice_index ends.entry position) ends.entry)) }
@@ -104,6 +109,7 @@ fn settle_each<C: Cells, const K: usize>(
     requires modulus { (0 < modulus) × (modulus ≤ C.bound_of table.old) }
     requires within { All (λ each. All (λ u. u < length (C.cells table.old)) each) ends.now }
     requires positions { All (λ position. position < K) positions.now }
+    requires targets { All (λ target. target < modulus) targets.now }
     requires long { (length positions.now ≡ length ends.now) × (length targets.now ≡ length ends.now) }
     ensures bound { C.bound_of table.new ≡ C.bound_of table.old }
     ensures cells { (p : Plan) (chunk : List ℕ) → p.modulus ≡ modulus → ends.now ≡ map (ends_at p.edges) chunk → positions.now ≡ map (pivot_of p.edges) chunk → targets.now ≡ map p.target chunk → C.cells table.new ≡ one_by_one p (C.cells table.old) chunk }

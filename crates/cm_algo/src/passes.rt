@@ -15,8 +15,8 @@ use cm_graph::Edges;
 use cm_lookup2::words;
 use cm_outer::{KeyBuf, KeyFault, KeyPass, MAX_KEYS};
 
-/// How many keys there are.
-pub(crate) fn count_all<P: KeyPass>(keys: &mut P) -> Result<u32, KeyFault>
+/// How many keys there are. The buffer is for its use.
+pub(crate) fn count_all<P: KeyPass>(keys: &mut P, key: &mut KeyBuf) -> Result<u32, KeyFault>
     ensures told { P.told keys.new ≡ P.told keys.old }
     ensures cause { HasKeyCause (P.faults keys.old) (P.faults keys.new) result }
     ensures few { IfOk result (λ n. n ≤ 16777216) }
@@ -24,12 +24,11 @@ pub(crate) fn count_all<P: KeyPass>(keys: &mut P) -> Result<u32, KeyFault>
     ensures fault { IfErr result (λ e. ForSome (P.told keys.old) (λ told. IsToldFault told e)) }
 {
     keys.rewind()?;
-    let mut key = KeyBuf::new();
     let mut count = 0;
     // Each turn but the last has a key at least.
     for turn in 0..MAX_KEYS + 1 {
         count += keys.skip();
-        if !keys.next(&mut key)? {
+        if !keys.next(key)? {
             return Ok(count);
         }
         count += 1;
@@ -121,10 +120,11 @@ fn add_at_hand<S: Scheme<K>, P: KeyPass, const K: usize>(
     Ok(true)
 }
 
-/// The edges of the keys, which are to be `m`, and their tags where tags are kept.
+/// The edges of the keys, which are to be `m`, and their tags where tags are kept. The buffer is for its use.
 pub(crate) fn hash_all<S: Scheme<K>, P: KeyPass, const K: usize>(
     scheme: &S,
     keys: &mut P,
+    key: &mut KeyBuf,
     m: u32,
     seed: u32,
     edges: &mut Edges<K>,
@@ -146,12 +146,11 @@ pub(crate) fn hash_all<S: Scheme<K>, P: KeyPass, const K: usize>(
 {
     keys.rewind()?;
     let divisor = scheme.divisor(edges.vertices());
-    let mut key = KeyBuf::new();
     for count in 0..m + 1 {
         if count < m && add_at_hand(scheme, &divisor, keys, seed, edges, tags)? {
             continue;
         }
-        match read_words(keys, &mut key, seed) {
+        match read_words(keys, key, seed) {
             Ok(Some(hashed)) => {
                 if count == m {
                     return Err(BuildFault::Changed {

@@ -14,7 +14,7 @@ use crate::fault::BuildFault;
 use crate::passes::{count_all, hash_all};
 use crate::scheme::Scheme;
 use cm_graph::{Edges, Incidence, Steps};
-use cm_outer::KeyPass;
+use cm_outer::{KeyBuf, KeyPass};
 use cm_peel::peel;
 use std::alloc::Global;
 use std::sync::ledger::Ledger;
@@ -28,11 +28,12 @@ pub struct Built<T> {
     pub cells: T,
 }
 
-/// One seed: the cells, or none where its graph has a rest.
+/// One seed: the cells, or none where its graph has a rest. The buffer is for its use.
 fn attempt<S: Scheme<K>, I: Incidence<K> + Drop, P: KeyPass, const K: usize, L: Ledger>(
     alloc: Global,
     scheme: &S,
     keys: &mut P,
+    key: &mut KeyBuf,
     m: u32,
     c: u32,
     seed: u32,
@@ -56,7 +57,7 @@ fn attempt<S: Scheme<K>, I: Incidence<K> + Drop, P: KeyPass, const K: usize, L: 
     } else {
         Vec::new(alloc)
     };
-    hash_all(scheme, keys, m, seed, &mut edges, &mut tags)?;
+    hash_all(scheme, keys, key, m, seed, &mut edges, &mut tags)?;
     let peeled = peel::<K, I, L>(alloc, &edges, steps)?;
     if peeled.rest().is_empty() {
         let table = assign(alloc, scheme, &edges, &peeled, &tags)?;
@@ -89,13 +90,15 @@ pub fn build<S: Scheme<K>, I: Incidence<K> + Drop, P: KeyPass, const K: usize, L
     ensures differ { IfErr result Differ }
     ensures steps { ForSome (P.told keys.old) (λ told. steps.new ≤ steps.old + 8 * (K * length told.keys) * length seeds.now) }
 {
-    let m = count_all(keys)?;
+    // One buffer for all passes: making one clears its 64 KiB.
+    let mut key = KeyBuf::new();
+    let m = count_all(keys, &mut key)?;
     if m == 0 {
         return Err(BuildFault::NoKeys);
     }
     for i in 0..seeds.len() {
         let seed = seeds[i];
-        match attempt::<S, I, P, K, L>(alloc, scheme, keys, m, c, seed, steps)? {
+        match attempt::<S, I, P, K, L>(alloc, scheme, keys, &mut key, m, c, seed, steps)? {
             Some(cells) => return Ok(Built { m, c, seed, cells }),
             None => {}
         }

@@ -6,7 +6,7 @@ use Rattle.cm_peel.specs.Peeling.{Peeling, IsPeelingOf}
 use Rattle.cm_spec.specs.Cells.{plan_of}
 use Rattle.cm_spec.specs.Graph.{ends_at, AreEdges}
 use Rattle.cm_spec.specs.Rounds.{rest_of, pivot_of}
-use Rattle.cm_spec.specs.Rule.{Rule, IsCount}
+use Rattle.cm_spec.specs.Rule.{Rule, IsRule, IsCount}
 use Rattle.cm_algo.proofs.Solving.{map_agree, removed_at}
 use Rattle.cm_algo.proofs.cells.settle_chunk.Goals as goal
 
@@ -28,10 +28,19 @@ pivots_within k n edges chunk are none places = All-map (λ position. position <
     let place : e < length edges = places i d h in
     omega (arith, (removed_at edges e none place).within, (are e [] place).0))
 
+-- the targets of a chunk are below the modulus
+targets_below : (k n : ℕ) (r : Rule) (edges : List (List ℕ)) (tags chunk : List ℕ) → IsRule k r → IsCount (length edges) → AreEdges k n edges → rest_of edges ≡ [] → All (λ e. e < length edges) chunk → All (λ target. target < r.modulus (length edges)) (map (plan_of r n edges tags).target chunk)
+targets_below k n r edges tags chunk law many are none places = All-map (λ target. target < r.modulus (length edges)) (plan_of r n edges tags).target chunk (λ i d h.
+    let e : ℕ = get_or chunk i d in
+    let place : e < length edges = places i d h in
+    law.target_below (length edges) e (pivot_of edges e) (get_or tags e 0) many place (omega (arith, (removed_at edges e none place).within, (are e [] place).0)))
+
 pub settle_each-requires : goal.settle_each-requires
 settle_each-requires g c =
     let edges : List (List ℕ) = c.args.edges.now.edges in
     let chunk : List ℕ = c.args.chunk.now in
+    let n : ℕ = c.args.edges.now.vertices in
+    let tags : List ℕ = c.args.tags.now in
     let law = g.met.S.Scheme.laws c.args.scheme.now in
     let many : IsCount (length edges) = c.requires.many in
     let m_is : c.modulus-modulus.result ≡ (g.S.Scheme.rule c.args.scheme.now).modulus (length edges) = c.modulus-modulus.ensures.modulus ∙ ap (λ (m : ℕ). (g.S.Scheme.rule c.args.scheme.now).modulus m) c.len.ensures.count in
@@ -39,7 +48,8 @@ settle_each-requires g c =
     let within : c.modulus-modulus.result ≤ g.S.Table.Cells.bound_of c.args.table.now = omega (arith, m_is, c.requires.bound, law.modulus_within (length edges) many) in
     let ends : length c.gather.new.ends ≡ length chunk = ap length c.gather.ensures.ends ∙ length-map chunk (ends_at edges) in
     let positions : c.look_up.new.positions ≡ map (pivot_of edges) chunk = pivots_are edges c.args.peeled.now chunk _ c.requires.peeling c.requires.empty c.requires.places c.look_up.ensures.positions in
-    let targets : length c.look_up.new.targets ≡ length chunk = ap length c.look_up.ensures.targets ∙ length-map chunk _ in (
+    let targets : c.look_up.new.targets ≡ map (plan_of (g.S.Scheme.rule c.args.scheme.now) n edges tags).target chunk = targets_are (g.S.Scheme.rule c.args.scheme.now) n edges tags c.args.peeled.now chunk _ c.requires.peeling c.requires.empty c.requires.places c.look_up.ensures.targets in
+    let below : All (λ target. target < c.modulus-modulus.result) (map (plan_of (g.S.Scheme.rule c.args.scheme.now) n edges tags).target chunk) = subst (λ (m : ℕ). All (λ target. target < m) (map (plan_of (g.S.Scheme.rule c.args.scheme.now) n edges tags).target chunk)) (sym m_is) (targets_below g.row.K n (g.S.Scheme.rule c.args.scheme.now) edges tags chunk law many c.len.ensures.edges c.requires.empty c.requires.places) in (
       search rules,
       (
         c.len.ensures.width.1,
@@ -48,8 +58,11 @@ settle_each-requires g c =
           (
             λ k d h k' d' h'. omega (arith, (c.gather.ensures.edges k d h).0 k' d' h', c.requires.long),
             (
-              subst (λ (xs : List ℕ). All (λ position. position < g.row.K) xs) (sym positions) (pivots_within g.row.K c.args.edges.now.vertices edges chunk c.len.ensures.edges c.requires.empty c.requires.places),
-              (ap length positions ∙ (length-map chunk (pivot_of edges) ∙ sym ends), targets ∙ sym ends),
+              subst (λ (xs : List ℕ). All (λ position. position < g.row.K) xs) (sym positions) (pivots_within g.row.K n edges chunk c.len.ensures.edges c.requires.empty c.requires.places),
+              (
+                subst (λ (xs : List ℕ). All (λ target. target < c.modulus-modulus.result) xs) (sym targets) below,
+                (ap length positions ∙ (length-map chunk (pivot_of edges) ∙ sym ends), ap length targets ∙ (length-map chunk _ ∙ sym ends)),
+              ),
             ),
           ),
         ),
