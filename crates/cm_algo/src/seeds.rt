@@ -15,7 +15,7 @@ use crate::passes::{count_all, hash_all};
 use crate::scheme::Scheme;
 use cm_graph::{Edges, Incidence, Steps};
 use cm_outer::{KeyBuf, KeyPass};
-use cm_peel::peel;
+use cm_peel::peel_without_levels;
 use std::alloc::Global;
 use std::sync::ledger::Ledger;
 
@@ -58,7 +58,7 @@ fn attempt<S: Scheme<K>, I: Incidence<K> + Drop, P: KeyPass, const K: usize, L: 
         Vec::new(alloc)
     };
     hash_all(scheme, keys, key, m, seed, &mut edges, &mut tags)?;
-    let peeled = peel::<K, I, L>(alloc, &edges, steps)?;
+    let peeled = peel_without_levels::<K, I, L>(alloc, &edges, steps)?;
     if peeled.rest().is_empty() {
         let table = assign(alloc, scheme, &edges, &peeled, &tags)?;
         Ok(Some(table))

@@ -14,7 +14,7 @@ pub trait Counted: Cells {
         ensures busy { rank_of idle (Self.cells self.now) from + result ≡ rank_of idle (Self.cells self.now) until };
 }
 
-/// By words of 32 cells where the value of an idle cell is 3.
+/// By words of 32 cells where the value of an idle cell is 3 and the first cell begins a byte.
 impl Counted for Crumbs {
     fn count_busy(&self, idle: u32, from: u32, until: u32) -> u32 {
         if idle == 3 && from % 4 == 0 {

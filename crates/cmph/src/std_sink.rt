@@ -13,7 +13,7 @@ use std::io::Write;
 #[derive(Drop)]
 pub struct StdSink<W> {
     writer: W,
-    waiting: ArrayVec<u8, 65536>,
+    waiting: ArrayVec<u8, 16384>,
     by_lines: bool,
     faults: u64,
 }
