@@ -1,8 +1,8 @@
 //! Counts of the cells between two places that are not idle.
-ghost use Rattle.std.specs.Prelude.{◌≡◌, ◌+◌, ◌≤◌, length};
+ghost use Rattle.std.specs.Prelude.{◌≡◌, ◌+◌, ◌%◌, ◌≤◌, true, length};
 ghost use Rattle.cm_rank.specs.Ranks.{rank_of};
 
-use crate::words::busy_crumbs;
+use crate::words::{busy_crumbs, busy_crumbs_near};
 use cm_bits::{Bits, Cells, Crumbs, Plain};
 
 /// A table whose cells that are not idle can be counted from any place to another.
@@ -12,13 +12,35 @@ pub trait Counted: Cells {
         requires order { from ≤ until }
         requires inside { until ≤ length (Self.cells self.now) }
         ensures busy { rank_of idle (Self.cells self.now) from + result ≡ rank_of idle (Self.cells self.now) until };
+
+    /// The same of at most 128 cells. All of the 128 cells from `from` on may be looked at.
+    fn count_near(&self, idle: u32, from: u32, until: u32) -> u32
+        requires order { from ≤ until }
+        requires near { until ≤ from + 128 }
+        requires inside { until ≤ length (Self.cells self.now) }
+        ensures busy { rank_of idle (Self.cells self.now) from + result ≡ rank_of idle (Self.cells self.now) until };
+}
+
+// Whether crumbs are counted by words: where the value of an idle one is 3 and the first one begins a byte.
+fn is_by_words(idle: u32, from: u32) -> bool
+    ensures { result ≡ true → (idle ≡ 3) × (from % 4 ≡ 0) }
+{
+    idle == 3 && from % 4 == 0
 }
 
 /// By words of 32 cells where the value of an idle cell is 3 and the first cell begins a byte.
 impl Counted for Crumbs {
     fn count_busy(&self, idle: u32, from: u32, until: u32) -> u32 {
-        if idle == 3 && from % 4 == 0 {
+        if is_by_words(idle, from) {
             busy_crumbs(self, from, until)
+        } else {
+            count_each(self, idle, from, until)
+        }
+    }
+
+    fn count_near(&self, idle: u32, from: u32, until: u32) -> u32 {
+        if is_by_words(idle, from) {
+            busy_crumbs_near(self, from, until)
         } else {
             count_each(self, idle, from, until)
         }
@@ -29,10 +51,18 @@ impl Counted for Bits {
     fn count_busy(&self, idle: u32, from: u32, until: u32) -> u32 {
         count_each(self, idle, from, until)
     }
+
+    fn count_near(&self, idle: u32, from: u32, until: u32) -> u32 {
+        count_each(self, idle, from, until)
+    }
 }
 
 impl Counted for Plain {
     fn count_busy(&self, idle: u32, from: u32, until: u32) -> u32 {
+        count_each(self, idle, from, until)
+    }
+
+    fn count_near(&self, idle: u32, from: u32, until: u32) -> u32 {
         count_each(self, idle, from, until)
     }
 }

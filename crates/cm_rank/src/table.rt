@@ -28,6 +28,20 @@ impl Model for RankTable {
     ghost invariant = { λ t. (t.b ≤ 10) × (length t.ranks.items ≤ 671088645) };
 }
 
+/// How many cells are not idle, from the one of a rank on. At most `2^b` are looked at.
+#[inline]
+fn count_after<C: Counted>(cells: &C, idle: u32, b: u8, from: u32, until: u32) -> u32
+    requires order { from ≤ until }
+    requires inside { until ≤ length (C.cells cells.now) }
+    ensures busy { rank_of idle (C.cells cells.now) from + result ≡ rank_of idle (C.cells cells.now) until }
+{
+    if b >= 7 && until - from <= 128 {
+        cells.count_near(idle, from, until)
+    } else {
+        cells.count_busy(idle, from, until)
+    }
+}
+
 impl RankTable {
     /// The ranks of the cells that are not idle, of every `2^b`-th cell, with b from 3 to 10. Refused only for want of memory.
     pub fn build<C: Counted>(
@@ -55,7 +69,7 @@ impl RankTable {
         Ok(RankTable { ranks, idle, b })
     }
 
-    /// How many of the first i cells are not idle. Fewer than `2^b` cells are looked at.
+    /// How many of the first i cells are not idle. At most `2^b` cells are looked at.
     pub fn rank<C: Counted>(&self, cells: &C, i: u32) -> u32
         requires stands { StandsFor self.now (C.cells cells.now) }
         requires index { i < length (C.cells cells.now) }
@@ -63,7 +77,7 @@ impl RankTable {
     {
         let step = 1 << self.b;
         let block = i / step;
-        self.ranks[block as usize] + cells.count_busy(self.idle, block * step, i)
+        self.ranks[block as usize] + count_after(cells, self.idle, self.b, block * step, i)
     }
 
     /// How many ranks there are: one for each `2^b` cells, and one for what is left of them.

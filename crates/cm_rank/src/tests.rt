@@ -139,10 +139,23 @@ fn counts_from<C: Counted>(cells: &C, idle: u32, from: u32) -> bool {
     from > len || cells.count_busy(idle, from, len) == count
 }
 
+/// Whether the counts from a place to the later ones that are near are those to any later one.
+fn counts_near<C: Counted>(cells: &C, idle: u32, from: u32) -> bool {
+    let len = cells.len();
+    for until in from..len {
+        if until - from <= 128
+            && cells.count_near(idle, from, until) != cells.count_busy(idle, from, until)
+        {
+            return false;
+        }
+    }
+    true
+}
+
 /// Whether the counts from each place to each later one are.
 fn counts_between<C: Counted>(cells: &C, idle: u32) -> bool {
     for from in 0..cells.len() + 1 {
-        if !counts_from(cells, idle, from) {
+        if !counts_from(cells, idle, from) || !counts_near(cells, idle, from) {
             return false;
         }
     }

@@ -36,9 +36,6 @@ pub fn busy_crumbs(cells: &Crumbs, from: u32, until: u32) -> u32
     ensures busy { rank_of 3 (⟦<Crumbs as Cells>⟧.cells cells.now) from + result ≡ rank_of 3 (⟦<Crumbs as Cells>⟧.cells cells.now) until }
 {
     let bytes = cells.image();
-    if until - from <= WORDS * PAIRS && (from / 4 + 8 * WORDS) as usize <= bytes.len() {
-        return busy_in_words(cells, from, until);
-    }
     let words = (until - from) / PAIRS;
     let mut count = 0;
     for k in 0..words {
@@ -48,7 +45,22 @@ pub fn busy_crumbs(cells: &Crumbs, from: u32, until: u32) -> u32
     count + busy_rest(cells, from + PAIRS * words, until)
 }
 
-// The same of as many cells as `WORDS` words have, or fewer, where so many are there: all are looked at, and what is past the end
+// The same of as many cells as `WORDS` words have, or fewer.
+pub fn busy_crumbs_near(cells: &Crumbs, from: u32, until: u32) -> u32
+    requires order { from ≤ until }
+    requires near { until ≤ from + 128 }
+    requires inside { until ≤ length (⟦<Crumbs as Cells>⟧.cells cells.now) }
+    requires whole { from % 4 ≡ 0 }
+    ensures busy { rank_of 3 (⟦<Crumbs as Cells>⟧.cells cells.now) from + result ≡ rank_of 3 (⟦<Crumbs as Cells>⟧.cells cells.now) until }
+{
+    let bytes = cells.image();
+    if (from / 4 + 8 * WORDS) as usize <= bytes.len() {
+        return busy_in_words(cells, from, until);
+    }
+    busy_crumbs(cells, from, until)
+}
+
+// The same where the image has so many words: all are looked at, and what is past the end
 // counts for nothing, so that no jump depends on how many cells there are.
 #[inline]
 fn busy_in_words(cells: &Crumbs, from: u32, until: u32) -> u32

@@ -1,12 +1,9 @@
 use Rattle.std.proofs.Common.{◌≡◌, ℕ, ◌+◌, ◌*◌, ◌/◌, ◌≤◌, arith, ap, sym, ◌∙◌, lit<, length}
 use Rattle.cm_bits.specs.Held.{packed_cells, window_at}
 use Rattle.cm_bits.specs.PackedLaws.{AllBelow-packed_cells}
-use Rattle.cm_rank.proofs.WordLemmas.{length-image, pairs, word_busy, word_there}
+use Rattle.cm_rank.proofs.WordLemmas.{pairs, word_busy, word_there}
 use Rattle.cm_rank.specs.Ranks.{rank_of}
 use Rattle.cm_rank.proofs.words.busy_crumbs.Goals as goal
-
-pub busy_in_words-requires-clause-there : goal.busy_in_words-requires-clause-there
-busy_in_words-requires-clause-there c = omega (arith, c.if-from-bytes.true, length-image (packed_cells 4 4 c.args.cells.now.n c.args.cells.now.bytes.items) c.image-bytes.result.now c.image-bytes.ensures.image)
 
 pub window-requires : goal.window-requires
 window-requires c =

@@ -16,13 +16,13 @@ index-requires g c =
     rw (step_is c.self.inside.b c.self.invariant.0) (omega (arith, there))
 
 -- the sample before the cell, and what is counted from there on
-counted : (g : given.Over) (c : goal.After-count_busy g) → c.index.result.now + c.count_busy.result ≡ rank_of c.self.inside.idle (g.C.Cells.cells c.args.cells.now) c.args.i
+counted : (g : given.Over) (c : goal.After-count_after g) → c.index.result.now + c.count_after.result ≡ rank_of c.self.inside.idle (g.C.Cells.cells c.args.cells.now) c.args.i
 counted g c =
     let stands = rw (← c.self.view_is) at c.requires.stands in
     let there = sample_there _ (g.C.Cells.cells c.args.cells.now) c.args.i stands c.requires.index in
     let step = step_is c.self.inside.b c.self.invariant.0 in
     let sample = get_or_read c.self.inside.ranks.items (c.args.i / 2 ^ c.self.inside.b) c.index.result.now there (rw step at c.index.ensures) 0 ∙ sample_is _ (g.C.Cells.cells c.args.cells.now) (c.args.i / 2 ^ c.self.inside.b) stands there in
-    omega (arith, sample, rw step at c.count_busy.ensures.busy)
+    omega (arith, sample, rw step at c.count_after.ensures.busy)
 
 pub overflow_add-result : goal.overflow_add-result
 overflow_add-result g c = omega (arith, counted g c, rank_le c.self.inside.idle (g.C.Cells.cells c.args.cells.now) c.args.i, c.ranges.i.fits)
