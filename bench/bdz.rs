@@ -103,9 +103,9 @@ impl Function<3> for Bdz {
         triples::edge(words, range)
     }
 
-    fn assign(edges: &Edges<3>, peeled: &Peeled, order: &[u32]) -> Bdz {
+    fn assign(edges: &Edges<3>, peeled: &Peeled) -> Bdz {
         let mut cells = Crumbs::idle(edges.vertices);
-        triples::assign(&mut cells, edges, peeled, order);
+        triples::assign(&mut cells, edges, peeled);
         let ranks = ranks(&cells, edges.vertices);
         Bdz { cells, ranks }
     }

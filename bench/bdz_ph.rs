@@ -64,10 +64,10 @@ impl Function<3> for BdzPh {
         triples::edge(words, range)
     }
 
-    fn assign(edges: &Edges<3>, peeled: &Peeled, order: &[u32]) -> BdzPh {
+    fn assign(edges: &Edges<3>, peeled: &Peeled) -> BdzPh {
         let bytes = vec![0; edges.vertices.div_ceil(5) as usize];
         let mut cells = Trits { bytes };
-        triples::assign(&mut cells, edges, peeled, order);
+        triples::assign(&mut cells, edges, peeled);
         BdzPh { cells }
     }
 

@@ -74,13 +74,13 @@ impl Function<2> for Chm {
     }
 
     /// Edge by edge in the reverse of the order of peeling. The ends of some edges are read before the first of their cells is set.
-    fn assign(edges: &Edges<2>, peeled: &Peeled, order: &[u32]) -> Chm {
+    fn assign(edges: &Edges<2>, peeled: &Peeled) -> Chm {
         let m = edges.ends.len() as u32;
         let len = (edges.vertices as u64 * width(m) as u64).div_ceil(8) as usize;
         let mut cells = Fields::new(vec![0; len + 8], m);
         let mut ends = [[0; 2]; CHUNK];
         let mut positions = [0; CHUNK];
-        for chunk in order.rchunks(CHUNK) {
+        for chunk in peeled.order.rchunks(CHUNK) {
             gather(edges, peeled, chunk, &mut ends, &mut positions);
             for (i, e) in chunk.iter().enumerate().rev() {
                 let other = cells.get(ends[i][1 - positions[i]]);

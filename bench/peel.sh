@@ -42,8 +42,8 @@ done
 
 echo "Nanoseconds for an edge; the ratio is that of all of this work. The last one is that of the programs' processor time, check sums included."
 echo
-echo "| ends | edges | proved: filling | peeling, with the order | plain Rust: filling | peeling | order | ratio | of processor time |"
-echo "|---|---|---|---|---|---|---|---|---|"
+echo "| ends | edges | proved: filling | peeling | plain Rust: filling | peeling | ratio | of processor time |"
+echo "|---|---|---|---|---|---|---|---|"
 awk '
     { key = $1 " | " $2; if ($2 > 1 && !(key in edges)) { edges[key] = $2; order[++count] = key } }
     { if (!(($3, $4, key) in best) || $5 < best[$3, $4, key]) best[$3, $4, key] = $5 }
@@ -52,16 +52,16 @@ awk '
         for (i = 1; i <= count; i++) {
             key = order[i]
             ours = each("proved", "fill", key) + each("proved", "peel", key)
-            theirs = each("plain", "fill", key) + each("plain", "peel", key) + each("plain", "order", key)
-            printf "| %s | %.0f | %.0f | %.0f | %.0f | %.0f | %.2f | %.2f |\n", key, \
+            theirs = each("plain", "fill", key) + each("plain", "peel", key)
+            printf "| %s | %.0f | %.0f | %.0f | %.0f | %.2f | %.2f |\n", key, \
                 each("proved", "fill", key), each("proved", "peel", key), \
-                each("plain", "fill", key), each("plain", "peel", key), each("plain", "order", key), \
+                each("plain", "fill", key), each("plain", "peel", key), \
                 ours / theirs, best["proved", "processor", key] / best["plain", "processor", key]
         }
     }' "$out/peel.times"
 
 echo
-echo "Bytes for an edge at the peak, past those of a run on one edge; the rule is 8 n + (4 K + 9.125) m."
+echo "Bytes for an edge at the peak, past those of a run on one edge; the rule is 8 n + (4 K + 9.125) m, levels included."
 echo
 echo "| ends | edges | proved | the rule | plain Rust |"
 echo "|---|---|---|---|---|"

@@ -10,7 +10,7 @@ mod peel;
 
 pub use peel::{Edges, Peeled};
 
-use peel::{link, order};
+use peel::link;
 use std::env;
 use std::fs::{self, File};
 use std::io::{self, BufRead, BufReader, BufWriter, StdoutLock, Write};
@@ -57,7 +57,7 @@ pub trait Function<const K: usize> {
     fn edge(words: [u32; 3], range: &Divisor) -> [u32; K];
 
     /// The function of edges of which peeling has left none.
-    fn assign(edges: &Edges<K>, peeled: &Peeled, order: &[u32]) -> Self;
+    fn assign(edges: &Edges<K>, peeled: &Peeled) -> Self;
 
     /// Writes what follows the head of the function file.
     fn save(&self, file: &mut impl Write) -> io::Result<()>;
@@ -273,12 +273,10 @@ fn build<F: Function<K>, const K: usize>(path: &str, seed: u32, timed: bool) -> 
     tell(timed, "hash", &mut start);
     let linked = link(&edges);
     tell(timed, "link", &mut start);
-    let peeled = peel::peel(&edges, linked);
+    let peeled = peel::peel(&edges, linked, false);
+    assert_eq!(peeled.order.len(), m as usize, "the graph has a 2-core");
     tell(timed, "peel", &mut start);
-    let order = order(&peeled);
-    assert_eq!(order.len(), m as usize, "the graph has a 2-core");
-    tell(timed, "order", &mut start);
-    let function = F::assign(&edges, &peeled, &order);
+    let function = F::assign(&edges, &peeled);
     tell(timed, "assign", &mut start);
     save(&format!("{path}.mph"), m, seed, &function)?;
     tell(timed, "save", &mut start);

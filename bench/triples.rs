@@ -29,10 +29,10 @@ pub fn edge(words: [u32; 3], third: &Divisor) -> [u32; 3] {
 
 /// Sets the idle cells of a table, edge by edge in the reverse of the order of peeling. Idle cells are 0, modulo 3. The ends of
 /// some edges are read before the first of their cells is set.
-pub fn assign(cells: &mut impl Cells, edges: &Edges<3>, peeled: &Peeled, order: &[u32]) {
+pub fn assign(cells: &mut impl Cells, edges: &Edges<3>, peeled: &Peeled) {
     let mut ends = [[0; 3]; CHUNK];
     let mut positions = [0; CHUNK];
-    for chunk in order.rchunks(CHUNK) {
+    for chunk in peeled.order.rchunks(CHUNK) {
         gather(edges, peeled, chunk, &mut ends, &mut positions);
         for i in (0..chunk.len()).rev() {
             let own = ends[i][positions[i]];
