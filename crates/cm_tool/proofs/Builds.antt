@@ -20,8 +20,8 @@ use Rattle.cm_tool.specs.Leaves.{IsFuncOf, IsRefused, Leaves, stop_from}
 use Rattle.cm_tool.specs.Outcome.{keys_in}
 use Rattle.cm_tool.specs.declared.stop.Stop.{Stop}
 use Rattle.cm_tool.specs.declared.stop.Stop.TheVariants.{Memory, Read, Write, Cored, Changed, NoKeys, TooLong, TooMany}
-use Rattle.cm_witness.specs.declared.algorithm.Algorithm.{Algorithm}
-use Rattle.cm_witness.specs.declared.algorithm.Algorithm.TheVariants as algorithms
+use Rattle.cm_algorithm.specs.declared.algorithm.Algorithm.{Algorithm}
+use Rattle.cm_algorithm.specs.declared.algorithm.Algorithm.TheVariants as algorithms
 use Rattle.cm_words.specs.declared.jobs.BuildJob.{BuildJob}
 
 -- a function is known by its parts

@@ -26,8 +26,8 @@ use Rattle.cm_tool.specs.Run.{AnswersOf, IsBuildMessage, IsBy, IsCored, Reaches,
 use Rattle.cm_tool.specs.declared.built.Summary.{Summary}
 use Rattle.cm_tool.specs.declared.stop.Stop.{Stop}
 use Rattle.cm_tool.specs.declared.stop.Stop.TheVariants.{Memory, Read, Write, Cored, Changed, NoKeys, TooLong, TooMany}
-use Rattle.cm_witness.specs.declared.algorithm.Algorithm.{Algorithm}
-use Rattle.cm_witness.specs.declared.algorithm.Algorithm.TheVariants.{Chm, Bdz, BdzPh, Brz}
+use Rattle.cm_algorithm.specs.declared.algorithm.Algorithm.{Algorithm}
+use Rattle.cm_algorithm.specs.declared.algorithm.Algorithm.TheVariants.{Chm, Bdz, BdzPh, Brz}
 use Rattle.cm_words.specs.Limits.{IsBuild}
 use Rattle.cm_words.specs.declared.jobs.BuildJob.{BuildJob}
 use Rattle.cm_words.specs.declared.jobs.Job.TheVariants.{Build}

@@ -9,8 +9,8 @@ use Rattle.cm_spec.specs.Chm.{chm_rule}
 use Rattle.cm_spec.specs.Lists.{list_of}
 use Rattle.cm_spec.specs.Rule.{Rule}
 use Rattle.cm_tool.specs.declared.built.Summary.{Summary}
-use Rattle.cm_witness.specs.declared.algorithm.Algorithm.{Algorithm}
-use Rattle.cm_witness.specs.declared.algorithm.Algorithm.TheVariants.{Chm, Bdz, BdzPh, Brz}
+use Rattle.cm_algorithm.specs.declared.algorithm.Algorithm.{Algorithm}
+use Rattle.cm_algorithm.specs.declared.algorithm.Algorithm.TheVariants.{Chm, Bdz, BdzPh, Brz}
 use Rattle.cm_words.specs.declared.jobs.BuildJob.{BuildJob}
 
 -- the seeds of a job: so many from the first on, modulo 2 ^ 32

@@ -16,7 +16,7 @@ use Rattle.cm_dump.specs.declared.writer.Func.{Func}
 use Rattle.cm_tool.specs.Jobs.{func_by, rule_by, seeds_tried, summary_of}
 use Rattle.cm_tool.specs.Outcome.{keys_in}
 use Rattle.cm_tool.specs.declared.built.Summary.{Summary}
-use Rattle.cm_witness.specs.declared.algorithm.Algorithm.{Algorithm}
+use Rattle.cm_algorithm.specs.declared.algorithm.Algorithm.{Algorithm}
 use Rattle.cm_words.specs.declared.jobs.BuildJob.{BuildJob}
 use Rattle.cm_tool.specs.declared.stop.Stop.{Stop}
 use Rattle.cm_tool.specs.declared.stop.Stop.TheVariants.{Memory, Read, Write, Cored, Changed, NoKeys, TooLong, TooMany}

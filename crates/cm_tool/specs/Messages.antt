@@ -4,7 +4,7 @@ use Rattle.cm_dump.specs.declared.fault.LoadFault.{LoadFault}
 use Rattle.cm_dump.specs.declared.fault.LoadFault.TheVariants as faults
 use Rattle.cm_outer.specs.Writing.{joined}
 use Rattle.cm_tool.specs.declared.built.Summary.{Summary}
-use Rattle.cm_witness.specs.Names.{name_of}
+use Rattle.cm_algorithm.specs.Names.{name_of}
 use Rattle.cm_words.specs.declared.fault.UsageFault.{UsageFault}
 use Rattle.cm_words.specs.declared.fault.UsageFault.TheVariants as usage
 use Rattle.cm_words.specs.declared.jobs.BuildJob.{BuildJob}

@@ -21,8 +21,8 @@ use Rattle.cm_tool.specs.Messages.{bad_dump, built_message, no_seed, out_of_memo
 use Rattle.cm_tool.specs.Outcome.{Outcome, job_outcome, keys_in, saving}
 use Rattle.cm_tool.specs.Texts.{help_text, version_text}
 use Rattle.cm_tool.specs.declared.built.Summary.{Summary}
-use Rattle.cm_witness.specs.declared.algorithm.Algorithm.{Algorithm}
-use Rattle.cm_witness.specs.declared.algorithm.Algorithm.TheVariants.{Chm, Bdz, BdzPh}
+use Rattle.cm_algorithm.specs.declared.algorithm.Algorithm.{Algorithm}
+use Rattle.cm_algorithm.specs.declared.algorithm.Algorithm.TheVariants.{Chm, Bdz, BdzPh}
 use Rattle.cm_words.specs.Options.{Read as Reading}
 use Rattle.cm_words.specs.declared.fault.UsageFault.{UsageFault}
 use Rattle.cm_words.specs.declared.jobs.BuildJob.{BuildJob}

@@ -16,7 +16,7 @@ use cm_chm::{Chm, ChmScheme};
 use cm_dump::Func;
 use cm_graph::{Steps, Xored};
 use cm_outer::KeyPass;
-use cm_witness::Algorithm;
+use cm_algorithm::Algorithm;
 use cm_words::BuildJob;
 use std::alloc::Global;
 use std::sync::ledger::{Blank, Ledger};

@@ -1,8 +1,4 @@
-//! The algorithms, by the names that command lines and reports give them.
+//! What a refused build shows. For now these are the algorithms alone, which stand in a crate of their own.
 #![tactic(auto)]
 
-mod algorithm;
-#[cfg(test)]
-mod tests;
-
-pub use crate::algorithm::Algorithm;
+pub use cm_algorithm::Algorithm;

@@ -3,9 +3,9 @@ use Rattle.std.specs.Prelude.{◌≡◌, ℕ, List, Bool, true, false, None, Som
 use Rattle.std.proofs.Common.{arith}
 use Rattle.std.specs.Str.{bytes_eq}
 use Rattle.std.proofs.lemmas.Slice.Eq.{bytes_eq-Decides}
-use Rattle.cm_witness.specs.Names.{name_of}
-use Rattle.cm_witness.specs.declared.algorithm.Algorithm.{Algorithm}
-use Rattle.cm_witness.specs.declared.algorithm.Algorithm.TheVariants.{Chm, Bdz, BdzPh}
+use Rattle.cm_algorithm.specs.Names.{name_of}
+use Rattle.cm_algorithm.specs.declared.algorithm.Algorithm.{Algorithm}
+use Rattle.cm_algorithm.specs.declared.algorithm.Algorithm.TheVariants.{Chm, Bdz, BdzPh}
 use Rattle.cm_words.specs.Options.{named}
 
 not_same : (b : Bool) (P : Type 0) → Decides b P → ¬ P → b ≡ false

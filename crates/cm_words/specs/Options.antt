@@ -3,9 +3,9 @@ use Rattle.std.specs.Prelude.{ℕ, ◌*◌, Bool, true, false, nat_lt, List, [],
 use Rattle.std.specs.Option.{option_map_or}
 use Rattle.std.specs.Str.{bytes_eq}
 use Rattle.clap.specs.Words.{Row, Text, count_of, first_of}
-use Rattle.cm_witness.specs.Names.{name_of}
-use Rattle.cm_witness.specs.declared.algorithm.Algorithm.{Algorithm}
-use Rattle.cm_witness.specs.declared.algorithm.Algorithm.TheVariants.{Chm, Bdz, BdzPh}
+use Rattle.cm_algorithm.specs.Names.{name_of}
+use Rattle.cm_algorithm.specs.declared.algorithm.Algorithm.{Algorithm}
+use Rattle.cm_algorithm.specs.declared.algorithm.Algorithm.TheVariants.{Chm, Bdz, BdzPh}
 use Rattle.cm_words.specs.Digits.{millionths_of, whole_of}
 use Rattle.cm_words.specs.declared.fault.UsageFault.{UsageFault}
 use Rattle.cm_words.specs.declared.fault.UsageFault.TheVariants.{BadValue}

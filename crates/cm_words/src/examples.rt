@@ -1,6 +1,6 @@
 //! Worked examples of what words mean. Each function has an empty body, and its clauses are checked by the prover.
 ghost use Rattle.std.specs.Prelude.{◌≡◌, ◌++◌, ◌∷◌, [], Ok, Err, Some, None, true, codes};
-ghost use Rattle.cm_witness.specs.declared.algorithm.Algorithm.TheVariants.{Bdz, BdzPh};
+ghost use Rattle.cm_algorithm.specs.declared.algorithm.Algorithm.TheVariants.{Bdz, BdzPh};
 ghost use Rattle.cm_words.specs.Digits.{millionths_of, whole_of};
 ghost use Rattle.cm_words.specs.Examples.{plain_build, plain_query, query_of_file, typed};
 ghost use Rattle.cm_words.specs.Meaning.{job_of};

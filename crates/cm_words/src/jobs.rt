@@ -1,6 +1,6 @@
 //! What the program is asked to do.
 use crate::Text;
-use cm_witness::Algorithm;
+use cm_algorithm::Algorithm;
 
 /// A build: a function over the keys of a file, saved in another.
 #[derive(Debug, Drop)]

@@ -3,7 +3,7 @@ ghost use Rattle.std.specs.Option.{ForSome};
 ghost use Rattle.cm_words.specs.Limits.{IsBuild, IsJob};
 
 use crate::{BuildJob, Job, UsageFault, millionths, read_words, whole};
-use cm_witness::Algorithm;
+use cm_algorithm::Algorithm;
 use std::alloc::{AllocError, Global};
 use std::test::Fail;
 

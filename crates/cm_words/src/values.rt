@@ -2,14 +2,14 @@
 ghost use Rattle.std.specs.Prelude.{◌≡◌, ◌≢◌, ◌≤◌, IfOk, IfSome, codes, max, min, option_map, true};
 ghost use Rattle.std.specs.Option.{ForSome};
 ghost use Rattle.clap.specs.Words.{found_of, first_of, rows_of};
-ghost use Rattle.cm_witness.specs.declared.algorithm.Algorithm.TheVariants.{Bdz, Brz};
+ghost use Rattle.cm_algorithm.specs.declared.algorithm.Algorithm.TheVariants.{Bdz, Brz};
 ghost use Rattle.cm_words.specs.Limits.{AreValues};
 ghost use Rattle.cm_words.specs.Options.{algorithm_value, bits_value, hash_value, is_counted, is_set, named, number_value, optional_value, ratio_value, values_of};
 
 use crate::UsageFault;
 use crate::numbers::{millionths, whole};
 use clap::ArgMatches;
-use cm_witness::Algorithm;
+use cm_algorithm::Algorithm;
 
 /// The bytes of a megabyte.
 const MEGABYTE: u32 = 1_048_576;

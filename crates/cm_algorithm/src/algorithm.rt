@@ -1,6 +1,6 @@
 //! The algorithms and their names.
 ghost use Rattle.std.specs.Prelude.{◌≡◌, IfSome, Some};
-ghost use Rattle.cm_witness.specs.Names.{name_of};
+ghost use Rattle.cm_algorithm.specs.Names.{name_of};
 
 /// An algorithm that builds a function from keys to numbers.
 #[derive(Clone, Copy, Debug, PartialEq, Eq)]

@@ -1,7 +1,7 @@
 -- The names of the algorithms.
 use Rattle.std.specs.Prelude.{ℕ, List, codes}
-use Rattle.cm_witness.specs.declared.algorithm.Algorithm.{Algorithm}
-use Rattle.cm_witness.specs.declared.algorithm.Algorithm.TheVariants.{Chm, Bdz, BdzPh, Brz}
+use Rattle.cm_algorithm.specs.declared.algorithm.Algorithm.{Algorithm}
+use Rattle.cm_algorithm.specs.declared.algorithm.Algorithm.TheVariants.{Chm, Bdz, BdzPh, Brz}
 
 -- the word for an algorithm, on the command line and in reports
 abbrev pub name_of : Algorithm → List ℕ
