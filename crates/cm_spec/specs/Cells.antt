@@ -65,10 +65,13 @@ cells_of p = cells_from p (length p.edges) 0
 abbrev pub is_busy : ℕ → ℕ → Bool
 is_busy idle x = not (nat_eq x idle)
 
--- the cells of each edge's ends add up to its target; pivots' cells are below the modulus; all others are idle
+-- the cells of each edge's ends add up to its target; each edge has a vertex of its own at its pivot, whose cell is below the
+-- modulus; all other cells are idle
 pub record AreSolved (p : Plan) (cells : List ℕ) : Type 0 where
   pub long : length cells ≡ p.vertices
   pub sums : (e : ℕ) → e < length p.edges → sum_by (slice_index cells) (ends_at p.edges e) % p.modulus ≡ p.target e
+  pub within : (e : ℕ) → e < length p.edges → pivot_vertex p.edges e < p.vertices
+  pub apart : (e f : ℕ) → e < length p.edges → f < length p.edges → pivot_vertex p.edges e ≡ pivot_vertex p.edges f → e ≡ f
   pub below : (e : ℕ) → e < length p.edges → slice_index cells (pivot_vertex p.edges e) < p.modulus
   pub idle : (v : ℕ) → v < p.vertices → ((e : ℕ) → e < length p.edges → pivot_vertex p.edges e ≢ v) → slice_index cells v ≡ p.idle
   -- where no value below the modulus is idle, as many cells are busy as there are edges

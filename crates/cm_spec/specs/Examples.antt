@@ -14,7 +14,8 @@ a_and_b = (1, 97 ∷ []) ∷ (2, 98 ∷ []) ∷ []
 abbrev pub two_empty : List (ℕ × List ℕ)
 two_empty = (1, []) ∷ (2, []) ∷ []
 
--- a path of three edges; a ring of three; the ring with an edge that hangs on it; one edge with three ends
+-- a path of three edges; a ring of three; the ring with an edge that hangs on it; one edge with three ends; three such edges, of
+-- which the second is free once the others are gone
 abbrev pub path : List (List ℕ)
 path = (0 ∷ 1 ∷ []) ∷ (1 ∷ 2 ∷ []) ∷ (2 ∷ 3 ∷ []) ∷ []
 
@@ -26,3 +27,6 @@ hung_ring = (0 ∷ 1 ∷ []) ∷ (1 ∷ 2 ∷ []) ∷ (2 ∷ 0 ∷ []) ∷ (2 �
 
 abbrev pub triple : List (List ℕ)
 triple = (0 ∷ 3 ∷ 6 ∷ []) ∷ []
+
+abbrev pub knot : List (List ℕ)
+knot = (0 ∷ 3 ∷ 6 ∷ []) ∷ (0 ∷ 3 ∷ 7 ∷ []) ∷ (1 ∷ 3 ∷ 7 ∷ []) ∷ []

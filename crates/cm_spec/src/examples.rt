@@ -1,11 +1,11 @@
 //! Worked examples of the definitions.
 ghost use Rattle.std.specs.Prelude.{◌≡◌, ◌++◌, [], ◌∷◌, map, Some, None, codes};
-ghost use Rattle.cm_spec.specs.Bdz.{bdz_size, bdz_edge};
-ghost use Rattle.cm_spec.specs.Built.{graph_of, chm_under, first_seed};
+ghost use Rattle.cm_spec.specs.Bdz.{bdz_size, bdz_edge, bdz_rule, bdz_ph_rule};
+ghost use Rattle.cm_spec.specs.Built.{graph_of, cells_under, chm_under, first_seed};
 ghost use Rattle.cm_spec.specs.Cells.{cells_of, plan_of};
 ghost use Rattle.cm_spec.specs.Chm.{chm_size, chm_rule, chm_answer};
 ghost use Rattle.cm_spec.specs.Dump.{magic, chm_dump};
-ghost use Rattle.cm_spec.specs.Examples.{one_empty, empty_and_a, a_and_b, two_empty, path, ring, hung_ring, triple};
+ghost use Rattle.cm_spec.specs.Examples.{one_empty, empty_and_a, a_and_b, two_empty, path, ring, hung_ring, triple, knot};
 ghost use Rattle.cm_spec.specs.Lookup2.{words};
 ghost use Rattle.cm_spec.specs.Rounds.{level_of, pivot_of, order_of, rest_of};
 
@@ -49,14 +49,18 @@ pub fn peeling()
     ensures hung_rest { rest_of hung_ring ≡ 0 ∷ 1 ∷ 2 ∷ [] }
     ensures triple_level { level_of triple 0 ≡ 1 }
     ensures triple_pivot { pivot_of triple 0 ≡ 0 }
+    ensures knot_levels { map (level_of knot) (0 ∷ 1 ∷ 2 ∷ []) ≡ 1 ∷ 2 ∷ 1 ∷ [] }
+    ensures knot_pivots { map (pivot_of knot) (0 ∷ 1 ∷ 2 ∷ []) ≡ 2 ∷ 0 ∷ 0 ∷ [] }
     ensures none_order { order_of [] ≡ [] }
     ensures none_rest { rest_of [] ≡ [] }
 {}
 
-/// The cells of the path under CHM.
+/// The cells of the path under CHM, and of the knot under BDZ and BDZ_PH.
 #[tactic(auto, unfolding(crate::specs::Rounds::left_after, crate::specs::Cells::cells_from, crate::specs::Cells::completing))]
-pub fn path_cells()
-    ensures { cells_of (plan_of chm_rule 4 path (0 ∷ 0 ∷ 0 ∷ [])) ≡ 2 ∷ 1 ∷ 0 ∷ 2 ∷ [] }
+pub fn graph_cells()
+    ensures path { cells_of (plan_of chm_rule 4 path (0 ∷ 0 ∷ 0 ∷ [])) ≡ 2 ∷ 1 ∷ 0 ∷ 2 ∷ [] }
+    ensures knot { cells_of (plan_of bdz_rule 9 knot (0 ∷ 0 ∷ 0 ∷ [])) ≡ 0 ∷ 0 ∷ 3 ∷ 3 ∷ 3 ∷ 3 ∷ 2 ∷ 3 ∷ 3 ∷ [] }
+    ensures knot_ph { cells_of (plan_of bdz_ph_rule 9 knot (0 ∷ 0 ∷ 0 ∷ [])) ≡ 0 ∷ 0 ∷ 0 ∷ 0 ∷ 0 ∷ 0 ∷ 2 ∷ 0 ∷ 0 ∷ [] }
 {}
 
 /// The graphs of small key lists under a seed.
@@ -67,8 +71,9 @@ pub fn graphs()
     ensures letters { graph_of chm_rule a_and_b 2090000 1 ≡ (3 ∷ 0 ∷ []) ∷ (1 ∷ 0 ∷ []) ∷ [] }
     ensures doubled { graph_of chm_rule a_and_b 1500000 0 ≡ (2 ∷ 0 ∷ []) ∷ (2 ∷ 0 ∷ []) ∷ [] }
     ensures next_seed { graph_of chm_rule a_and_b 1500000 1 ≡ (1 ∷ 2 ∷ []) ∷ (2 ∷ 0 ∷ []) ∷ [] }
-    ensures triple { bdz_edge (words [] 0) 9 ≡ 1 ∷ 4 ∷ 7 ∷ [] }
-    ensures triple_a { bdz_edge (words (codes "a") 0) 9 ≡ 2 ∷ 5 ∷ 8 ∷ [] }
+    ensures triple { graph_of bdz_rule one_empty 1230000 0 ≡ (1 ∷ 4 ∷ 7 ∷ []) ∷ [] }
+    ensures triples { graph_of bdz_rule empty_and_a 1230000 0 ≡ (1 ∷ 4 ∷ 7 ∷ []) ∷ (2 ∷ 5 ∷ 8 ∷ []) ∷ [] }
+    ensures triples_ph { graph_of bdz_ph_rule empty_and_a 1230000 0 ≡ (1 ∷ 4 ∷ 7 ∷ []) ∷ (2 ∷ 5 ∷ 8 ∷ []) ∷ [] }
 {}
 
 /// The functions that they get, and what these answer.
@@ -82,6 +87,16 @@ pub fn functions()
     ensures second { chm_answer (chm_under empty_and_a 2090000 0) (codes "a") ≡ 1 }
     ensures took_second { first_seed chm_rule a_and_b 1500000 (0 ∷ 1 ∷ []) ≡ Some 1 }
     ensures none { first_seed chm_rule two_empty 2090000 (0 ∷ 1 ∷ 2 ∷ []) ≡ None }
+{}
+
+/// The cells of functions by BDZ and BDZ_PH: of BDZ, 3 is idle, and of BDZ_PH 0.
+#[tactic(auto, unfolding(crate::specs::Lookup2::words, crate::specs::Lookup2::finish, crate::specs::Lookup2::absorb, crate::specs::Lookup2::three_lines, crate::specs::Lookup2::left_line, crate::specs::Lookup2::right_line, crate::specs::Rounds::left_after, crate::specs::Cells::cells_from, crate::specs::Cells::completing))]
+pub fn triples()
+    ensures one { cells_under bdz_rule one_empty 1230000 0 ≡ 3 ∷ 0 ∷ 3 ∷ 3 ∷ 3 ∷ 3 ∷ 3 ∷ 3 ∷ 3 ∷ [] }
+    ensures two { cells_under bdz_rule empty_and_a 1230000 0 ≡ 3 ∷ 0 ∷ 0 ∷ 3 ∷ 3 ∷ 3 ∷ 3 ∷ 3 ∷ 3 ∷ [] }
+    ensures two_ph { cells_under bdz_ph_rule empty_and_a 1230000 0 ≡ 0 ∷ 0 ∷ 0 ∷ 0 ∷ 0 ∷ 0 ∷ 0 ∷ 0 ∷ 0 ∷ [] }
+    ensures none { first_seed bdz_rule two_empty 1230000 (0 ∷ 1 ∷ []) ≡ None }
+    ensures took_first { first_seed bdz_ph_rule empty_and_a 1230000 (0 ∷ 1 ∷ []) ≡ Some 0 }
 {}
 
 /// Their dumps.
