@@ -1,6 +1,3 @@
 mod ReadLemmas
 mod MemFileLemmas
-pub mod WriteLemmas
-pub mod NoteLemmas
-pub mod FileLemmas
-pub mod PassLemmas
+mod WriteLemmas

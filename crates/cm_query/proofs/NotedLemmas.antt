@@ -4,7 +4,7 @@ use Rattle.std.specs.Prelude.{is_none}
 use Rattle.std.specs.List.{count_by}
 use Rattle.std.proofs.lemmas.Bool.{false≢true}
 use Rattle.std.proofs.lemmas.List.Sums.{sum_by-cons}
-use Rattle.cm_outer.proofs.NoteLemmas.{noted_next}
+use Rattle.cm_outer.specs.NotingLaws.{noted_next}
 use Rattle.cm_outer.specs.Noting.{Noted}
 use Rattle.cm_outer.specs.Writing.{joined}
 use Rattle.cm_query.proofs.TextLemmas.{then_nothing}

@@ -3,7 +3,7 @@ use Rattle.std.proofs.Common.{◌≡◌, ◌∙◌, ℕ, ◌+◌, ◌-◌, ◌<�
 use Rattle.std.specs.Prelude.{IfSome}
 use Rattle.std.proofs.lemmas.List.{length-drop, take_all}
 use Rattle.std.proofs.Math.Seq.{take-add}
-use Rattle.cm_outer.proofs.WriteLemmas.{then_twice}
+use Rattle.cm_outer.specs.WritingLaws.{then_twice}
 use Rattle.cm_outer.specs.Noting.{Noted}
 use Rattle.cm_outer.specs.Passes.{Ends, GivesKey, Told}
 use Rattle.cm_outer.specs.Writing.{then_bytes}

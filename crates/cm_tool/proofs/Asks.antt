@@ -8,7 +8,7 @@ use Rattle.cm_dump.specs.Spelling.{spelling_of}
 use Rattle.cm_dump.specs.declared.fault.LoadFault.{LoadFault}
 use Rattle.cm_dump.specs.declared.fault.LoadFault.TheVariants as faults
 use Rattle.cm_dump.specs.declared.writer.Func.{Func}
-use Rattle.cm_outer.proofs.NoteLemmas.{noted_all, noted_front}
+use Rattle.cm_outer.specs.NotingLaws.{noted_all, noted_front}
 use Rattle.cm_outer.specs.Files.{Files, file_at}
 use Rattle.cm_outer.specs.Noting.{HasNoted}
 use Rattle.cm_outer.specs.Writing.{then_bytes}

@@ -1,5 +1,5 @@
 use Rattle.std.proofs.Common.{◌≡◌, ◌++◌}
-use Rattle.cm_outer.proofs.WriteLemmas.{writes_then, front_of_first, writes_front}
+use Rattle.cm_outer.specs.WritingLaws.{writes_then, front_of_first, writes_front}
 use Rattle.cm_rank.specs.Ranks.{sampled}
 use Rattle.cm_spec.specs.Dump.{header}
 use Rattle.cm_dump.specs.Dumps.{bdz_dump, packed_image, ranks_image}

@@ -1,4 +1,4 @@
-use Rattle.cm_outer.proofs.WriteLemmas.{writes_then, front_of_first, writes_front}
+use Rattle.cm_outer.specs.WritingLaws.{writes_then, front_of_first, writes_front}
 use Rattle.cm_spec.specs.Dump.{header}
 use Rattle.cm_dump.specs.Dumps.{bdz_ph_dump, packed_image}
 use Rattle.cm_dump.proofs.writer.save_bdz_ph.Goals as goal

@@ -1,4 +1,4 @@
-use Rattle.cm_outer.proofs.WriteLemmas.{writes_then, front_of_first, writes_front}
+use Rattle.cm_outer.specs.WritingLaws.{writes_then, front_of_first, writes_front}
 use Rattle.cm_spec.specs.Dump as dump
 use Rattle.cm_dump.proofs.writer.save_chm.Goals as goal
 

@@ -2,7 +2,7 @@ use Rattle.std.proofs.Common.{[], ◌≡◌, ◌∙◌, ℕ, ◌+◌, ◌-◌, �
 use Rattle.std.proofs.lemmas.List.{length-map, length-replicate}
 use Rattle.std.specs.Prelude.{IfSome}
 use Rattle.cm_bits.specs.Held.{packed_cells}
-use Rattle.cm_outer.proofs.WriteLemmas.{then_twice}
+use Rattle.cm_outer.specs.WritingLaws.{then_twice}
 use Rattle.cm_outer.specs.Noting.{Noted}
 use Rattle.cm_outer.specs.Writing.{then_bytes}
 use Rattle.cm_query.proofs.BatchLemmas.{ahead_of, first_of, none_waits, same_line}

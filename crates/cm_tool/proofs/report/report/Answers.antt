@@ -1,4 +1,4 @@
-use Rattle.cm_outer.proofs.NoteLemmas.{noted_first}
+use Rattle.cm_outer.specs.NotingLaws.{noted_first}
 use Rattle.cm_tool.proofs.Asks.{says_all}
 use Rattle.cm_tool.proofs.report.report.Goals as goal
 

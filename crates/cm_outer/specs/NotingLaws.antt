@@ -1,10 +1,10 @@
--- How notes to one sink go on.
+-- Laws of notes to one sink, one after another.
 use Rattle.std.proofs.Common.{◌≡◌, ℕ, ◌+◌, ◌<◌, ◌≤◌, ◌^◌, min, List, ◌++◌, length, take, Bool, true, false, Option, refl, sym, ◌∙◌, ap, arith}
 use Rattle.std.proofs.lemmas.List.{take_min, take_all, take-append-le}
 use Rattle.std.proofs.Math.Seq.{take-append-add}
 use Rattle.cm_outer.specs.Writing.{then_bytes}
 use Rattle.cm_outer.specs.Causes.{Rose}
-use Rattle.cm_outer.proofs.WriteLemmas.{then_twice}
+use Rattle.cm_outer.specs.WritingLaws.{then_twice}
 use Rattle.cm_outer.specs.Noting.{HasNoted, Noted}
 
 -- the first note

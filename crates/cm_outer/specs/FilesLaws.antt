@@ -1,6 +1,6 @@
--- What the calls of a disk make of its files.
-use Rattle.std.proofs.Common.{◌≡◌, ℕ, zero, suc, length, arith, List, [], ◌∷◌, take, drop, Bool, true, false, cond, Option, None, Some, Result, Ok, Err, unwrap_or, refl, sym, ◌∙◌, ap, subst}
-use Rattle.std.specs.Prelude.{IfOk, is_some}
+-- Laws of what the calls of a disk make of its files.
+use Rattle.std.proofs.Common.{◌≡◌, ℕ, zero, suc, length, arith, List, [], ◌∷◌, take, Bool, true, false, cond, Option, None, Some, Result, Ok, Err, unwrap_or, refl, sym, ◌∙◌, ap, subst}
+use Rattle.std.specs.Prelude.{is_some}
 use Rattle.std.specs.Option.{ForSome}
 use Rattle.std.specs.Ordering.{nat_cmp, eq_by_cmp}
 use Rattle.std.specs.Cmp.{eq_by_cmp_equiv}
@@ -9,7 +9,7 @@ use Rattle.std.specs.FinMap as map
 use Rattle.std.proofs.lemmas.List.{take_all}
 use Rattle.cm_outer.specs.Writing.{then_bytes}
 use Rattle.cm_outer.specs.declared.fault.Failed.{Failed}
-use Rattle.cm_outer.specs.Files.{Closes, Files, IsThere, Opens, file_at, with_file}
+use Rattle.cm_outer.specs.Files.{Closes, Files, IsThere, with_file}
 
 -- the bytes of a path are alike only if they are equal
 pub same_path : map.IsAntisymmetric (slice_cmp nat_cmp)
@@ -26,10 +26,6 @@ insert_twice files path first second = map.same_map nat_list_cmp_total same_path
     ∙ ap (cond (eq_by_cmp (slice_cmp nat_cmp) q path) (Some second)) (map.get-insert nat_list_cmp_total files path first q)
     ∙ pick_twice _ (Some second) (Some first) (map.get files q)
     ∙ sym (map.get-insert nat_list_cmp_total files path second q))
-
-pub with_file_twice : (path first second : List ℕ) (known : Option Files) → with_file path second (with_file path first known) ≡ with_file path second known
-with_file_twice path first second None = refl
-with_file_twice path first second (Some files) = ap Some (insert_twice files path first second)
 
 -- a path that was written is there
 pub is_there : (path bytes : List ℕ) (old new : Option Files) → new ≡ with_file path bytes old → IsThere path new
@@ -65,12 +61,3 @@ front_of_front (suc n) (suc m) (x ∷ xs) = let k = front_of_front n m xs in (su
 
 pub holds_front : (path bytes : List ℕ) (m n : ℕ) (old new : Option Files) → new ≡ with_file path (take n (take m bytes)) old → (k : ℕ) × (new ≡ with_file path (take k bytes) old)
 holds_front path bytes m n old new is = let k = front_of_front n m bytes in (k.0, is ∙ ap (λ (l : List ℕ). with_file path l old) k.1)
-
--- a file that was opened and read whole
-pub loaded : {E V : Type 0} (known : Option Files) (path : List ℕ) (told : Option (List ℕ)) (place : ℕ) (items : V → List ℕ) (result : Result V E) → ForSome known (λ files. Opens files path told place)
-    → IfOk result (λ all. ForSome told (λ bytes. items all ≡ drop place bytes)) → IfOk result (λ all. ForSome known (λ files. file_at files path ≡ Some (items all)))
-loaded known path told place items (Err e) opens reads = tt
-loaded known path told place items (Ok all) opens reads = λ files is.
-    let at_start = opens files is in
-    let same : items all ≡ at_start.bytes = reads at_start.bytes at_start.tells ∙ ap (λ (k : ℕ). drop k at_start.bytes) at_start.start in
-    at_start.there ∙ ap Some (sym same)
