@@ -4,6 +4,7 @@
 mod disk;
 mod fault;
 mod key_pass;
+pub mod laws;
 mod mem_disk;
 mod mem_file;
 mod mem_sink;
