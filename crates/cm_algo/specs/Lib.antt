@@ -1,4 +1,3 @@
 pub mod Builds
 pub mod Fails
 pub mod Hashed
-pub mod OneByOne

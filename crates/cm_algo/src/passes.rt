@@ -8,12 +8,11 @@ ghost use Rattle.cm_spec.specs.Rule.{IsCount, IsSize};
 ghost use Rattle.cm_algo.specs.Fails.{HasBuildCause, IsToldFault, FailsPass, HasChanged};
 ghost use Rattle.cm_algo.specs.Hashed.{GivesWords};
 
-use crate::divisor::Divisor;
 use crate::fault::BuildFault;
-use crate::scheme::Scheme;
 use cm_graph::Edges;
 use cm_lookup2::words;
 use cm_outer::{KeyBuf, KeyFault, KeyPass, MAX_KEYS};
+use cm_scheme::{Divisor, Scheme};
 
 /// How many keys there are. The buffer is for its use.
 pub(crate) fn count_all<P: KeyPass>(keys: &mut P, key: &mut KeyBuf) -> Result<u32, KeyFault>

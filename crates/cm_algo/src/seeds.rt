@@ -9,24 +9,14 @@ ghost use Rattle.cm_spec.specs.Rule.{IsCount, IsRatio, IsSize};
 ghost use Rattle.cm_algo.specs.Builds.{IsGiven, IsLeft, IsBuilt};
 ghost use Rattle.cm_algo.specs.Fails.{HasBuildCause, FailsPass, HasChanged, FailsBuild, Differ};
 
-use crate::cells::assign;
 use crate::fault::BuildFault;
 use crate::passes::{count_all, hash_all};
-use crate::scheme::Scheme;
 use cm_graph::{Edges, Incidence, Steps};
 use cm_outer::{KeyBuf, KeyPass};
 use cm_peel::peel_without_levels;
+use cm_scheme::{Built, Scheme, assign};
 use std::alloc::Global;
 use std::sync::ledger::Ledger;
-
-/// A function's parts: the number of keys, the ratio in millionths, the seed and the cells.
-#[derive(Drop)]
-pub struct Built<T> {
-    pub m: u32,
-    pub c: u32,
-    pub seed: u32,
-    pub cells: T,
-}
 
 /// One seed: the cells, or none where its graph has a rest. The buffer is for its use.
 fn attempt<S: Scheme<K>, I: Incidence<K> + Drop, P: KeyPass, const K: usize, L: Ledger>(

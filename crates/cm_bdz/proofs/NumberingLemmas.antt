@@ -4,7 +4,7 @@ use Rattle.std.specs.Prelude.{slice_index}
 use Rattle.std.specs.List.{count_by, sum_by}
 use Rattle.std.proofs.lemmas.Bool.{ne_eqb}
 use Rattle.std.proofs.lemmas.List.{length-map, get_or-map}
-use Rattle.cm_algo.proofs.Solving.{plan_solved}
+use Rattle.cm_scheme.proofs.Solving.{plan_solved}
 use Rattle.cm_bdz.proofs.Pivots.{pivot_within, pivots_apart}
 use Rattle.cm_bdz.proofs.Ranking.{rank_apart, rank_below}
 use Rattle.cm_bdz.specs.BdzLaws.{bdz_is_rule, bdz_ph_is_rule}

@@ -1,7 +1,7 @@
 -- No two edges have the same vertex at their pivots, where peeling removes all.
 use Rattle.std.proofs.Common.{◌≡◌, ◌∙◌, ◌⊎◌, ℕ, ◌<◌, true, false, eqb, List, [], ◌∷◌, length, inl, inr, ap, sym}
 use Rattle.std.proofs.lemmas.Bool.{both_ways, eqb-true, or_cases, or_right, false≢true}
-use Rattle.cm_algo.proofs.Solving.{Apart, IsRemoved, all_removed, apart-order, order_removed}
+use Rattle.cm_scheme.proofs.Solving.{Apart, IsRemoved, all_removed, apart-order, order_removed}
 use Rattle.cm_spec.specs.Cells.{pivot_vertex}
 use Rattle.cm_spec.specs.Graph.{ends_at}
 use Rattle.cm_spec.specs.Lists.{has}

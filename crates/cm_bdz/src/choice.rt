@@ -5,9 +5,9 @@ ghost use Rattle.cm_spec.specs.Bdz.{bdz_edge};
 ghost use Rattle.cm_spec.specs.Lookup2 as lookup2;
 
 use crate::scheme::triple;
-use cm_algo::Divisor;
 use cm_bits::Cells;
 use cm_lookup2::words;
+use cm_scheme::Divisor;
 
 /// The three ends of a key. The number of cells is three times a number above 0.
 fn ends_of<C: Cells>(cells: &C, key: &[u8], seed: u32) -> [u32; 3]

@@ -4,8 +4,8 @@ ghost use Rattle.cm_bdz.specs.BdzLaws.{bdz_is_rule, bdz_ph_is_rule};
 ghost use Rattle.cm_spec.specs.Bdz.{bdz_edge, bdz_rule, bdz_ph_rule, bdz_size};
 ghost use Rattle.cm_spec.specs.Rule.{IsCount, IsRatio, IsSize};
 
-use cm_algo::{Divisor, Scheme};
 use cm_bits::{Crumbs, Trits};
+use cm_scheme::{Divisor, Scheme};
 
 /// The number of vertices for `m` keys and the ratio `c` in millionths: three thirds, each an odd number of at least 3 for one
 /// that would be 1.

@@ -3,8 +3,8 @@ ghost use Rattle.cm_spec.specs.Bdz.{bdz_size};
 ghost use Rattle.cm_spec.specs.Rule.{IsRatio};
 
 use crate::{Bdz, BdzPh, PartsFault, answers_apart, chosen};
-use cm_algo::{Answers, Built, answer};
 use cm_bits::{Cells, Crumbs, Trits};
+use cm_scheme::{Answers, Built, answer};
 use std::alloc::{AllocError, Global};
 use std::test::Fail;
 

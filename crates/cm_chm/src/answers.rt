@@ -5,9 +5,9 @@ ghost use Rattle.cm_spec.specs.Chm.{chm_answer};
 
 use crate::chm::Chm;
 use crate::scheme::ChmScheme;
-use cm_algo::{Answers, Place, Scheme};
 use cm_bits::Cells;
 use cm_lookup2::words;
+use cm_scheme::{Answers, Place, Scheme};
 
 /// Every key gets a number below the number of keys: a key that the function was built over gets its own.
 impl Answers for Chm {

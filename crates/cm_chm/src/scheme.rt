@@ -3,8 +3,8 @@ ghost use Rattle.std.specs.Prelude.{◌≡◌, ℕ, ◌+◌, ◌-◌, ◌*◌, �
 ghost use Rattle.cm_spec.specs.Chm.{chm_rule};
 ghost use Rattle.cm_chm.specs.ChmLaws.{chm_is_rule};
 
-use cm_algo::{Divisor, Scheme};
 use cm_bits::Fields;
+use cm_scheme::{Divisor, Scheme};
 
 /// The vertex after `v`, of `n`: the first one after the last.
 fn next_vertex(v: u32, n: u32) -> u32

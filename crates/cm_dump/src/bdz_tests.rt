@@ -1,7 +1,7 @@
 use crate::tests::{changed, fault_of, is_saved_again, source_of};
 use crate::{Func, LoadFault, load};
-use cm_algo::{Answers, answer};
 use cm_bits::Cells;
+use cm_scheme::{Answers, answer};
 use std::alloc::{AllocError, Global};
 use std::test::Fail;
 

@@ -12,9 +12,9 @@ use crate::fault::QueryFault;
 use crate::marks::mark;
 use crate::tally::Tally;
 use crate::writing::{LINE_END, note_key, write_line};
-use cm_algo::Answers;
 use cm_bits::{Bits, Cells};
 use cm_outer::{Failed, KeyBuf, KeyPass, Notes, Sink};
+use cm_scheme::Answers;
 use itoa::Buffer;
 use std::alloc::Global;
 

@@ -4,8 +4,8 @@ ghost use Rattle.std.specs.Option.{ForSome};
 ghost use Rattle.cm_query.specs.Waiting.{ArePlaces, Spotted, Takes, TakenKeys, keys_of};
 
 use arrayvec::ArrayVec;
-use cm_algo::{Answers, Place};
 use cm_outer::{KeyPass, MAX_KEY_LEN, MAX_KEYS};
+use cm_scheme::{Answers, Place};
 use std::marker::Model;
 
 /// How many keys are taken together at most.

@@ -1,8 +1,8 @@
 ghost use Rattle.std.specs.Prelude.{◌<◌, ◌≤◌, None};
 
 use crate::{QueryFault, Tally, front_of_text, noted_exactly, query, worked_rows};
-use cm_algo::{Answers, Place};
 use cm_outer::{KeyBuf, KeyFault, KeyPass, MAX_KEY_LEN, MAX_KEYS, MemSink, Notes};
+use cm_scheme::{Answers, Place};
 use std::alloc::{AllocError, Global};
 use std::process::Abort;
 use std::test::Fail;

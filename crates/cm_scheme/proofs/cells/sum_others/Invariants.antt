@@ -1,7 +1,7 @@
 use Rattle.std.proofs.Common.{◌≡◌, ◌*◌, ◌≤◌, take}
 use Rattle.std.specs.List.{sum_by}
 use Rattle.cm_spec.specs.Cells.{cell_but}
-use Rattle.cm_algo.proofs.cells.sum_others.Given as goal
+use Rattle.cm_scheme.proofs.cells.sum_others.Given as goal
 
 abbrev pub invariant-loop-u : goal.invariant-loop-u
 invariant-loop-u g l = record {

@@ -7,8 +7,8 @@ use Rattle.cm_spec.specs.Cells.{plan_of}
 use Rattle.cm_spec.specs.Graph.{ends_at, AreEdges}
 use Rattle.cm_spec.specs.Rounds.{rest_of, pivot_of}
 use Rattle.cm_spec.specs.Rule.{Rule, IsRule, IsCount}
-use Rattle.cm_algo.proofs.Solving.{map_agree, removed_at}
-use Rattle.cm_algo.proofs.cells.settle_chunk.Goals as goal
+use Rattle.cm_scheme.proofs.Solving.{map_agree, removed_at}
+use Rattle.cm_scheme.proofs.cells.settle_chunk.Goals as goal
 
 -- what is looked up is the pivots and the targets of the plan
 pivot_is : (edges : List (List ℕ)) (p : Peeling) (e : ℕ) → IsPeelingOf edges p → rest_of edges ≡ [] → e < length edges → get_or p.pivots e 0 ≡ pivot_of edges e

@@ -1,9 +1,9 @@
 use Rattle.std.proofs.Common.{◌≡◌, ◌≤◌, ℕ, List, length, map, drop}
-use Rattle.cm_algo.specs.OneByOne.{one_by_one}
+use Rattle.cm_scheme.specs.OneByOne.{one_by_one}
 use Rattle.cm_spec.specs.Cells.{Plan}
 use Rattle.cm_spec.specs.Graph.{ends_at}
 use Rattle.cm_spec.specs.Rounds.{pivot_of}
-use Rattle.cm_algo.proofs.cells.settle_each.Given as goal
+use Rattle.cm_scheme.proofs.cells.settle_each.Given as goal
 
 abbrev pub invariant-edges : goal.invariant-edges
 invariant-edges g l = record {

@@ -10,9 +10,9 @@ use Rattle.cm_spec.specs.Lists.{has}
 use Rattle.cm_spec.specs.Rounds.{removed_after, order_upto, order_of}
 use Rattle.cm_peel.proofs.Sets.{Rises, rises_below}
 use Rattle.cm_peel.proofs.RoundFacts.{removed_rises, removed_is_left}
-use Rattle.cm_algo.specs.OneByOne.{one_by_one}
+use Rattle.cm_scheme.specs.OneByOne.{one_by_one}
 use Rattle.cm_spec.specs.Cells.{Plan, pivot_vertex, cell_but, completing, value_at, at_once, cells_from, cells_of, all_idle}
-use Rattle.cm_algo.proofs.Alone.{alone}
+use Rattle.cm_scheme.proofs.Alone.{alone}
 
 pub sum_by-agree : (f g : ℕ → ℕ) (xs : List ℕ) → ((u : ℕ) → has xs u ≡ true → f u ≡ g u) → sum_by f xs ≡ sum_by g xs
 sum_by-agree f g [] h = refl

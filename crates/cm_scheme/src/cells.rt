@@ -1,6 +1,6 @@
 //! The cells of a peeled graph, edge by edge in the reverse of the order of peeling.
 ghost use Rattle.std.specs.Prelude.{◌≡◌, ℕ, ◌+◌, ◌-◌, ◌*◌, ◌/◌, ◌%◌, ◌^◌, ◌<◌, ◌≤◌, List, [], All, length, map, replicate, slice_index, slice_set, IfOk};
-ghost use Rattle.cm_algo.specs.OneByOne.{one_by_one};
+ghost use Rattle.cm_scheme.specs.OneByOne.{one_by_one};
 ghost use Rattle.cm_peel.specs.Peeling.{IsPeelingOf};
 ghost use Rattle.cm_spec.specs.Cells.{Plan, plan_of, pivot_vertex, value_at, sum_but, completing, cells_of, AreSolved};
 ghost use Rattle.cm_spec.specs.Graph.{ends_at};

@@ -15,11 +15,11 @@ use Rattle.cm_peel.proofs.Core.{left_after-zero, left_after-suc}
 use Rattle.cm_peel.proofs.RoundFacts.{removed_rises, removed_is_left, has_place, has_removed}
 use Rattle.cm_spec.specs.Graph.{AreEdges}
 use Rattle.cm_peel.proofs.Advance.{length-order}
-use Rattle.cm_algo.specs.OneByOne.{one_by_one}
+use Rattle.cm_scheme.specs.OneByOne.{one_by_one}
 use Rattle.cm_spec.specs.Cells.{plan_of, Plan, pivot_vertex, cell_but, sum_but, completing, value_at, cells_of, all_idle, is_busy, AreSolved}
 use Rattle.cm_spec.specs.Rule.{Rule, IsRule, IsCount}
-use Rattle.cm_algo.proofs.Alone.{alone, left_before, removed_not_left, removed_place, removed_level, pivot_at}
-use Rattle.cm_algo.proofs.InPlace.{kept, length-one_by_one, one_by_one-append, rounds, rounds_are, sum_by-agree, cells_are}
+use Rattle.cm_scheme.proofs.Alone.{alone, left_before, removed_not_left, removed_place, removed_level, pivot_at}
+use Rattle.cm_scheme.proofs.InPlace.{kept, length-one_by_one, one_by_one-append, rounds, rounds_are, sum_by-agree, cells_are}
 
 -- an edge that some round removes
 pub record IsRemoved (edges : List (List ℕ)) (e : ℕ) : Type 0 where

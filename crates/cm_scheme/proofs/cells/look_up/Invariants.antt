@@ -1,5 +1,5 @@
 use Rattle.std.proofs.Common.{◌≡◌, length, map, take, get_or}
-use Rattle.cm_algo.proofs.cells.look_up.Given as goal
+use Rattle.cm_scheme.proofs.cells.look_up.Given as goal
 
 abbrev pub invariant-loop-i : goal.invariant-loop-i
 invariant-loop-i g l = record {

@@ -1,7 +1,7 @@
 use Rattle.std.proofs.Common.{◌≡◌, ◌≤◌, drop, length}
-use Rattle.cm_algo.specs.OneByOne.{one_by_one}
+use Rattle.cm_scheme.specs.OneByOne.{one_by_one}
 use Rattle.cm_spec.specs.Cells.{plan_of, all_idle}
-use Rattle.cm_algo.proofs.cells.assign.Given as goal
+use Rattle.cm_scheme.proofs.cells.assign.Given as goal
 
 abbrev pub invariant-chunks : goal.invariant-chunks
 invariant-chunks g l = record {

@@ -2,11 +2,11 @@ use Rattle.std.proofs.Common.{rules, arith, ◌≡◌, ℕ, ◌+◌, ◌-◌, �
 use Rattle.std.specs.List.{All}
 use Rattle.std.proofs.lemmas.List.{length-take-le}
 use Rattle.std.proofs.lemmas.List.Elements.{All-from_get_or, All-take, All-drop}
-use Rattle.cm_algo.specs.OneByOne.{one_by_one}
+use Rattle.cm_scheme.specs.OneByOne.{one_by_one}
 use Rattle.cm_spec.specs.Cells.{Plan, plan_of, all_idle, AreSolved}
 use Rattle.cm_spec.specs.Rounds.{order_of}
-use Rattle.cm_algo.proofs.Solving.{long_at, order_at, plan_solved, chunk_step, loop_end}
-use Rattle.cm_algo.proofs.cells.assign.Goals as goal
+use Rattle.cm_scheme.proofs.Solving.{long_at, order_at, plan_solved, chunk_step, loop_end}
+use Rattle.cm_scheme.proofs.cells.assign.Goals as goal
 
 order_places : (edges : List (List ℕ)) (order : List ℕ) → order ≡ order_of edges → All (λ e. e < length edges) order
 order_places edges order is = All-from_get_or (λ e. e < length edges) order 0 (λ k h. (order_at edges order k is h).place)

@@ -1,6 +1,6 @@
 use Rattle.std.proofs.Common.{◌∙◌, ℕ, ◌%◌, ap, arith}
-use Rattle.cm_algo.proofs.Remainders.{near_is, left_is, less_is}
-use Rattle.cm_algo.proofs.divisor.Divisor.rem.Goals as goal
+use Rattle.cm_scheme.proofs.Remainders.{near_is, left_is, less_is}
+use Rattle.cm_scheme.proofs.divisor.Divisor.rem.Goals as goal
 
 pub overflow_sub-left : goal.overflow_sub-left
 overflow_sub-left c = (near_is c.args.x c.self.inside.n c.self.inside.scaled c.ranges.x.fits c.self.invariant.0 c.self.invariant.1).within

@@ -3,8 +3,8 @@ use Rattle.std.proofs.Math.ListN.{length-set}
 use Rattle.std.proofs.lemmas.List.{length-map, get_or-map, get_or_default}
 use Rattle.cm_spec.specs.Graph.{ends_at}
 use Rattle.cm_spec.specs.Rounds.{pivot_of}
-use Rattle.cm_algo.proofs.Solving.{settle_step}
-use Rattle.cm_algo.proofs.cells.settle_each.Goals as goal
+use Rattle.cm_scheme.proofs.Solving.{settle_step}
+use Rattle.cm_scheme.proofs.cells.settle_each.Goals as goal
 
 at_place : {Y : Type 0} (f : ℕ → Y) (xs : List ℕ) (ys : List Y) (i : ℕ) (d : Y) → ys ≡ map f xs → i < length ys → get_or ys i d ≡ f (get_or xs i 0)
 at_place f xs ys i d is h =

@@ -1,6 +1,6 @@
 ghost use Rattle.std.specs.Prelude.{◌<◌};
 
-use crate::Divisor;
+use cm_scheme::Divisor;
 use std::process::Abort;
 use std::test::Fail;
 
