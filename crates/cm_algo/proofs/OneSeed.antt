@@ -10,7 +10,7 @@ use Rattle.cm_algo.specs.Fails.{IsToldFault}
 use Rattle.cm_algo.proofs.Tags.{SameTags, cells_agree}
 use Rattle.cm_outer.specs.Passes.{Told, GivesKey}
 use Rattle.cm_spec.specs.Built.{edge_of, tag_of, graph_of, is_peeled, first_seed, IsFirst, AllCored}
-use Rattle.cm_peel.proofs.Core.{empty_core, empty_rest}
+use Rattle.cm_peel.specs.CoreLaws.{empty_core, empty_rest}
 use Rattle.cm_spec.specs.Cells.{plan_of, cells_of}
 use Rattle.cm_spec.specs.Rounds.{rest_of}
 use Rattle.cm_spec.specs.Rule.{Rule}

@@ -11,10 +11,9 @@ use Rattle.cm_graph.specs.Graph.{Graph, Links}
 use Rattle.cm_peel.specs.AtRound.{AtRound}
 use Rattle.cm_peel.specs.Peeling.{IsPeelingOf, levels_of, is_past, past_of}
 use Rattle.cm_peel.proofs.First.{kept_next}
-use Rattle.cm_peel.proofs.Sets.{filter_agree_on}
-use Rattle.cm_peel.proofs.Core.{left_after_is, IsStable, stable_stays, stable_next, no_length}
-use Rattle.cm_peel.proofs.RoundFacts.{has_left_from, place_below}
-use Rattle.cm_peel.proofs.Advance.{length-order}
+use Rattle.cm_peel.specs.SetLaws.{filter_agree_on}
+use Rattle.cm_peel.specs.CoreLaws.{left_after_is, IsStable, stable_stays, stable_next, no_length}
+use Rattle.cm_peel.specs.RoundLaws.{has_left_from, place_below, length-order}
 use Rattle.cm_peel.proofs.NextRound.{round_long}
 
 pub passes_all : (p : ℕ → Bool) (xs : List ℕ) → filter (λ e. not (p e)) xs ≡ [] → list_all p xs ≡ true

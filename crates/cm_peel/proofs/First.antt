@@ -9,9 +9,10 @@ use Rattle.cm_spec.specs.Rounds.{left_after, removed_after, is_left, is_held, le
 use Rattle.cm_graph.specs.Graph.{Graph, Links}
 use Rattle.cm_peel.specs.AtRound.{AtRound}
 use Rattle.cm_peel.specs.Incident.{AreLinked, PivotsSet, is_free, is_picked, free_position}
-use Rattle.cm_peel.proofs.Sets.{filter_agree_on}
+use Rattle.cm_peel.specs.SetLaws.{filter_agree_on}
+use Rattle.cm_peel.specs.RoundLaws.{has_place, has_left_from, has_removed, place_below}
 use Rattle.cm_peel.proofs.Pieces.{numbers-append}
-use Rattle.cm_peel.proofs.RoundFacts.{has_place, has_left_from, has_removed, place_below, picked_is, picked_first}
+use Rattle.cm_peel.proofs.RoundFacts.{picked_is, picked_first}
 use Rattle.cm_peel.proofs.Advance.{levels_next}
 use Rattle.cm_peel.proofs.NextRound.{pivots_next, gone_next, found_within}
 use Rattle.cm_peel.proofs.Taking.{or_none}

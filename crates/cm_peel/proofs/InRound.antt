@@ -12,10 +12,12 @@ use Rattle.cm_graph.specs.Graph.{Graph, Links, degree_of, sole_of}
 use Rattle.cm_peel.specs.Incident.{AreLinked, is_free, is_picked, soles_of_all, unlinked_all}
 use Rattle.cm_peel.specs.AtRound.{AtRound, InRound, AreTaken}
 use Rattle.cm_peel.specs.Peeling.{is_past}
-use Rattle.cm_peel.proofs.Sets.{and_true, filter-filter, has-filter, has-from_Contains}
+use Rattle.cm_peel.specs.SetLaws.{filter-filter, has-filter, has-from_Contains, count_by_some}
+use Rattle.cm_peel.specs.RoundLaws.{has_place, has_left_from, has_removed}
+use Rattle.cm_peel.proofs.Sets.{and_true}
 use Rattle.cm_peel.proofs.Incident.{AreLinked-agree, AreLinked-unlinked_all, degree_linked}
 use Rattle.cm_peel.proofs.Taking.{has-append, AreApart-append, or_none}
-use Rattle.cm_peel.proofs.RoundFacts.{count_by_some, count_by_found, count_by-both, has_place, has_left_from, has_removed, picked_is, sole_found, sole_is, IsSoleOf, sole_among, sole_from}
+use Rattle.cm_peel.proofs.RoundFacts.{count_by_found, count_by-both, picked_is, sole_found, sole_is, IsSoleOf, sole_among, sole_from}
 
 -- an end of degree one
 pub any_found : (l : Links) (xs : List ℕ) → list_any (is_free l) xs ≡ true → (v : ℕ) × (has xs v ≡ true) × (degree_of l v ≡ 1)

@@ -12,7 +12,8 @@ use Rattle.cm_spec.specs.Lists.{numbers_from, has}
 use Rattle.cm_spec.specs.Graph.{touches, places, ends_at, degree_in}
 use Rattle.cm_graph.specs.Graph.{Graph, Links, IsFree, linked, unlinked, slot_touches, degree_of, sole_of}
 use Rattle.cm_peel.specs.Incident.{AreLinked, unlinked_all, is_free, soles_of, soles_of_all}
-use Rattle.cm_peel.proofs.Sets.{count_by-cons, count_by-filter, not_before}
+use Rattle.cm_peel.specs.SetLaws.{count_by-cons, count_by-filter}
+use Rattle.cm_peel.proofs.Sets.{not_before}
 
 pub slice_get-set_same : {X : Type 0} (xs : List X) (i : ℕ) (y : X) → i < length xs → slice_get (set xs i y) i ≡ Some y
 slice_get-set_same [] i y h = absurd (omega arith)

@@ -1,6 +1,5 @@
 pub mod Advance
 pub mod Chunks
-pub mod Core
 pub mod Ending
 pub mod First
 pub mod InRound

@@ -14,12 +14,14 @@ use Rattle.cm_spec.specs.Rounds.{is_left, is_held, left_after, removed_after, le
 use Rattle.cm_graph.specs.Graph.{Graph, Links, IsLinked}
 use Rattle.cm_peel.specs.Incident.{AreLinked, PivotsSet, is_free, is_picked, free_position}
 use Rattle.cm_peel.specs.AtRound.{AtRound, InRound}
-use Rattle.cm_peel.proofs.Sets.{increasing_from_Rises, Rises-from_increasing, has-from_Contains, not_before}
+use Rattle.cm_peel.specs.SetLaws.{increasing_from_Rises, Rises-from_increasing, has-from_Contains}
+use Rattle.cm_peel.specs.RoundLaws.{has_left, has_place, has_left_from, is_left_from, has_removed, removed_rises, removed_is_left, level_is, length-order}
+use Rattle.cm_peel.proofs.Sets.{not_before}
 use Rattle.cm_peel.proofs.Incident.{AreLinked-agree, any_before}
 use Rattle.cm_peel.proofs.Pieces.{rises_sorted}
 use Rattle.cm_peel.proofs.Taking.{has-append, are_distinct}
-use Rattle.cm_peel.proofs.RoundFacts.{has_left, has_place, has_left_from, is_left_from, picked_is, has_removed, removed_rises, removed_is_left, rising_same}
-use Rattle.cm_peel.proofs.Advance.{level_is, pivot_is, levels_next, still_early, length-order}
+use Rattle.cm_peel.proofs.RoundFacts.{picked_is, rising_same}
+use Rattle.cm_peel.proofs.Advance.{pivot_is, levels_next, still_early}
 
 -- the edges of a round
 pub round_rises : (edges : List (List ℕ)) (t : ℕ) → IsStrictlyIncreasing (removed_after edges t)

@@ -10,12 +10,7 @@ use Rattle.std.proofs.Math.Seq.{drop-append_seam}
 use Rattle.std.proofs.lemmas.List.{length-take-le, take-append-le, take_all}
 use Rattle.std.proofs.lemmas.List.Elements.{All-from_get_or}
 use Rattle.cm_spec.specs.Lists.{numbers_from}
-use Rattle.cm_peel.proofs.Core.{length-numbers}
-
-pub get_or-numbers : (b n k : ℕ) → k < n → get_or (numbers_from b n) k 0 ≡ b + k
-get_or-numbers b zero k h = absurd (omega arith)
-get_or-numbers b (suc n) zero h = omega arith
-get_or-numbers b (suc n) (suc k) h = get_or-numbers (suc b) n k (omega arith) ∙ omega arith
+use Rattle.cm_peel.specs.SetLaws.{length-numbers, get_or-numbers}
 
 drop_all : {X : Type 0} (xs : List X) (n : ℕ) → length xs ≤ n → drop n xs ≡ []
 drop_all [] zero h = refl

@@ -1,7 +1,7 @@
 -- What a round does, by the definitions.
-use Rattle.std.proofs.Common.{◌≡◌, ◌≢◌, ◌⊎◌, ℕ, suc, ◌+◌, ◌<◌, ◌≤◌, Bool, true, false, cond, not, eqb, leb, ◌&&◌, ◌||◌, List, [], ◌∷◌, length, get_or, map, Some, None, sym, refl, ap, ◌∙◌, subst, inl, inr, arith}
-use Rattle.std.specs.List.{count_by, filter, list_any, list_all, position_or_len}
-use Rattle.std.proofs.lemmas.Bool.{cases_Bool, cases_lt, cases_eq, eqb-true, eq-eqb, ne_eqb, and_parts, and_from, and_left, or_cases, or_left, or_right, leb-true, le-leb, lt-leb, false≢true, not_from_false}
+use Rattle.std.proofs.Common.{◌≡◌, ◌⊎◌, ℕ, ◌+◌, ◌<◌, ◌≤◌, Bool, true, false, cond, not, eqb, leb, ◌&&◌, ◌||◌, List, [], ◌∷◌, length, get_or, map, Some, None, sym, refl, ap, ◌∙◌, inl, inr, arith}
+use Rattle.std.specs.List.{count_by, filter, list_any, list_all}
+use Rattle.std.proofs.lemmas.Bool.{cases_Bool, cases_lt, cases_eq, eqb-true, eq-eqb, ne_eqb, and_parts, and_from, and_left, or_cases, or_left, or_right, le-leb, lt-leb, false≢true, not_from_false}
 use Rattle.std.proofs.lemmas.Option.{get_or_from_slice_get}
 use Rattle.std.proofs.lemmas.List.Sums.{passes_at_first}
 use Rattle.cm_spec.specs.Lists.{has}
@@ -9,20 +9,11 @@ use Rattle.cm_spec.specs.Graph.{touches, places, ends_at, degree_in}
 use Rattle.cm_spec.specs.Rounds.{is_left, is_held, left_after, removed_after}
 use Rattle.cm_graph.specs.Graph.{Graph, Links, slot_touches, degree_of, sole_of}
 use Rattle.cm_peel.specs.Incident.{AreLinked, is_free, is_picked, soles_of, soles_of_all}
-use Rattle.cm_peel.proofs.Sets.{count_by-cons, has-filter, filter_agree_on, Rises, Rises-filter, has-numbers, has-numbers_high, rising_is_filter}
-use Rattle.cm_peel.proofs.Core.{left_after-zero, left_after_is, left_after_rises}
 use Rattle.cm_peel.proofs.Taking.{has-append}
 use Rattle.cm_peel.proofs.Incident.{slot_by, degree_linked}
-
--- counts and members
-pub count_by_some : (p : ℕ → Bool) (xs : List ℕ) (e : ℕ) → has xs e ≡ true → p e ≡ true → 1 ≤ count_by p xs
-count_by_some p [] e h pass = absurd (false≢true h)
-count_by_some p (x ∷ xs) e h pass = go (or_cases (eqb x e) (has xs e) h) (λ m. count_by_some p xs e m pass) where
-  go : (eqb x e ≡ true) ⊎ (has xs e ≡ true) → (has xs e ≡ true → 1 ≤ count_by p xs) → 1 ≤ count_by p (x ∷ xs)
-  go (inl same) ih =
-      let o : cond {A = ℕ} (p x) 1 0 ≡ 1 = ap (λ (t : ℕ). cond {A = ℕ} (p t) 1 0) (eqb-true x e same) ∙ ap (λ (b : Bool). cond {A = ℕ} b 1 0) pass in
-      omega (arith, count_by-cons p x xs)
-  go (inr more) ih = omega (arith, count_by-cons p x xs, ih more)
+use Rattle.cm_peel.specs.SetLaws.{count_by-cons, has-filter, Rises, filter_agree_on, rising_is_filter, count_by_two, place_within}
+use Rattle.cm_peel.specs.CoreLaws.{left_after-zero, left_after_is}
+use Rattle.cm_peel.specs.RoundLaws.{has_place, degree_some}
 
 pub count_by_found : (p : ℕ → Bool) (xs : List ℕ) → 1 ≤ count_by p xs → (e : ℕ) × (has xs e ≡ true) × (p e ≡ true)
 count_by_found p [] h = absurd (omega arith)
@@ -34,52 +25,6 @@ count_by_found p (x ∷ xs) h = go (cases_Bool (p x)) (count_by_found p xs) wher
       let c : count_by p (x ∷ xs) ≡ cond (p x) 1 0 + count_by p xs = count_by-cons p x xs in
       let r = ih (omega arith) in
       (r.0, or_right (eqb x r.0) (has xs r.0) r.1, r.2)
-
-pub count_by_two : (p : ℕ → Bool) (xs : List ℕ) (a b : ℕ) → a ≢ b → has xs a ≡ true → has xs b ≡ true → p a ≡ true → p b ≡ true → 2 ≤ count_by p xs
-count_by_two p [] a b ne ha hb pa pb = absurd (false≢true ha)
-count_by_two p (x ∷ xs) a b ne ha hb pa pb = go (or_cases (eqb x a) (has xs a) ha) (or_cases (eqb x b) (has xs b) hb) (λ m n. count_by_two p xs a b ne m n pa pb) where
-  one_at : (e : ℕ) → x ≡ e → p e ≡ true → cond {A = ℕ} (p x) 1 0 ≡ 1
-  one_at e same pass = ap (λ (t : ℕ). cond {A = ℕ} (p t) 1 0) same ∙ ap (λ (b : Bool). cond {A = ℕ} b 1 0) pass
-
-  go : (eqb x a ≡ true) ⊎ (has xs a ≡ true) → (eqb x b ≡ true) ⊎ (has xs b ≡ true) → (has xs a ≡ true → has xs b ≡ true → 2 ≤ count_by p xs) → 2 ≤ count_by p (x ∷ xs)
-  go (inl sa) (inl sb) ih = absurd (ne (sym (eqb-true x a sa) ∙ eqb-true x b sb))
-  go (inl sa) (inr mb) ih = omega (arith, count_by-cons p x xs, one_at a (eqb-true x a sa) pa, count_by_some p xs b mb pb)
-  go (inr ma) (inl sb) ih = omega (arith, count_by-cons p x xs, one_at b (eqb-true x b sb) pb, count_by_some p xs a ma pa)
-  go (inr ma) (inr mb) ih = omega (arith, count_by-cons p x xs, ih ma mb)
-
-pub place_within : {X : Type 0} (p : X → Bool) (xs : List X) → 1 ≤ count_by p xs → position_or_len p xs < length xs
-place_within p [] h = absurd (omega arith)
-place_within p (x ∷ xs) h = go (p x) refl (place_within p xs) where
-  go : (b : Bool) → p x ≡ b → (1 ≤ count_by p xs → position_or_len p xs < length xs) → cond (not (p x)) (1 + position_or_len p xs) 0 < suc (length xs)
-  go true is ih = rw is (omega arith)
-  go false is ih =
-      let o : cond {A = ℕ} (p x) 1 0 ≡ 0 = ap (λ (b : Bool). cond {A = ℕ} b 1 0) is in
-      let c : count_by p (x ∷ xs) ≡ cond (p x) 1 0 + count_by p xs = count_by-cons p x xs in
-      let less : position_or_len p xs < length xs = ih (omega arith) in
-      let n : cond {A = ℕ} (not (p x)) (1 + position_or_len p xs) 0 ≡ 1 + position_or_len p xs = ap (λ (b : Bool). cond {A = ℕ} (not b) (1 + position_or_len p xs) 0) is in
-      omega arith
-
--- what is left, by membership
-pub has_left : (edges : List (List ℕ)) (t e : ℕ) → has (left_after edges t) e ≡ (has (places edges) e && is_left edges t e)
-has_left edges t e = ap (λ s. has s e) (left_after_is edges t) ∙ has-filter (is_left edges t) (places edges) e
-
-pub has_place : (edges : List (List ℕ)) (e : ℕ) → e < length edges → has (places edges) e ≡ true
-has_place edges e h = has-numbers 0 (length edges) e (omega arith) (omega arith)
-
-pub place_below : (edges : List (List ℕ)) (e : ℕ) → has (places edges) e ≡ true → e < length edges
-place_below edges e h = omega (arith, has-numbers_high 0 (length edges) e h)
-
-pub has_left_from : (edges : List (List ℕ)) (t e : ℕ) → e < length edges → is_left edges t e ≡ true → has (left_after edges t) e ≡ true
-has_left_from edges t e h m = has_left edges t e ∙ and_from _ _ (has_place edges e h) m
-
-pub is_left_from : (edges : List (List ℕ)) (t e : ℕ) → has (left_after edges t) e ≡ true → (e < length edges) × (is_left edges t e ≡ true)
-is_left_from edges t e m =
-    let both = and_parts (has (places edges) e) (is_left edges t e) (sym (has_left edges t e) ∙ m) in
-    (place_below edges e both.0, both.1)
-
--- an end of an edge that is left has a degree
-pub degree_some : (edges : List (List ℕ)) (t e v : ℕ) → has (left_after edges t) e ≡ true → touches v (ends_at edges e) ≡ true → 1 ≤ degree_in edges (left_after edges t) v
-degree_some edges t e v m h = count_by_some (λ e. touches v (ends_at edges e)) (left_after edges t) e m h
 
 -- degrees in the incidence
 pub degree_left : (graph : Graph) (t : ℕ) (l : Links) (v : ℕ) → AreLinked graph (is_left graph.edges t) l → degree_of l v ≡ degree_in graph.edges (left_after graph.edges t) v
@@ -109,9 +54,6 @@ picked_within graph t l xs a inside = filter_agree_on (is_picked l graph.edges) 
 pub picked_first : (graph : Graph) (l : Links) → AreLinked graph (is_left graph.edges 0) l → filter (is_picked l graph.edges) (places graph.edges) ≡ removed_after graph.edges 0
 picked_first graph l a =
     ap (filter (is_picked l graph.edges)) (sym (left_after-zero graph.edges)) ∙ picked_within graph 0 l (left_after graph.edges 0) a (λ e m. m)
-
-pub has_removed : (edges : List (List ℕ)) (t e : ℕ) → has (removed_after edges t) e ≡ (has (left_after edges t) e && not (is_held edges (left_after edges t) e))
-has_removed edges t e = has-filter (λ e. not (is_held edges (left_after edges t) e)) (left_after edges t) e
 
 -- the one edge of a vertex
 pub seen : (v : ℕ) (ends : List ℕ) (c : Bool) → slot_touches v (cond c (Some ends) None) ≡ (c && touches v ends)
@@ -202,25 +144,6 @@ sole_from l edges (d ∷ ds) e v m h one = has-append (soles_of l (ends_at edges
       or_left _ _ (has_map_from (sole_of l) (filter (is_free l) (ends_at edges d)) v kept)
   go (inr more) ih = or_right _ _ (ih more)
 
--- an edge that is removed next has an end of degree one
-pub not_held_end : (d : ℕ → ℕ) (ends : List ℕ) → not (list_all (λ v. leb 2 (d v)) ends) ≡ true → (v : ℕ) × (has ends v ≡ true) × (d v < 2)
-not_held_end d [] h = absurd (false≢true h)
-not_held_end d (x ∷ xs) h = go (cases_lt (d x) 2) (not_held_end d xs) where
-  go : (d x < 2) ⊎ (2 ≤ d x) → (not (list_all (λ v. leb 2 (d v)) xs) ≡ true → (v : ℕ) × (has xs v ≡ true) × (d v < 2)) → (v : ℕ) × (has (x ∷ xs) v ≡ true) × (d v < 2)
-  go (inl few) ih = (x, or_left (eqb x x) (has xs x) (eq-eqb x x refl), few)
-  go (inr many) ih =
-      let r = ih (sym (ap (λ b. not (b && list_all (λ v. leb 2 (d v)) xs)) (le-leb 2 (d x) many)) ∙ h) in
-      (r.0, or_right (eqb x r.0) (has xs r.0) r.1, r.2)
-
-pub held_end : (d : ℕ → ℕ) (ends : List ℕ) (v : ℕ) → list_all (λ v. leb 2 (d v)) ends ≡ true → has ends v ≡ true → 2 ≤ d v
-held_end d [] v h m = absurd (false≢true m)
-held_end d (x ∷ xs) v h m =
-    let both = and_parts (leb 2 (d x)) (list_all (λ v. leb 2 (d v)) xs) h in
-    go both.0 (or_cases (eqb x v) (has xs v) m) (held_end d xs v both.1) where
-      go : leb 2 (d x) ≡ true → (eqb x v ≡ true) ⊎ (has xs v ≡ true) → (has xs v ≡ true → 2 ≤ d v) → 2 ≤ d v
-      go two (inl same) ih = subst (λ y. 2 ≤ d y) (eqb-true x v same) (leb-true 2 (d x) two)
-      go two (inr more) ih = ih more
-
 -- a degree that fell was that of a removed edge's end
 pub count_by-both : (p q : ℕ → Bool) (xs : List ℕ) → count_by q (filter p xs) + count_by q (filter (λ e. not (p e)) xs) ≡ count_by q xs
 count_by-both p q [] = refl
@@ -241,9 +164,3 @@ rising_same edges xs ys r s inside to from =
       go (inl p) (inr q) t f = p ∙ sym (t p)
       go (inr p) (inl q) t f = f q ∙ sym q
       go (inr p) (inr q) t f = p ∙ sym q
-
-pub removed_rises : (edges : List (List ℕ)) (t : ℕ) → Rises 0 (removed_after edges t)
-removed_rises edges t = Rises-filter (λ e. not (is_held edges (left_after edges t) e)) 0 (left_after edges t) (left_after_rises edges t)
-
-pub removed_is_left : (edges : List (List ℕ)) (t e : ℕ) → has (removed_after edges t) e ≡ true → has (left_after edges t) e ≡ true
-removed_is_left edges t e m = (and_parts _ _ (sym (has_removed edges t e) ∙ m)).0

@@ -1,4 +1,7 @@
-pub mod Peeling
 pub mod AtRound
+pub mod CoreLaws
 pub mod Incident
 pub mod Marks
+pub mod Peeling
+pub mod RoundLaws
+pub mod SetLaws

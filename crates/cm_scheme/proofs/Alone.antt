@@ -6,10 +6,9 @@ use Rattle.std.proofs.lemmas.List.Sums.{passes_at_first}
 use Rattle.cm_spec.specs.Graph.{touches, ends_at, degree_in}
 use Rattle.cm_spec.specs.Lists.{has}
 use Rattle.cm_spec.specs.Rounds.{is_left, is_held, left_after, removed_after, level_of, pivot_of}
-use Rattle.cm_peel.proofs.Sets.{has-filter}
-use Rattle.cm_peel.proofs.Core.{left_after-suc, progress, IsStable}
-use Rattle.cm_peel.proofs.RoundFacts.{has_removed, removed_is_left, is_left_from, has_left_from, not_held_end, degree_some, count_by_some, count_by_two, place_within}
-use Rattle.cm_peel.proofs.Advance.{level_is}
+use Rattle.cm_peel.specs.SetLaws.{has-filter, count_by_some, count_by_two, place_within}
+use Rattle.cm_peel.specs.CoreLaws.{left_after-suc, progress, IsStable}
+use Rattle.cm_peel.specs.RoundLaws.{has_removed, removed_is_left, is_left_from, has_left_from, not_held_end, degree_some, level_is}
 use Rattle.cm_spec.specs.Cells.{pivot_vertex}
 
 any_place : (p : ℕ → Bool) (xs : List ℕ) (v : ℕ) → has xs v ≡ true → p v ≡ true → position_or_len p xs < length xs

@@ -8,8 +8,8 @@ use Rattle.std.proofs.lemmas.List.{get_or-set_other}
 use Rattle.cm_spec.specs.Graph.{ends_at}
 use Rattle.cm_spec.specs.Lists.{has}
 use Rattle.cm_spec.specs.Rounds.{removed_after, order_upto, order_of}
-use Rattle.cm_peel.proofs.Sets.{Rises, rises_below}
-use Rattle.cm_peel.proofs.RoundFacts.{removed_rises, removed_is_left}
+use Rattle.cm_peel.specs.SetLaws.{Rises, rises_below}
+use Rattle.cm_peel.specs.RoundLaws.{removed_rises, removed_is_left}
 use Rattle.cm_scheme.specs.OneByOne.{one_by_one}
 use Rattle.cm_spec.specs.Cells.{Plan, pivot_vertex, cell_but, completing, value_at, at_once, cells_from, cells_of, all_idle}
 use Rattle.cm_scheme.proofs.Alone.{alone}

@@ -10,11 +10,10 @@ use Rattle.std.proofs.Math.Nat.{mod-eq_of_lt, div-add-mod, add-mul-mod_self_left
 use Rattle.cm_spec.specs.Graph.{ends_at}
 use Rattle.cm_spec.specs.Lists.{has}
 use Rattle.cm_spec.specs.Rounds.{left_after, removed_after, rest_of, order_upto, order_of, pivot_of, level_of, is_held}
-use Rattle.cm_peel.proofs.Sets.{Rises, rises_below, has-filter}
-use Rattle.cm_peel.proofs.Core.{left_after-zero, left_after-suc}
-use Rattle.cm_peel.proofs.RoundFacts.{removed_rises, removed_is_left, has_place, has_removed}
+use Rattle.cm_peel.specs.SetLaws.{Rises, rises_below, has-filter}
+use Rattle.cm_peel.specs.CoreLaws.{left_after-zero, left_after-suc}
+use Rattle.cm_peel.specs.RoundLaws.{removed_rises, removed_is_left, has_place, has_removed, length-order}
 use Rattle.cm_spec.specs.Graph.{AreEdges}
-use Rattle.cm_peel.proofs.Advance.{length-order}
 use Rattle.cm_scheme.specs.OneByOne.{one_by_one}
 use Rattle.cm_spec.specs.Cells.{plan_of, Plan, pivot_vertex, cell_but, sum_but, completing, value_at, cells_of, all_idle, is_busy, AreSolved}
 use Rattle.cm_spec.specs.Rule.{Rule, IsRule, IsCount}

@@ -11,7 +11,7 @@ use Rattle.cm_dump.specs.Spelling.{spelling_of}
 use Rattle.cm_outer.specs.Files.{Files, file_at, with_file}
 use Rattle.cm_outer.specs.declared.key_pass.KeyFault.{KeyFault}
 use Rattle.cm_outer.specs.declared.key_pass.KeyFault.TheVariants as key_fault
-use Rattle.cm_peel.proofs.Core.{empty_rest}
+use Rattle.cm_peel.specs.CoreLaws.{empty_rest}
 use Rattle.cm_query.proofs.TextLemmas.{then_nothing}
 use Rattle.cm_spec.specs.Built.{first_seed, graph_of}
 use Rattle.cm_spec.specs.Rounds.{rest_of}

@@ -1,4 +1,4 @@
-use Rattle.cm_peel.proofs.Core as core
+use Rattle.cm_peel.specs.CoreLaws as core
 use Rattle.cm_peel.proofs.laws.empty_rest.Goals as goal
 
 pub returns : goal.returns

@@ -1,7 +1,7 @@
 use Rattle.std.proofs.Common.{◌∙◌, ℕ, ◌+◌, ◌-◌, ◌*◌, ◌<◌, ◌≤◌, List, length, vec_len, sym, ap, subst, arith, rules}
 use Rattle.cm_spec.specs.Core.{IsCore}
 use Rattle.cm_peel.specs.AtRound.{AtRound}
-use Rattle.cm_peel.proofs.Core as core
+use Rattle.cm_peel.specs.CoreLaws as core
 use Rattle.cm_peel.proofs.Ending.{ended, levels_ended, past_many, steps_next, steps_err, steps_end}
 use Rattle.cm_peel.proofs.NextRound.{order_fits, round_long}
 use Rattle.cm_peel.proofs.Pieces.{written_back}

@@ -1,14 +1,14 @@
--- What peeling leaves is the greatest closed set.
-use Rattle.std.proofs.Common.{◌≡◌, ◌⊎◌, ℕ, zero, suc, ◌+◌, ◌<◌, ◌≤◌, Bool, true, false, cond, leb, ◌&&◌, List, [], ◌∷◌, length, get_or, sym, refl, ap, ◌∙◌, subst, inl, inr, arith}
-use Rattle.std.specs.List.{All, Contains, filter, list_all}
-use Rattle.std.proofs.lemmas.Bool.{cases_Bool, and_parts, and_from, leb-true, le-leb, false≢true}
+-- Facts of what the rounds leave: it is the greatest closed set. They are proved here, and no contract needs them.
+use Rattle.std.proofs.Common.{◌≡◌, ◌⊎◌, ℕ, zero, suc, ◌+◌, ◌<◌, ◌≤◌, Bool, true, false, cond, ◌&&◌, List, [], ◌∷◌, length, get_or, sym, refl, ap, ◌∙◌, subst, inl, inr, arith, leb}
+use Rattle.std.specs.List.{Contains, filter, All, list_all}
+use Rattle.std.proofs.lemmas.Bool.{cases_Bool, false≢true, and_parts, and_from, leb-true, le-leb}
 use Rattle.std.proofs.lemmas.List.Sums.{AllPass-from_list_all, list_all-from_AllPass}
-use Rattle.std.proofs.lemmas.List.Elements.{All-contains, All-from_get_or, Contains-get_or}
-use Rattle.cm_spec.specs.Lists.{numbers_from, has}
+use Rattle.std.proofs.lemmas.List.Elements.{All-from_get_or, All-contains, Contains-get_or}
+use Rattle.cm_spec.specs.Lists.{has}
 use Rattle.cm_spec.specs.Graph.{touches, places, ends_at, degree_in, ArePlaces}
 use Rattle.cm_spec.specs.Rounds.{is_left, is_held, left_after, rest_of}
 use Rattle.cm_spec.specs.Core.{IsClosed, IsCore, HasEmptyCore}
-use Rattle.cm_peel.proofs.Sets.{count_by-filter, count_by-le, filter-filter, has-filter, Rises, Rises-filter, Rises-numbers, has-numbers, has-numbers_high, rising_is_filter, Rises-from_increasing, increasing_from_Rises, has-from_Contains, Contains-from_has}
+use Rattle.cm_peel.specs.SetLaws.{filter-filter, count_by-filter, count_by-le, has-filter, Rises, Rises-filter, Rises-numbers, has-numbers, has-numbers_high, rising_is_filter, Rises-from_increasing, increasing_from_Rises, has-from_Contains, Contains-from_has, length-numbers}
 
 pub left_after-zero : (edges : List (List ℕ)) → left_after edges 0 ≡ places edges
 unfolding left_after
@@ -92,10 +92,6 @@ stable_stays edges t s = left_after-suc edges t ∙ filter_passes_all (is_held e
 
 pub stable_next : (edges : List (List ℕ)) (t : ℕ) → IsStable edges t → IsStable edges (suc t)
 stable_next edges t s = rw (stable_stays edges t s) s
-
-pub length-numbers : (b n : ℕ) → length (numbers_from b n) ≡ n
-length-numbers b zero = refl
-length-numbers b (suc n) = ap suc (length-numbers (suc b) n)
 
 pub progress : (edges : List (List ℕ)) (t : ℕ) → IsStable edges t ⊎ (length (left_after edges t) + t ≤ length edges)
 progress edges zero = inr (let e : length (left_after edges 0) ≡ length edges = ap length (left_after-zero edges) ∙ length-numbers 0 (length edges) in omega arith)
