@@ -1,23 +1,9 @@
 -- The digits of a byte, by trying each byte.
-use Rattle.std.specs.Prelude.{◌≡◌, ℕ, zero, suc, ◌+◌, ◌-◌, ◌*◌, ◌/◌, ◌%◌, ◌^◌, ◌<◌, Bool, true, false, nat_eq, nat_lt, ◌&&◌, not, bit_and, bit_or, slice_index, refl}
-use Rattle.std.proofs.Common.{arith, sym, inl, inr}
-use Rattle.std.proofs.lemmas.Bool.{cases_eq, eqb-true, ltb-true, and_parts}
+use Rattle.std.specs.Prelude.{◌≡◌, ℕ, ◌+◌, ◌-◌, ◌*◌, ◌/◌, ◌%◌, ◌^◌, ◌<◌, Bool, true, false, nat_eq, nat_lt, not, bit_and, bit_or, slice_index, refl}
+use Rattle.std.proofs.Common.{sym}
+use Rattle.std.proofs.lemmas.Bool.{eqb-true, ltb-true}
 use Rattle.cm_bits.specs.declared.packings.TheConstants.{DIGITS}
-
--- whether each number below n passes a test
-unfoldable pub all_below : (ℕ → Bool) → ℕ → Bool
-all_below f zero = true
-all_below f (suc n) = f n && all_below f n
-
-pub passes : (f : ℕ → Bool) (n k : ℕ) → all_below f n ≡ true → k < n → f k ≡ true
-unfolding all_below
-passes f zero k e l = absurd (omega arith)
-passes f (suc n) k e l =
-    let both = and_parts (f n) (all_below f n) e in
-    elim (cases_eq k n) [
-      | inl h ↦ rw h both.0
-      | inr h ↦ passes f n k both.1 (omega arith)
-    ]
+use Rattle.cm_bits.specs.ByteLaws.{all_below, passes}
 
 passes_both : (f : ℕ → ℕ → Bool) (m n j k : ℕ) → all_below (λ a. all_below (f a) n) m ≡ true → j < m → k < n → f j k ≡ true
 passes_both f m n j k e l h = passes (f j) n k (passes (λ a. all_below (f a) n) m j e l) h

@@ -8,8 +8,8 @@ use Rattle.std.proofs.lemmas.Bool.{leb-false}
 use Rattle.std.proofs.lemmas.List.Sums.{fails_before_first}
 use Rattle.cm_spec.specs.Image.{digits_sum}
 use Rattle.cm_bits.specs.Fault.{bytes_number}
-use Rattle.cm_bits.specs.DigitsLaws.{digits_sum-same, digits_above, digit_lowest, pow_add, pow_pow}
-use Rattle.cm_bits.proofs.DigitsLemmas.{digits_sum-append, digits_sum-zero}
+use Rattle.cm_bits.specs.DigitsLaws.{digits_sum-same, digits_above, digit_lowest, pow_add, pow_pow, digits_sum-append}
+use Rattle.cm_bits.proofs.DigitsLemmas.{digits_sum-zero}
 
 -- zeros below are a factor
 zeros_below : (bytes : List ℕ) (zeros : ℕ) → zeros ≤ length bytes → ((k : ℕ) → k < zeros → slice_index bytes k ≡ 0) → bytes_number bytes ≡ 256 ^ zeros * digits_sum 256 (λ k. slice_index bytes (zeros + k)) (length bytes - zeros)

@@ -3,7 +3,7 @@ use Rattle.std.specs.Prelude.{◌≡◌, ◌≢◌, ℕ, zero, suc, ◌+◌, ◌
 use Rattle.std.proofs.Common.{arith, sym, inl, inr}
 use Rattle.std.proofs.lemmas.Bool.{cases_eq}
 use Rattle.cm_spec.specs.Image.{digits_sum}
-use Rattle.cm_bits.specs.DigitsLaws.{digits_sum-same, pow_add}
+use Rattle.cm_bits.specs.DigitsLaws.{digits_sum-same}
 
 -- one digit changed
 pub digits_sum-change : (d : ℕ) (f g : ℕ → ℕ) (n k : ℕ) → k < n → ((i : ℕ) → i < n → i ≢ k → g i ≡ f i) → digits_sum d g n + f k * d ^ k ≡ digits_sum d f n + g k * d ^ k
@@ -22,11 +22,3 @@ pub digits_sum-zero : (d p : ℕ) → digits_sum d (λ _. 0) p ≡ 0
 unfolding digits_sum
 digits_sum-zero d zero = refl
 digits_sum-zero d (suc p) = omega (arith, digits_sum-zero d p)
-
--- more digits above
-pub digits_sum-append : (b : ℕ) (f : ℕ → ℕ) (n m : ℕ) → digits_sum b f (n + m) ≡ digits_sum b f n + digits_sum b (λ i. f (n + i)) m * b ^ n
-unfolding digits_sum
-digits_sum-append b f n zero = let e : n + 0 ≡ n = omega arith in rw e (omega arith)
-digits_sum-append b f n (suc m) =
-    let e : n + suc m ≡ suc (n + m) = omega arith in
-    rw (e, pow_add b n m) (omega (arith, digits_sum-append b f n m))

@@ -16,8 +16,8 @@ use Rattle.cm_bits.specs.Fault.{bytes_number, field_cells, fields_fault}
 use Rattle.cm_bits.specs.Held.{IsFields}
 use Rattle.cm_bits.specs.DigitsLaws.{digits_sum-same, digits_sum-lt, digit-digits_sum, digits_sum-short, pow_add, pow_pow}
 use Rattle.cm_bits.specs.FieldsLaws.{length-field_cells, field_cells-at}
-use Rattle.cm_bits.specs.FaultLaws.{no_fault}
-use Rattle.cm_bits.proofs.FaultLemmas.{cell_fault, padding_fault, sound_fault, found, not_found, finds, finds_none}
+use Rattle.cm_bits.specs.FaultLaws.{no_fault, cell_fault, padding_fault, sound_fault}
+use Rattle.cm_bits.proofs.FaultLemmas.{found, not_found, finds, finds_none}
 use Rattle.cm_bits.proofs.FieldsLemmas.{fields_number-field_cells}
 use Rattle.cm_bits.proofs.PackedLemmas.{cell_of_zeros}
 

@@ -4,12 +4,12 @@ use Rattle.std.proofs.Common.{arith, ap, sym, ◌∙◌, inl, inr}
 use Rattle.std.proofs.Math.Nat.{div-add-mod, mul-le-mul_left, mod-le, div-mul-le_self}
 use Rattle.std.proofs.lemmas.Nat.{mod_below, div-mul-add}
 use Rattle.std.proofs.lemmas.Bool.{cases_eq, cases_lt}
-use Rattle.std.proofs.lemmas.List.{ext_get_or, get_or_past, length-set, get_or-set_same, get_or-set_other, get_or-replicate, length-replicate}
+use Rattle.std.proofs.lemmas.List.{get_or_past, length-set, get_or-set_same, get_or-set_other, get_or-replicate, length-replicate}
 use Rattle.cm_spec.specs.Image.{packed_len, packed_byte}
 use Rattle.cm_bits.specs.Bound.{AllBelow}
 use Rattle.cm_bits.specs.Held.{packed_cells, IsImageOf, IsPacked}
 use Rattle.cm_bits.specs.DigitsLaws.{digits_sum-same}
-use Rattle.cm_bits.specs.PackedLaws.{zero_lt, length-packed_cells, packed_cells-at, AllBelow-packed_cells, place_lt, cell_is_digit, packed_byte-lt}
+use Rattle.cm_bits.specs.PackedLaws.{zero_lt, length-packed_cells, packed_cells-at, AllBelow-packed_cells, place_lt, packed_byte-lt, held}
 use Rattle.cm_bits.proofs.DigitsLemmas.{digits_sum-change, digits_sum-zero}
 
 pub AllBelow-set : (d : ℕ) (xs : List ℕ) (i v : ℕ) → v < d → AllBelow d xs → AllBelow d (set xs i v)
@@ -48,16 +48,6 @@ image_of d p n bs w = record { len = w.len ∙ ap (packed_len p) (sym (length-pa
 
 packed_of : (d p n : ℕ) (xs bs : List ℕ) → length xs ≡ n → packed_cells d p n bs ≡ xs → IsImageOf d p xs bs → IsPacked d p n bs
 packed_of d p n xs bs e c w = record { len = w.len ∙ ap (packed_len p) e; image = λ q l. rw c (w.image q l) }
-
--- bytes that are the image of cells hold these
-pub held : (d p n : ℕ) (xs bs : List ℕ) → 0 < d → 0 < p → length xs ≡ n → AllBelow d xs → IsImageOf d p xs bs → packed_cells d p n bs ≡ xs
-held d p n xs bs h q e b w =
-    ext_get_or 0 _ xs (length-packed_cells d p n bs ∙ sym e) (λ k l.
-    let within : k < n = omega (arith, length-packed_cells d p n bs) in
-    let there : k / p < length bs = omega (arith, w.len, place_lt p (length xs) k q (omega arith)) in
-    packed_cells-at d p n bs k within
-    ∙ ap (λ x. x / d ^ (k % p) % d) (w.image (k / p) there)
-    ∙ cell_is_digit d p xs k h q b)
 
 -- a cell is written by its byte
 pub IsImageOf-set : (d p : ℕ) (xs bs : List ℕ) (i v b : ℕ) → i < length xs → b ≡ packed_byte d p (set xs i v) (i / p) → IsImageOf d p xs bs → IsImageOf d p (set xs i v) (set bs (i / p) b)

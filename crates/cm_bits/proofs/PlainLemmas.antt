@@ -11,7 +11,7 @@ use Rattle.cm_bits.specs.Bound.{AllBelow}
 use Rattle.cm_bits.specs.declared.fault.ImageFault.TheVariants.{BadCell}
 use Rattle.cm_bits.specs.Fault.{plain_cell, plain_fault}
 use Rattle.cm_bits.specs.DigitsLaws.{digit-digits_sum}
-use Rattle.cm_bits.proofs.FaultLemmas.{cell_fault}
+use Rattle.cm_bits.specs.FaultLaws.{cell_fault}
 
 pub plain_fault-at : (n bound i : ℕ) (bytes : List ℕ) → i < n → ((k : ℕ) → k < i → plain_cell bytes k < bound) → bound ≤ plain_cell bytes i → plain_fault n bound bytes ≡ Some (BadCell i)
 unfolding plain_fault

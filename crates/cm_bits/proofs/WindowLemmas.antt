@@ -11,8 +11,7 @@ use borrow.Rule.Slice.PartMut.{put_mid}
 use Rattle.cm_spec.specs.Image.{digits_sum}
 use Rattle.cm_bits.specs.Fault.{bytes_number}
 use Rattle.cm_bits.specs.Held.{PutsWindow, window_at}
-use Rattle.cm_bits.specs.DigitsLaws.{digits_sum-same, digits_sum-lt, digits_sum-digits, digits_above, digit_lowest, pow_add}
-use Rattle.cm_bits.proofs.DigitsLemmas.{digits_sum-append}
+use Rattle.cm_bits.specs.DigitsLaws.{digits_sum-same, digits_sum-lt, digits_sum-digits, digits_above, digit_lowest, pow_add, digits_sum-append}
 
 -- the digits below a place, the eight from there on, and those above
 parts : (b : ℕ) (f : ℕ → ℕ) (n at : ℕ) → at + 8 ≤ n → digits_sum b f n ≡ digits_sum b f at + b ^ at * (digits_sum b (λ k. f (at + k)) 8 + b ^ 8 * digits_sum b (λ k. f (at + 8 + k)) (n - (at + 8)))

@@ -1,4 +1,4 @@
--- Laws of numbers by their digits in a base, the lowest first.
+-- Laws of numbers by their digits in a base, the lowest first. They are proved here, and no contract needs them.
 use Rattle.std.specs.Prelude.{◌≡◌, ℕ, zero, suc, ◌+◌, ◌*◌, ◌/◌, ◌%◌, ◌^◌, ◌<◌, ◌≤◌, refl}
 use Rattle.std.proofs.Common.{arith, ap, sym, ◌∙◌, inl, inr}
 use Rattle.std.proofs.Math.Nat.{pow-zero, pow-suc, pow-succ', div-one, div-div-eq-div-mul, mul-add-div, mul-add-mod_self_left, mod-eq_of_lt, div-eq_of_lt, div-add-mod, mul-le-mul_left}
@@ -97,3 +97,11 @@ pow_pow b m zero = let none : m * 0 ≡ 0 = omega arith in rw (none, pow-zero b,
 pow_pow b m (suc k) =
     let more : m * suc k ≡ m * k + m = omega arith in
     rw (more, pow_add b (m * k) m, pow-suc (b ^ m) k) (ap (λ s. s * b ^ m) (pow_pow b m k))
+
+-- more digits above
+pub digits_sum-append : (b : ℕ) (f : ℕ → ℕ) (n m : ℕ) → digits_sum b f (n + m) ≡ digits_sum b f n + digits_sum b (λ i. f (n + i)) m * b ^ n
+unfolding digits_sum
+digits_sum-append b f n zero = let e : n + 0 ≡ n = omega arith in rw e (omega arith)
+digits_sum-append b f n (suc m) =
+    let e : n + suc m ≡ suc (n + m) = omega arith in
+    rw (e, pow_add b n m) (omega (arith, digits_sum-append b f n m))

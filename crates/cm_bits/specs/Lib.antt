@@ -1,4 +1,5 @@
 pub mod Bound
+pub mod ByteLaws
 pub mod DigitsLaws
 pub mod Fault
 pub mod FaultLaws

@@ -3,7 +3,7 @@ use Rattle.std.proofs.Common.{◌≡◌, ◌∙◌, ℕ, ◌-◌, ◌*◌, ◌/�
 use Rattle.std.proofs.Math.Nat.{mul-le-mul_left, div-le_self}
 use Rattle.std.proofs.lemmas.List.FromFn.{length-map-range_with_len, get_or-map-range_with_len}
 use Rattle.cm_bdz.specs.BdzLaws as bdz_laws
-use Rattle.cm_bits.proofs.PackedLemmas.{held}
+use Rattle.cm_bits.specs.PackedLaws.{held}
 use Rattle.cm_bits.specs.Bound.{AllBelow}
 use Rattle.cm_bits.specs.Fault.{bytes_number, field_cells, fields_fault, packed_fault}
 use Rattle.cm_bits.specs.FieldsLaws.{width-fits, bytes_number-image, field_cells-fields_number}

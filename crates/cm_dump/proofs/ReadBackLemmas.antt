@@ -12,13 +12,12 @@ use Rattle.std.proofs.lemmas.List.FromFn.{length-map-range_with_len, get_or-map-
 use Rattle.std.proofs.lemmas.List.Sums.{fails_before_first}
 use Rattle.std.proofs.lemmas.Nat.{le_bytes_4, pow_pos}
 use Rattle.cm_bdz.specs.Functions.{Bdz, BdzPh}
-use Rattle.cm_bits.proofs.PackedFaultLemmas.{IsPacked-sound, image-list}
 use Rattle.cm_bits.specs.Bound.{AllBelow}
 use Rattle.cm_bits.specs.DigitsLaws.{pow_pow, digits_sum-same, digits_sum-digits, digit-digits_sum}
 use Rattle.cm_bits.specs.Fault.{bytes_number, field_cells, fields_fault, packed_fault}
 use Rattle.cm_bits.specs.FieldsLaws.{length-field_cells, field_cells-at}
 use Rattle.cm_bits.specs.Held.{packed_cells}
-use Rattle.cm_bits.specs.PackedLaws.{AllBelow-packed_cells, length-packed_cells}
+use Rattle.cm_bits.specs.PackedLaws.{AllBelow-packed_cells, length-packed_cells, IsPacked-sound, image-list}
 use Rattle.cm_bits.specs.declared.fault.ImageFault.{ImageFault}
 use Rattle.cm_outer.specs.declared.key_pass.TheConstants.{MAX_KEYS}
 use Rattle.cm_rank.specs.Ranks.{sampled}

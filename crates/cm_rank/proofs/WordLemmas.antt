@@ -5,10 +5,9 @@ use Rattle.std.proofs.lemmas.Bool.{cases_lt, eqb-true}
 use Rattle.std.proofs.lemmas.Nat.{and_block, and_le_r, and_mask, and_mod, and_shr, mod_below, ones-le, ones_cat, pow_pos, shr-shr, shr_split}
 use Rattle.std.proofs.lemmas.List.FromFn.{fill_by_all, get_or-map-range_with_len, length-map-range_with_len, sum_by-map-range_with_len_more}
 use Rattle.std.specs.Int.Count.{ones}
-use Rattle.cm_bits.proofs.ByteLemmas.{all_below, passes}
-use Rattle.cm_bits.proofs.DigitsLemmas.{digits_sum-append}
+use Rattle.cm_bits.specs.ByteLaws.{all_below, passes}
 use Rattle.cm_bits.specs.Bound.{AllBelow}
-use Rattle.cm_bits.specs.DigitsLaws.{digit-digits_sum, digits_sum-lt, digits_sum-same, pow_pow}
+use Rattle.cm_bits.specs.DigitsLaws.{digit-digits_sum, digits_sum-lt, digits_sum-same, pow_pow, digits_sum-append}
 use Rattle.cm_bits.specs.Held.{window_at}
 use Rattle.cm_bits.specs.PackedLaws.{cell_lt, le-packed_len}
 use Rattle.cm_rank.proofs.RankLemmas.{rank_run}

@@ -1,5 +1,4 @@
-use Rattle.cm_bits.specs.PackedLaws.{length-packed_cells}
-use Rattle.cm_bits.proofs.PackedFaultLemmas.{image-list}
+use Rattle.cm_bits.specs.PackedLaws.{length-packed_cells, image-list}
 use Rattle.cm_bits.proofs.packed.Packed.image.Goals as goal
 
 pub returns : goal.returns

@@ -1,6 +1,5 @@
 use Rattle.std.proofs.Common.{sym}
-use Rattle.cm_bits.specs.PackedLaws.{length-packed_cells, zero_lt}
-use Rattle.cm_bits.proofs.PackedFaultLemmas.{IsPacked-sound, image-list}
+use Rattle.cm_bits.specs.PackedLaws.{length-packed_cells, zero_lt, IsPacked-sound, image-list}
 use Rattle.cm_bits.proofs.packed.PackedCells.from_image.Goals as goal
 
 pub invariant_of-result-clause-is_packed : goal.invariant_of-result-clause-is_packed
