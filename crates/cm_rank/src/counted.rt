@@ -1,29 +1,37 @@
 //! Counts of the cells between two places that are not idle.
-ghost use Rattle.std.specs.Prelude.{◌≡◌, ◌+◌, ◌%◌, ◌≤◌, true, length};
+ghost use Rattle.std.specs.Prelude.{◌≡◌, ◌+◌, ◌%◌, ◌≤◌, ◌↔◌, IsTrue, length};
 ghost use Rattle.cm_rank.specs.Ranks.{rank_of};
 
 use crate::words::{busy_crumbs, busy_crumbs_near};
-use cm_bits::{Bits, Cells, Crumbs, Plain};
+use cm_bits::{Bits, Cells, Crumbs, Fields, Plain, Trits};
 
 /// A table whose cells that are not idle can be counted from any place to another.
+///
+/// Any table of cells can: an empty `impl` counts cell by cell.
 pub trait Counted: Cells {
     /// How many of the cells from `from` on and before `until` are not idle. Cells are counted from 0.
     fn count_busy(&self, idle: u32, from: u32, until: u32) -> u32
         requires order { from ≤ until }
         requires inside { until ≤ length (Self.cells self.now) }
-        ensures busy { rank_of idle (Self.cells self.now) from + result ≡ rank_of idle (Self.cells self.now) until };
+        ensures busy { rank_of idle (Self.cells self.now) from + result ≡ rank_of idle (Self.cells self.now) until }
+    {
+        count_each(self, idle, from, until)
+    }
 
     /// The same of at most 128 cells. All of the 128 cells from `from` on may be looked at.
     fn count_near(&self, idle: u32, from: u32, until: u32) -> u32
         requires order { from ≤ until }
         requires near { until ≤ from + 128 }
         requires inside { until ≤ length (Self.cells self.now) }
-        ensures busy { rank_of idle (Self.cells self.now) from + result ≡ rank_of idle (Self.cells self.now) until };
+        ensures busy { rank_of idle (Self.cells self.now) from + result ≡ rank_of idle (Self.cells self.now) until }
+    {
+        count_each(self, idle, from, until)
+    }
 }
 
 // Whether crumbs are counted by words: where the value of an idle one is 3 and the first one begins a byte.
 fn is_by_words(idle: u32, from: u32) -> bool
-    ensures { result ≡ true → (idle ≡ 3) × (from % 4 ≡ 0) }
+    ensures { IsTrue result ↔ ((idle ≡ 3) × (from % 4 ≡ 0)) }
 {
     idle == 3 && from % 4 == 0
 }
@@ -47,25 +55,13 @@ impl Counted for Crumbs {
     }
 }
 
-impl Counted for Bits {
-    fn count_busy(&self, idle: u32, from: u32, until: u32) -> u32 {
-        count_each(self, idle, from, until)
-    }
+impl Counted for Bits {}
 
-    fn count_near(&self, idle: u32, from: u32, until: u32) -> u32 {
-        count_each(self, idle, from, until)
-    }
-}
+impl Counted for Trits {}
 
-impl Counted for Plain {
-    fn count_busy(&self, idle: u32, from: u32, until: u32) -> u32 {
-        count_each(self, idle, from, until)
-    }
+impl Counted for Fields {}
 
-    fn count_near(&self, idle: u32, from: u32, until: u32) -> u32 {
-        count_each(self, idle, from, until)
-    }
-}
+impl Counted for Plain {}
 
 // The same count, cell by cell.
 pub fn count_each<C: Cells>(cells: &C, idle: u32, from: u32, until: u32) -> u32
