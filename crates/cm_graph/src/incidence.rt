@@ -1,7 +1,7 @@
 //! The map of linked edges.
 ghost use Rattle.std.specs.Prelude.{◌≡◌, ◌<◌, ◌≤◌, ◌+◌, IfOk, None, replicate};
 ghost use Rattle.cm_spec.specs.Graph.{IsEdge};
-ghost use Rattle.cm_graph.specs.Graph.{Links, IsLinked, IsFree, linked, unlinked, degree_of, sole_of};
+ghost use Rattle.cm_graph.specs.Graph.{Links, IsLinked, IsFree, IsWidth, linked, unlinked, degree_of, sole_of};
 
 use crate::steps::Steps;
 use std::alloc::{AllocError, Global};
@@ -12,8 +12,9 @@ pub trait Incidence<const K: usize>: Sized {
     /// The number of vertices, and the ends of each linked edge by its number, however they are kept.
     ghost links: { Self → Links };
 
-    /// No edge linked, over `vertices` vertices, with edge numbers below `edges`.
+    /// No edge linked, over `vertices` vertices, with edge numbers below `edges`. Refused only for want of memory.
     fn empty(alloc: Global, vertices: u32, edges: u32) -> Result<Self, AllocError>
+        requires width { IsWidth K }
         requires vertices { vertices ≤ 671088645 }
         requires edges { edges ≤ 67108864 }
         ensures { IfOk result (λ made. links made ≡ record { vertices = vertices; slots = replicate edges None }) };

@@ -11,9 +11,6 @@ use std::alloc::{AllocError, Global};
 use std::marker::Model;
 use std::sync::ledger::Ledger;
 
-/// How many ends an edge has at most, so that each place fits 32 bits.
-const MOST: usize = 63;
-
 /// How many places of linked edges a vertex has, and the first of its chain.
 #[derive(Clone, Copy)]
 struct Chain {
@@ -23,7 +20,7 @@ struct Chain {
 
 /// A chain for each vertex, 8 bytes, and 4 bytes for each place: position `j` of the edge `e` is the place `e * K + j`,
 /// and `next` has what follows it in the chain of the vertex there. To unlink an edge takes a walk along the chain of
-/// each end, which no step counts. `empty` refuses edges of more than 63 ends, as if memory were wanting.
+/// each end, which no step counts.
 #[derive(Drop)]
 pub struct Linked<const K: usize> {
     chains: Vec<Chain>,
@@ -119,9 +116,6 @@ impl<const K: usize> Incidence<K> for Linked<K> {
     ghost links = { λ x. x };
 
     fn empty(alloc: Global, vertices: u32, edges: u32) -> Result<Self, AllocError> {
-        if K > MOST {
-            return Err(AllocError);
-        }
         let none = Chain {
             degree: 0,
             first: 0,
