@@ -1,3 +1,4 @@
 pub mod BdzLaws
 pub mod Functions
 pub mod Numbering
+pub mod Places

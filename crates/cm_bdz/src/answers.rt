@@ -1,13 +1,13 @@
 //! What functions by BDZ and BDZ_PH answer.
 ghost use Rattle.std.specs.Prelude.{ℕ, List, Option, Some, length};
 ghost use Rattle.cm_bdz.specs.Functions.{bdz_answer, bdz_ph_answer};
-ghost use Rattle.cm_spec.specs.Bdz.{bdz_edge};
+ghost use Rattle.cm_bdz.specs.Places.{bdz_place};
 ghost use Rattle.cm_spec.specs.Lookup2 as lookup2;
 
 use crate::bdz::Bdz;
 use crate::bdz_ph::BdzPh;
 use crate::choice::chosen_among;
-use crate::scheme::triple;
+use crate::scheme::place_in;
 use cm_bits::Cells;
 use cm_lookup2::words;
 use cm_scheme::{Answers, Place};
@@ -17,7 +17,7 @@ use cm_scheme::{Answers, Place};
 impl Answers for Bdz {
     ghost span_of = { λ f. f.keys };
 
-    ghost place_of = { λ f key. bdz_edge (lookup2.words key f.seed) (length f.cells) };
+    ghost place_of = { λ f key. bdz_place (lookup2.words key f.seed) (length f.cells) };
 
     ghost answer_of = { λ f key. bdz_answer f key };
 
@@ -26,7 +26,7 @@ impl Answers for Bdz {
     }
 
     fn place(&self, key: &[u8]) -> Place {
-        triple(words(key, self.seed()), self.third())
+        place_in(words(key, self.seed()), self.third())
     }
 
     fn answer_at(&self, place: &Place) -> Option<u32> {
@@ -44,7 +44,7 @@ impl Answers for Bdz {
 impl Answers for BdzPh {
     ghost span_of = { λ f. length f.cells };
 
-    ghost place_of = { λ f key. bdz_edge (lookup2.words key f.seed) (length f.cells) };
+    ghost place_of = { λ f key. bdz_place (lookup2.words key f.seed) (length f.cells) };
 
     ghost answer_of = { λ f key. Some (bdz_ph_answer f key) };
 
@@ -53,7 +53,7 @@ impl Answers for BdzPh {
     }
 
     fn place(&self, key: &[u8]) -> Place {
-        triple(words(key, self.seed()), self.third())
+        place_in(words(key, self.seed()), self.third())
     }
 
     fn answer_at(&self, place: &Place) -> Option<u32> {

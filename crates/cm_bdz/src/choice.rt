@@ -1,33 +1,34 @@
 //! The vertex that cells choose for a key.
 ghost use Rattle.std.specs.Prelude.{◌≡◌, ℕ, ◌*◌, ◌<◌, ◌≤◌, List, length};
 ghost use Rattle.cm_bdz.specs.Functions.{IsThirds, chosen_end, chosen_of};
+ghost use Rattle.cm_bdz.specs.Places.{bdz_place};
 ghost use Rattle.cm_spec.specs.Bdz.{bdz_edge};
 ghost use Rattle.cm_spec.specs.Lookup2 as lookup2;
 
-use crate::scheme::triple;
+use crate::scheme::place_in;
 use cm_bits::Cells;
 use cm_lookup2::words;
-use cm_scheme::Divisor;
+use cm_scheme::{Divisor, Place};
 
-/// The three ends of a key. The number of cells is three times a number above 0.
-fn ends_of<C: Cells>(cells: &C, key: &[u8], seed: u32) -> [u32; 3]
+/// Where a key is looked for. The number of cells is three times a number above 0.
+fn place_of<C: Cells>(cells: &C, key: &[u8], seed: u32) -> Place
     requires size { IsThirds (length (C.cells cells.now)) }
-    ensures ends { result ≡ bdz_edge (lookup2.words key.now seed) (length (C.cells cells.now)) }
+    ensures place { result ≡ bdz_place (lookup2.words key.now seed) (length (C.cells cells.now)) }
 {
-    triple(words(key, seed), &Divisor::new(cells.len() / 3))
+    place_in(words(key, seed), &Divisor::new(cells.len() / 3))
 }
 
-/// Of three ends the one at the position that their cells add up to, modulo 3. The number of cells is three times a number above
-/// 0, and cells are below 4 or less.
-pub(crate) fn chosen_among<C: Cells>(cells: &C, ends: &[u32; 3]) -> u32
+/// Of the three ends of a place the one at the position that their cells add up to, modulo 3. The number of cells is three times
+/// a number above 0, and cells are below 4 or less.
+pub(crate) fn chosen_among<C: Cells>(cells: &C, place: &Place) -> u32
     requires size { IsThirds (length (C.cells cells.now)) }
     requires bound { C.bound_of cells.now ≤ 4 }
-    requires ends { (words : List ℕ) × (ends.now ≡ bdz_edge words (length (C.cells cells.now))) }
-    ensures chosen { result ≡ chosen_end (C.cells cells.now) ends.now }
+    requires place { (words : List ℕ) × (place.now ≡ bdz_place words (length (C.cells cells.now))) }
+    ensures chosen { (words : List ℕ) → place.now ≡ bdz_place words (length (C.cells cells.now)) → result ≡ chosen_end (C.cells cells.now) (bdz_edge words (length (C.cells cells.now))) }
     ensures inside { result < length (C.cells cells.now) }
 {
-    let sum = cells.get(ends[0]) + cells.get(ends[1]) + cells.get(ends[2]);
-    ends[(sum % 3) as usize]
+    let sum = cells.get(place[0]) + cells.get(place[1]) + cells.get(place[2]);
+    place[(sum % 3) as usize]
 }
 
 /// The vertex of a key. The number of cells is three times a number above 0, and cells are below 4 or less.
@@ -37,6 +38,5 @@ pub fn chosen<C: Cells>(cells: &C, key: &[u8], seed: u32) -> u32
     ensures chosen { result ≡ chosen_of (C.cells cells.now) key.now seed }
     ensures inside { result < length (C.cells cells.now) }
 {
-    let ends = ends_of(cells, key, seed);
-    chosen_among(cells, &ends)
+    chosen_among(cells, &place_of(cells, key, seed))
 }

@@ -1,11 +1,14 @@
 //! BDZ and BDZ_PH as schemes.
 ghost use Rattle.std.specs.Prelude.{◌≡◌, ℕ, ◌+◌, ◌-◌, ◌*◌, ◌/◌, ◌%◌, ◌^◌, ◌<◌, ◌≤◌, false, refl, List, length};
+ghost use Rattle.cm_algorithm.specs.declared.algorithm.Algorithm.TheVariants as algorithm;
 ghost use Rattle.cm_bdz.specs.BdzLaws.{bdz_is_rule, bdz_ph_is_rule};
+ghost use Rattle.cm_bdz.specs.Places.{bdz_place};
 ghost use Rattle.cm_spec.specs.Bdz.{bdz_edge, bdz_rule, bdz_ph_rule, bdz_size};
 ghost use Rattle.cm_spec.specs.Rule.{IsCount, IsRatio, IsSize};
 
+use cm_algorithm::Algorithm;
 use cm_bits::{Crumbs, Trits};
-use cm_scheme::{Divisor, Scheme};
+use cm_scheme::{Divisor, Place, Scheme};
 
 /// The number of vertices for `m` keys and the ratio `c` in millionths: three thirds, each an odd number of at least 3 for one
 /// that would be 1.
@@ -21,7 +24,7 @@ fn vertices(m: u32, c: u32) -> u32
 }
 
 /// The ends for the words of a key over three thirds of the vertices, which have as many as this number: one in each.
-pub(crate) fn triple(words: [u32; 3], third: &Divisor) -> [u32; 3]
+fn triple(words: [u32; 3], third: &Divisor) -> [u32; 3]
     requires room { 3 * third.now < 2 ^ 32 }
     ensures edge { result ≡ bdz_edge words (3 * third.now) }
 {
@@ -31,6 +34,15 @@ pub(crate) fn triple(words: [u32; 3], third: &Divisor) -> [u32; 3]
         n + third.rem(words[1]),
         2 * n + third.rem(words[2]),
     ]
+}
+
+/// Where a function over three thirds of the vertices, which have as many as this number, looks for a key of these words.
+pub(crate) fn place_in(words: [u32; 3], third: &Divisor) -> Place
+    requires room { 3 * third.now < 2 ^ 32 }
+    ensures place { result ≡ bdz_place words (3 * third.now) }
+{
+    let ends = triple(words, third);
+    [ends[0], ends[1], ends[2], 0]
 }
 
 /// Edges of three ends, and cells of two bits, in which 3 is an untouched one. The others add up to the position of the key's
@@ -45,15 +57,23 @@ impl Scheme<3> for BdzScheme {
 
     ghost divisor_of = { λ _ n. n / 3 };
 
+    ghost algorithm_of = { λ _. algorithm.Bdz };
+
     ghost KEEPS_TAGS = { false };
 
     ghost laws = { λ _. bdz_is_rule };
+
+    ghost ends = { λ _. refl };
 
     ghost untagged = { λ _ _ _. refl };
 
     ghost bound_fits = { λ _ m many. refl };
 
     const KEEPS_TAGS: bool = false;
+
+    fn algorithm(&self) -> Algorithm {
+        Algorithm::Bdz
+    }
 
     fn size(&self, m: u32, c: u32) -> u32 {
         vertices(m, c)
@@ -99,15 +119,23 @@ impl Scheme<3> for BdzPhScheme {
 
     ghost divisor_of = { λ _ n. n / 3 };
 
+    ghost algorithm_of = { λ _. algorithm.BdzPh };
+
     ghost KEEPS_TAGS = { false };
 
     ghost laws = { λ _. bdz_ph_is_rule };
+
+    ghost ends = { λ _. refl };
 
     ghost untagged = { λ _ _ _. refl };
 
     ghost bound_fits = { λ _ m many. refl };
 
     const KEEPS_TAGS: bool = false;
+
+    fn algorithm(&self) -> Algorithm {
+        Algorithm::BdzPh
+    }
 
     fn size(&self, m: u32, c: u32) -> u32 {
         vertices(m, c)

@@ -24,7 +24,7 @@ impl Answers for Chm {
     fn place(&self, key: &[u8]) -> Place {
         let n = self.cells().len();
         let ends = ChmScheme {}.edge(words(key, self.seed()), n, self.by_vertices());
-        [ends[0], ends[1], 0]
+        [ends[0], ends[1], 0, 0]
     }
 
     fn answer_at(&self, place: &Place) -> Option<u32> {

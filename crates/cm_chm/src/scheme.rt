@@ -1,8 +1,10 @@
 //! CHM as a scheme.
 ghost use Rattle.std.specs.Prelude.{◌≡◌, ℕ, ◌+◌, ◌-◌, ◌*◌, ◌/◌, ◌%◌, ◌^◌, ◌<◌, ◌≤◌, false, refl, List, length};
+ghost use Rattle.cm_algorithm.specs.declared.algorithm.Algorithm.TheVariants as algorithm;
 ghost use Rattle.cm_spec.specs.Chm.{chm_rule};
 ghost use Rattle.cm_chm.specs.ChmLaws.{chm_is_rule};
 
+use cm_algorithm::Algorithm;
 use cm_bits::Fields;
 use cm_scheme::{Divisor, Scheme};
 
@@ -25,15 +27,23 @@ impl Scheme<2> for ChmScheme {
 
     ghost divisor_of = { λ _ n. n };
 
+    ghost algorithm_of = { λ _. algorithm.Chm };
+
     ghost KEEPS_TAGS = { false };
 
     ghost laws = { λ _. chm_is_rule };
+
+    ghost ends = { λ _. refl };
 
     ghost untagged = { λ _ _ _. refl };
 
     ghost bound_fits = { λ _ m many. many };
 
     const KEEPS_TAGS: bool = false;
+
+    fn algorithm(&self) -> Algorithm {
+        Algorithm::Chm
+    }
 
     fn size(&self, m: u32, c: u32) -> u32 {
         let n = (c as u64 * m as u64).div_ceil(1_000_000);

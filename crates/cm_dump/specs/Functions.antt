@@ -1,10 +1,11 @@
 -- What each function keeps, and what it answers.
 use Rattle.std.specs.Prelude.{◌≡◌, ◌<◌, ◌≤◌, ◌^◌, ℕ, List, length, count_by, Option, Some}
 use Rattle.cm_bdz.specs.Functions.{Bdz, BdzPh, bdz_answer, bdz_ph_answer}
+use Rattle.cm_bdz.specs.Places.{bdz_place}
 use Rattle.cm_bits.specs.Bound.{AllBelow}
 use Rattle.cm_outer.specs.declared.key_pass.TheConstants.{MAX_KEYS}
 use Rattle.cm_chm.specs.Places.{chm_place}
-use Rattle.cm_spec.specs.Bdz.{bdz_edge, bdz_size}
+use Rattle.cm_spec.specs.Bdz.{bdz_size}
 use Rattle.cm_spec.specs.Cells.{is_busy}
 use Rattle.cm_spec.specs.Chm.{Chm, chm_answer, chm_size}
 use Rattle.cm_spec.specs.Lookup2.{words}
@@ -51,11 +52,11 @@ span_by (func.Chm f) = f.keys
 span_by (func.Bdz f) = f.keys
 span_by (func.BdzPh f) = length f.cells
 
--- the vertices where a function looks for the bytes of a key
+-- where a function looks for the bytes of a key
 abbrev pub place_by : Func → List ℕ → List ℕ
 place_by (func.Chm f) key = chm_place f key
-place_by (func.Bdz f) key = bdz_edge (words key f.seed) (length f.cells)
-place_by (func.BdzPh f) key = bdz_edge (words key f.seed) (length f.cells)
+place_by (func.Bdz f) key = bdz_place (words key f.seed) (length f.cells)
+place_by (func.BdzPh f) key = bdz_place (words key f.seed) (length f.cells)
 
 -- the answer of a function to the bytes of a key
 abbrev pub answer_by : Func → List ℕ → Option ℕ

@@ -15,7 +15,7 @@ impl Answers for Lengths {
 
     ghost span_of = { λ _. 4 };
 
-    ghost place_of = { λ _ key. (if nat_lt (length key) 4 then length key else 4) ∷ 0 ∷ 0 ∷ [] };
+    ghost place_of = { λ _ key. (if nat_lt (length key) 4 then length key else 4) ∷ 0 ∷ 0 ∷ 0 ∷ [] };
 
     ghost answer_of = { λ _ key. (if nat_lt (length key) 4 then Some (length key) else None) };
 
@@ -25,9 +25,9 @@ impl Answers for Lengths {
 
     fn place(&self, key: &[u8]) -> Place {
         if key.len() < 4 {
-            [key.len() as u32, 0, 0]
+            [key.len() as u32, 0, 0, 0]
         } else {
-            [4, 0, 0]
+            [4, 0, 0, 0]
         }
     }
 

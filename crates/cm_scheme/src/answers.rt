@@ -3,8 +3,9 @@ ghost use Rattle.std.specs.Prelude.{◌≡◌, ◌<◌, ◌≤◌, ℕ, List, Op
 
 use cm_bits::MAX_CELLS;
 
-/// The vertices where a function looks for the number of a key, counted from 0: two or three, and 0 in what is over.
-pub type Place = [u32; 3];
+/// Where a function looks for the number of a key: the two or three vertices of the key's edge, counted from 0, and 0 in each
+/// further number.
+pub type Place = [u32; 4];
 
 /// A function from keys to numbers below its span, in two steps: from a key to its place, and from the place to the number. With
 /// the places of many keys taken first, the looks into cells wait side by side. No call takes memory.

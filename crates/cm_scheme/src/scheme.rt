@@ -1,8 +1,11 @@
 //! What a scheme is.
 ghost use Rattle.std.specs.Prelude.{◌≡◌, ℕ, ◌+◌, ◌-◌, ◌*◌, ◌/◌, ◌%◌, ◌^◌, ◌<◌, ◌≤◌, Bool, false, List, length};
+ghost use Rattle.cm_algorithm.specs.declared.algorithm.Algorithm.{Algorithm};
+ghost use Rattle.cm_scheme.specs.Kinds.{HasEnds};
 ghost use Rattle.cm_spec.specs.Rule.{Rule, IsRule, IsCount, IsRatio, IsSize};
 
 use crate::divisor::Divisor;
+use cm_algorithm::Algorithm;
 use cm_bits::Cells;
 
 /// An algorithm: from the words of a key to an edge with `K` ends, and from the number of a key to what its cells add up to.
@@ -16,10 +19,17 @@ pub trait Scheme<const K: usize> {
     /// What the ends over so many vertices are remainders by.
     ghost divisor_of: { Self → ℕ → ℕ };
 
+    /// The algorithm by its name.
+    ghost algorithm_of: { Self → Algorithm };
+
     ghost KEEPS_TAGS: { Bool };
 
     /// Whether a build keeps the tag of each key, 4 bytes a key. Where it keeps none, every tag is 0.
     const KEEPS_TAGS: bool;
+
+    /// The algorithm whose functions are built.
+    fn algorithm(&self) -> Algorithm
+        ensures algorithm { result ≡ algorithm_of self.now };
 
     /// The number of vertices for `m` keys and the ratio `c` in millionths.
     fn size(&self, m: u32, c: u32) -> u32
@@ -62,6 +72,9 @@ pub trait Scheme<const K: usize> {
 
     // The rule keeps its laws, and the table serves its bound.
     ghost laws: { (s : Self) → IsRule K (rule s) };
+
+    // Edges have as many ends as those of the algorithm.
+    ghost ends: { (s : Self) → HasEnds K (algorithm_of s) };
 
     ghost bound_fits: { (s : Self) (m : ℕ) → IsCount m → Self.Table.fits ((rule s).bound m) };
 
