@@ -1,3 +1,2 @@
-mod Pivots
-mod Ranking
 pub mod NumberingLemmas
+pub mod Ranking

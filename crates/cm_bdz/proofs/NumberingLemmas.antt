@@ -4,13 +4,12 @@ use Rattle.std.specs.Prelude.{slice_index}
 use Rattle.std.specs.List.{count_by, sum_by}
 use Rattle.std.proofs.lemmas.Bool.{ne_eqb}
 use Rattle.std.proofs.lemmas.List.{length-map, get_or-map}
-use Rattle.cm_scheme.proofs.Solving.{plan_solved}
-use Rattle.cm_bdz.proofs.Pivots.{pivot_within, pivots_apart}
 use Rattle.cm_bdz.proofs.Ranking.{rank_apart, rank_below}
 use Rattle.cm_bdz.specs.BdzLaws.{bdz_is_rule, bdz_ph_is_rule}
 use Rattle.cm_bdz.specs.Functions.{bdz_answer, bdz_ph_answer, chosen_end, chosen_of, ranked}
 use Rattle.cm_bdz.specs.Numbering.{AnswersApart, bdz_ph_under, bdz_under}
 use Rattle.cm_rank.specs.Ranks.{rank_of}
+use Rattle.cm_scheme.specs.Solvable.{CellsSolve}
 use Rattle.cm_spec.specs.Bdz.{bdz_edge, bdz_ph_rule, bdz_rule}
 use Rattle.cm_spec.specs.Built.{cells_under, edge_of, graph_of, tag_of, key_at}
 use Rattle.cm_spec.specs.Cells.{AreSolved, is_busy, pivot_vertex, plan_of}
@@ -34,13 +33,11 @@ bdz_ph_chooses = record { laws = bdz_ph_is_rule; edge = λ w n. refl; three = λ
 
 -- what is known of the cells of keys under a seed by which peeling removes every edge
 record Known (r : Rule) (keys : List (ℕ × List ℕ)) (c seed : ℕ) : Type 0 where
-  edges_are : AreEdges 3 (r.size (length keys) c) (graph_of r keys c seed)
   long : length (graph_of r keys c seed) ≡ length keys
-  none : rest_of (graph_of r keys c seed) ≡ []
   solved : AreSolved (plan_of r (r.size (length keys) c) (graph_of r keys c seed) (map (tag_of r seed) keys)) (cells_under r keys c seed)
 
-known : (r : Rule) (keys : List (ℕ × List ℕ)) (c seed : ℕ) → IsRule 3 r → IsCount (length keys) → IsRatio c → rest_of (graph_of r keys c seed) ≡ [] → Known r keys c seed
-known r keys c seed laws many ratio none =
+known : CellsSolve → (r : Rule) (keys : List (ℕ × List ℕ)) (c seed : ℕ) → IsRule 3 r → IsCount (length keys) → IsRatio c → rest_of (graph_of r keys c seed) ≡ [] → Known r keys c seed
+known solve r keys c seed laws many ratio none =
     let n = r.size (length keys) c in
     let edges = graph_of r keys c seed in
     let size : IsSize r n = record { keys = length keys; ratio = c; many = many; within = ratio; is = refl } in
@@ -48,7 +45,7 @@ known r keys c seed laws many ratio none =
     let are : AreEdges 3 n edges = λ i d within.
     let here : i < length keys = omega (arith, within, long) in
     subst (λ (ends : List ℕ). (length ends ≡ 3) × IsEdge n ends) (sym (get_or-map (edge_of r n seed) keys i (0, []) d here)) (laws.ends (words (key_at keys i) seed) n size) in
-    record { edges_are = are; long = long; none = none; solved = plan_solved 3 r n edges (map (tag_of r seed) keys) laws (subst IsCount (sym long) many) are none }
+    record { long = long; solved = solve 3 r n edges (map (tag_of r seed) keys) laws (subst IsCount (sym long) many) are none }
 
 -- the vertex that the cells choose for a key is the one at its edge's pivot
 chosen_is : (r : Rule) (keys : List (ℕ × List ℕ)) (c seed i : ℕ) → Chooses r → Known r keys c seed → i < length keys → chosen_of (cells_under r keys c seed) (key_at keys i) seed ≡ pivot_vertex (graph_of r keys c seed) i
@@ -65,20 +62,17 @@ chosen_is r keys c seed i rule k within =
 -- it is one of the vertices
 pivot_inside : (r : Rule) (keys : List (ℕ × List ℕ)) (c seed i : ℕ) → Known r keys c seed → i < length keys → pivot_vertex (graph_of r keys c seed) i < length (cells_under r keys c seed)
 pivot_inside r keys c seed i k within =
-    let edges = graph_of r keys c seed in
-    let inside : i < length edges = omega (arith, within, k.long) in
-    let removed = pivot_within edges k.none i inside in
-    let is : pivot_vertex edges i < r.size (length keys) c = (k.edges_are i [] inside).1.0 (pivot_of edges i) 0 removed.within in
-    omega (arith, is, k.solved.long)
+    let inside : i < length (graph_of r keys c seed) = omega (arith, within, k.long) in
+    omega (arith, k.solved.within i inside, k.solved.long)
 
 -- no two keys have the same
 chosen_apart : (r : Rule) (keys : List (ℕ × List ℕ)) (c seed i j : ℕ) → Chooses r → Known r keys c seed → i < length keys → j < length keys → chosen_of (cells_under r keys c seed) (key_at keys i) seed ≡ chosen_of (cells_under r keys c seed) (key_at keys j) seed → i ≡ j
 chosen_apart r keys c seed i j rule k within within' same =
-    pivots_apart (graph_of r keys c seed) k.none i j (omega (arith, within, k.long)) (omega (arith, within', k.long)) (sym (chosen_is r keys c seed i rule k within) ∙ (same ∙ chosen_is r keys c seed j rule k within'))
+    k.solved.apart i j (omega (arith, within, k.long)) (omega (arith, within', k.long)) (sym (chosen_is r keys c seed i rule k within) ∙ (same ∙ chosen_is r keys c seed j rule k within'))
 
-pub bdz_ph_apart : (keys : List (ℕ × List ℕ)) (c seed : ℕ) → IsCount (length keys) → IsRatio c → rest_of (graph_of bdz_ph_rule keys c seed) ≡ [] → AnswersApart keys (λ key. Some (bdz_ph_answer (bdz_ph_under keys c seed) key)) (length (cells_under bdz_ph_rule keys c seed))
-bdz_ph_apart keys c seed many ratio none =
-    let k = known bdz_ph_rule keys c seed bdz_ph_is_rule many ratio none in
+pub bdz_ph_apart : CellsSolve → (keys : List (ℕ × List ℕ)) (c seed : ℕ) → IsCount (length keys) → IsRatio c → rest_of (graph_of bdz_ph_rule keys c seed) ≡ [] → AnswersApart keys (λ key. Some (bdz_ph_answer (bdz_ph_under keys c seed) key)) (length (cells_under bdz_ph_rule keys c seed))
+bdz_ph_apart solve keys c seed many ratio none =
+    let k = known solve bdz_ph_rule keys c seed bdz_ph_is_rule many ratio none in
     let some_same : (a b : ℕ) → Some a ≡ Some b → a ≡ b = λ a b e. cc in
     record {
       below = λ i within. (chosen_of (cells_under bdz_ph_rule keys c seed) (key_at keys i) seed, refl, rw (chosen_is bdz_ph_rule keys c seed i bdz_ph_chooses k within) (pivot_inside bdz_ph_rule keys c seed i k within));
@@ -97,9 +91,9 @@ answer_is keys c seed shift i k within =
     let cells = cells_under bdz_rule keys c seed in
     ap (ranked cells) (chosen_is bdz_rule keys c seed i bdz_chooses k within) ∙ ranked_busy cells _ (busy_at keys c seed i k within)
 
-pub bdz_apart : (keys : List (ℕ × List ℕ)) (c seed shift : ℕ) → IsCount (length keys) → IsRatio c → rest_of (graph_of bdz_rule keys c seed) ≡ [] → AnswersApart keys (bdz_answer (bdz_under keys c seed shift)) (length keys)
-bdz_apart keys c seed shift many ratio none =
-    let k = known bdz_rule keys c seed bdz_is_rule many ratio none in
+pub bdz_apart : CellsSolve → (keys : List (ℕ × List ℕ)) (c seed shift : ℕ) → IsCount (length keys) → IsRatio c → rest_of (graph_of bdz_rule keys c seed) ≡ [] → AnswersApart keys (bdz_answer (bdz_under keys c seed shift)) (length keys)
+bdz_apart solve keys c seed shift many ratio none =
+    let k = known solve bdz_rule keys c seed bdz_is_rule many ratio none in
     let cells = cells_under bdz_rule keys c seed in
     let edges = graph_of bdz_rule keys c seed in
     let busy : count_by (is_busy 3) cells ≡ length keys = k.solved.busy (omega arith) ∙ k.long in
@@ -108,5 +102,5 @@ bdz_apart keys c seed shift many ratio none =
       below = λ i within. (rank_of 3 cells (pivot_vertex edges i), answer_is keys c seed shift i k within, rank_below cells (pivot_vertex edges i) (length keys) (pivot_inside bdz_rule keys c seed i k within) (busy_at keys c seed i k within) busy);
       apart = λ i j within within' same.
           let ranks = some_same _ _ (sym (answer_is keys c seed shift i k within) ∙ (same ∙ answer_is keys c seed shift j k within')) in
-          pivots_apart edges k.none i j (omega (arith, within, k.long)) (omega (arith, within', k.long)) (rank_apart cells _ _ (pivot_inside bdz_rule keys c seed i k within) (busy_at keys c seed i k within) (pivot_inside bdz_rule keys c seed j k within') (busy_at keys c seed j k within') ranks);
+          k.solved.apart i j (omega (arith, within, k.long)) (omega (arith, within', k.long)) (rank_apart cells _ _ (pivot_inside bdz_rule keys c seed i k within) (busy_at keys c seed i k within) (pivot_inside bdz_rule keys c seed j k within') (busy_at keys c seed j k within') ranks);
     }

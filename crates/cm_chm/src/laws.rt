@@ -6,7 +6,11 @@ ghost use Rattle.cm_spec.specs.Chm.{chm_rule};
 ghost use Rattle.cm_spec.specs.Rounds.{rest_of};
 ghost use Rattle.cm_spec.specs.Rule.{IsCount, IsRatio};
 
+use cm_scheme::cells_solve;
+
 /// The function of keys under a seed by which peeling removes every edge answers each of the keys with its number.
 pub fn answers_numbers()
     ensures { (keys : List (ℕ × List ℕ)) (c seed : ℕ) → IsCount (length keys) → IsRatio c → rest_of (graph_of chm_rule keys c seed) ≡ [] → AnswersNumbers keys (chm_under keys c seed) }
-{}
+{
+    cells_solve();
+}

@@ -102,6 +102,23 @@ pub apart-order : (edges : List (List ℕ)) → Apart edges (order_of edges)
 apart-order edges =
     subst (Apart edges) (rounds_are edges (length edges) 0 ∙ (let s : length edges + 0 ≡ length edges = omega arith in ap (order_upto edges) s)) (apart-rounds edges (length edges) 0)
 
+-- so no two of its edges have the same vertex at their pivots
+no_end : (edges : List (List ℕ)) (e f : ℕ) → has (ends_at edges f) (pivot_vertex edges e) ≡ false → has (ends_at edges f) (pivot_vertex edges f) ≡ true → pivot_vertex edges e ≡ pivot_vertex edges f → ⊥
+no_end edges e f apart touches same = both_ways _ apart (ap (has (ends_at edges f)) same ∙ touches)
+
+apart_in : (edges : List (List ℕ)) (es : List ℕ) → Apart edges es → ((e : ℕ) → has es e ≡ true → has (ends_at edges e) (pivot_vertex edges e) ≡ true) → (e f : ℕ) → has es e ≡ true → has es f ≡ true → pivot_vertex edges e ≡ pivot_vertex edges f → e ≡ f
+apart_in edges [] apart touches e f there there' same = absurd (false≢true there)
+apart_in edges (x ∷ xs) apart touches e f there there' same =
+    go (or_cases (eqb x e) (has xs e) there) (or_cases (eqb x f) (has xs f) there') (λ m n. apart_in edges xs apart.1 (λ g h. touches g (or_right (eqb x g) (has xs g) h)) e f m n same) where
+      go : (eqb x e ≡ true) ⊎ (has xs e ≡ true) → (eqb x f ≡ true) ⊎ (has xs f ≡ true) → (has xs e ≡ true → has xs f ≡ true → e ≡ f) → e ≡ f
+      go (inl a) (inl b) ih = sym (eqb-true x e a) ∙ eqb-true x f b
+      go (inl a) (inr n) ih = absurd (no_end edges x f (apart.0 f n) (touches f (or_right (eqb x f) (has xs f) n)) (ap (pivot_vertex edges) (eqb-true x e a) ∙ same))
+      go (inr m) (inl b) ih = absurd (no_end edges x e (apart.0 e m) (touches e (or_right (eqb x e) (has xs e) m)) (ap (pivot_vertex edges) (eqb-true x f b) ∙ sym same))
+      go (inr m) (inr n) ih = ih m n
+
+pivots_apart : (edges : List (List ℕ)) (e f : ℕ) → has (order_of edges) e ≡ true → has (order_of edges) f ≡ true → pivot_vertex edges e ≡ pivot_vertex edges f → e ≡ f
+pivots_apart edges = apart_in edges (order_of edges) (apart-order edges) (λ e m. (order_removed edges (length edges) e m).touching)
+
 -- sums
 abbrev pub Distinct : List ℕ → Type 0
 Distinct [] = Unit {0}
@@ -235,6 +252,8 @@ cells_solved p none h =
     record {
       long = length-one_by_one p (all_idle p) (order_of p.edges) ∙ length-replicate p.vertices p.idle;
       sums = λ e l. s.sums e (there e l);
+      within = λ e l. (h e (order_removed p.edges (length p.edges) e (there e l))).within;
+      apart = λ e f l m same. pivots_apart p.edges e f (there e l) (there f m) same;
       below = λ e l. s.below e (there e l);
       idle = λ v l n. kept p (all_idle p) (order_of p.edges) v (λ f m. n f (order_removed p.edges (length p.edges) f m).place) ∙ get_or-replicate p.vertices v p.idle 0 l;
       busy = λ le. busy_are p (order_of p.edges) (apart-order p.edges) (λ e m. h e (order_removed p.edges (length p.edges) e m)) le
