@@ -5,6 +5,7 @@ mod answers;
 mod bdz;
 mod bdz_ph;
 mod choice;
+pub mod examples;
 mod laws;
 mod scheme;
 #[cfg(test)]
