@@ -1,4 +1,4 @@
--- The cells of a peeled graph choose the vertex at the pivot of each key's edge.
+-- Cells that solve the graph of keys choose the vertex at the pivot of each key's edge.
 use Rattle.std.proofs.Common.{◌≡◌, ◌≢◌, ◌∙◌, ℕ, ◌%◌, ◌<◌, List, [], length, map, Option, None, Some, cond, Bool, refl, sym, ap, subst, arith}
 use Rattle.std.specs.Prelude.{slice_index}
 use Rattle.std.specs.List.{count_by, sum_by}
@@ -31,7 +31,7 @@ bdz_chooses = record { laws = bdz_is_rule; edge = λ w n. refl; three = λ m. re
 bdz_ph_chooses : Chooses bdz_ph_rule
 bdz_ph_chooses = record { laws = bdz_ph_is_rule; edge = λ w n. refl; three = λ m. refl; target = λ i p t. refl }
 
--- what is known of the cells of keys under a seed by which peeling removes every edge
+-- what is known of the cells of keys under a seed whose graph has an empty 2-core
 record Known (r : Rule) (keys : List (ℕ × List ℕ)) (c seed : ℕ) : Type 0 where
   long : length (graph_of r keys c seed) ≡ length keys
   solved : AreSolved (plan_of r (r.size (length keys) c) (graph_of r keys c seed) (map (tag_of r seed) keys)) (cells_under r keys c seed)

@@ -1,4 +1,4 @@
--- The cells of a peeled graph add up to the numbers of the keys.
+-- Cells that solve the graph of keys add up to the keys' numbers.
 use Rattle.std.proofs.Common.{◌≡◌, ◌∙◌, ℕ, ◌%◌, ◌<◌, List, [], length, map, get_or, refl, sym, ap, subst, arith}
 use Rattle.std.specs.List.{sum_by}
 use Rattle.std.proofs.lemmas.List.{length-map, get_or-map}
