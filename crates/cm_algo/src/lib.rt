@@ -6,5 +6,5 @@ mod passes;
 mod seeds;
 
 pub use crate::fault::BuildFault;
-pub use crate::seeds::build;
+pub use crate::seeds::{build, build_with};
 pub use cm_scheme::{Answers, Built, Divisor, Place, Scheme, answer, assign};

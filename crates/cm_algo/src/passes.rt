@@ -1,14 +1,14 @@
 //! Passes over keys.
-ghost use Rattle.std.specs.Prelude.{◌≡◌, ◌≢◌, ℕ, ◌+◌, ◌*◌, ◌<◌, ◌≤◌, ◌^◌, [], ◌∷◌, List, length, map, drop, IfOk, IfErr, IfSome, IfNone, IsTrue, OnOk, ◌++◌, None, Some, Ok, true, false};
+ghost use Rattle.std.specs.Prelude.{◌≡◌, ◌≢◌, ℕ, ◌+◌, ◌*◌, ◌<◌, ◌≤◌, ◌^◌, [], ◌∷◌, List, length, map, drop, vec_len, vec_capacity, IfOk, IfErr, IfSome, IfNone, IsTrue, OnOk, ◌++◌, None, Some, Ok, Err, true, false};
 ghost use Rattle.std.specs.Option.{ForSome};
 ghost use Rattle.cm_outer.specs.Passes.{Told, HasKeyCause};
 ghost use Rattle.cm_spec.specs.Built.{edge_of, tag_of};
 ghost use Rattle.cm_spec.specs.Lookup2.{words as words_of};
 ghost use Rattle.cm_spec.specs.Rule.{IsCount, IsSize};
-ghost use Rattle.cm_algo.specs.Fails.{HasBuildCause, IsToldFault, FailsPass, HasChanged};
+ghost use Rattle.cm_algo.specs.Fails.{HasPassCause, IsToldFault, FailsPass, HasChanged};
 ghost use Rattle.cm_algo.specs.Hashed.{GivesWords};
 
-use crate::fault::BuildFault;
+use crate::fault::PassFault;
 use cm_graph::Edges;
 use cm_lookup2::words;
 use cm_outer::{KeyBuf, KeyFault, KeyPass, MAX_KEYS};
@@ -19,6 +19,7 @@ pub(crate) fn count_all<P: KeyPass>(keys: &mut P, key: &mut KeyBuf) -> Result<u3
     ensures told { P.told keys.new ≡ P.told keys.old }
     ensures cause { HasKeyCause (P.faults keys.old) (P.faults keys.new) result }
     ensures few { IfOk result (λ n. n ≤ 16777216) }
+    ensures given { IfOk result (λ n. P.place keys.new ≡ n) }
     ensures all { IfOk result (λ n. ForSome (P.told keys.old) (λ told. (length told.keys ≡ n) × (told.fault ≡ None))) }
     ensures fault { IfErr result (λ e. ForSome (P.told keys.old) (λ told. IsToldFault told e)) }
 {
@@ -57,7 +58,7 @@ fn read_words<P: KeyPass>(
     }
 }
 
-/// Adds the edge of a key by its words, and its tag where tags are kept.
+/// Adds the edge of a key by its words, and its tag where tags are kept. There is room for both.
 #[inline(always)]
 fn add_key<S: Scheme<K>, const K: usize>(
     scheme: &S,
@@ -65,25 +66,25 @@ fn add_key<S: Scheme<K>, const K: usize>(
     hashed: [u32; 3],
     edges: &mut Edges<K>,
     tags: &mut Vec<u32>,
-) -> Result<(), BuildFault>
-    requires room { length edges.old.edges < 67108864 }
+)
+    requires room { length edges.old.edges < edges.old.room }
+    requires tag_room { S.KEEPS_TAGS ≡ true → vec_len tags.old < vec_capacity tags.old }
     requires size { IsSize (S.rule scheme.now) edges.old.vertices }
     requires divisor { divisor.now ≡ S.divisor_of scheme.now edges.old.vertices }
-    ensures memory { IfErr result (λ e. e ≡ BuildFault.Memory) }
-    ensures vertices { edges.new.vertices ≡ edges.old.vertices }
-    ensures edges { OnOk result (edges.new.edges ≡ edges.old.edges ++ (S.rule scheme.now).edge hashed edges.old.vertices ∷ []) }
-    ensures tags { OnOk result (S.KEEPS_TAGS ≡ true → tags.new.items ≡ tags.old.items ++ (S.rule scheme.now).tag hashed ∷ []) }
+    ensures edges { edges.new ≡ record edges.old { edges = edges.old.edges ++ (S.rule scheme.now).edge hashed edges.old.vertices ∷ [] } }
+    ensures tags { S.KEEPS_TAGS ≡ true → tags.new.items ≡ tags.old.items ++ (S.rule scheme.now).tag hashed ∷ [] }
     ensures untagged { S.KEEPS_TAGS ≡ false → tags.new.items ≡ tags.old.items }
+    ensures tag_count { S.KEEPS_TAGS ≡ true → vec_len tags.new ≡ vec_len tags.old + 1 }
+    ensures capacity { vec_capacity tags.new ≡ vec_capacity tags.old }
 {
-    edges.push(scheme.edge(hashed, edges.vertices(), divisor))?;
+    edges.push_reserved(scheme.edge(hashed, edges.vertices(), divisor));
     if S::KEEPS_TAGS {
-        tags.push(scheme.tag(hashed))?;
+        tags.push_reserved(scheme.tag(hashed));
     }
-    Ok(())
 }
 
-/// Adds the edge of the next key under a seed, and its tag where tags are kept, if it is at hand: it is hashed where it stands. If
-/// it isn't, nothing changes.
+/// Adds the edge of the next key under a seed, and its tag where tags are kept, if the whole key is in the buffer of the pass: it
+/// is hashed where it stands. If it isn't, nothing changes. There is room for both.
 #[inline(always)]
 fn add_at_hand<S: Scheme<K>, P: KeyPass, const K: usize>(
     scheme: &S,
@@ -92,34 +93,36 @@ fn add_at_hand<S: Scheme<K>, P: KeyPass, const K: usize>(
     seed: u32,
     edges: &mut Edges<K>,
     tags: &mut Vec<u32>,
-) -> Result<bool, BuildFault>
+) -> bool
     requires usable { IsTrue (P.usable keys.old) }
-    requires room { length edges.old.edges < 67108864 }
+    requires room { length edges.old.edges < edges.old.room }
+    requires tag_room { S.KEEPS_TAGS ≡ true → vec_len tags.old < vec_capacity tags.old }
     requires size { IsSize (S.rule scheme.now) edges.old.vertices }
     requires divisor { divisor.now ≡ S.divisor_of scheme.now edges.old.vertices }
     ensures told { P.told keys.new ≡ P.told keys.old }
     ensures cause { P.faults keys.new ≡ P.faults keys.old }
-    ensures memory { IfErr result (λ e. e ≡ BuildFault.Memory) }
     ensures usable { P.usable keys.new ≡ true }
-    ensures vertices { edges.new.vertices ≡ edges.old.vertices }
+    ensures unchanged { result ≡ false → (keys.new ≡ keys.old) × (edges.new ≡ edges.old) × (tags.new ≡ tags.old) }
+    ensures counts { result ≡ true → P.place keys.new ≡ P.place keys.old + 1 }
     ensures untagged { S.KEEPS_TAGS ≡ false → tags.new.items ≡ tags.old.items }
-    ensures unchanged { result ≡ Ok false → (keys.new ≡ keys.old) × (edges.new ≡ edges.old) × (tags.new ≡ tags.old) }
-    ensures counts { result ≡ Ok true → P.place keys.new ≡ P.place keys.old + 1 }
-    ensures adds { result ≡ Ok true → (hashed : List ℕ)
-        × (edges.new.edges ≡ edges.old.edges ++ (S.rule scheme.now).edge hashed edges.old.vertices ∷ [])
+    ensures tag_count { result ≡ true → S.KEEPS_TAGS ≡ true → vec_len tags.new ≡ vec_len tags.old + 1 }
+    ensures capacity { vec_capacity tags.new ≡ vec_capacity tags.old }
+    ensures adds { result ≡ true → (hashed : List ℕ)
+        × (edges.new ≡ record edges.old { edges = edges.old.edges ++ (S.rule scheme.now).edge hashed edges.old.vertices ∷ [] })
         × (S.KEEPS_TAGS ≡ true → tags.new.items ≡ tags.old.items ++ (S.rule scheme.now).tag hashed ∷ [])
         × ForSome (P.told keys.old) (λ told. GivesWords told (P.place keys.old) (P.place keys.new) seed (Ok (Some hashed))) }
 {
     let (hashed, len) = match keys.peek() {
         Some((_, key)) => (words(key, seed), key.len()),
-        None => return Ok(false),
+        None => return false,
     };
     keys.pass(len);
-    add_key(scheme, divisor, hashed, edges, tags)?;
-    Ok(true)
+    add_key(scheme, divisor, hashed, edges, tags);
+    true
 }
 
-/// The edges of the keys, which are to be `m`, and their tags where tags are kept. The buffer is for its use.
+/// The edges of the keys, which are to be `m`, and their tags where tags are kept. There is room for all of them, so that no
+/// memory is taken. The buffer is for its use.
 pub(crate) fn hash_all<S: Scheme<K>, P: KeyPass, const K: usize>(
     scheme: &S,
     keys: &mut P,
@@ -128,47 +131,50 @@ pub(crate) fn hash_all<S: Scheme<K>, P: KeyPass, const K: usize>(
     seed: u32,
     edges: &mut Edges<K>,
     tags: &mut Vec<u32>,
-) -> Result<(), BuildFault>
+) -> Result<(), PassFault>
     requires few { m ≤ 16777216 }
+    requires room { m ≤ edges.old.room }
+    requires tag_room { S.KEEPS_TAGS ≡ true → m ≤ vec_capacity tags.old }
     requires size { IsSize (S.rule scheme.now) edges.old.vertices }
     requires none { (edges.old.edges ≡ []) × (tags.old.items ≡ []) }
     ensures told { P.told keys.new ≡ P.told keys.old }
-    ensures cause { HasBuildCause (P.faults keys.old) (P.faults keys.new) result }
+    ensures cause { HasPassCause (P.faults keys.old) (P.faults keys.new) result }
     ensures vertices { edges.new.vertices ≡ edges.old.vertices }
     ensures long { OnOk result (length edges.new.edges ≡ m) }
     ensures tags_long { OnOk result (S.KEEPS_TAGS ≡ true → length tags.new.items ≡ m) }
     ensures edges { OnOk result (ForSome (P.told keys.old) (λ told. edges.new.edges ≡ map (edge_of (S.rule scheme.now) edges.old.vertices seed) told.keys)) }
     ensures tags { OnOk result (S.KEEPS_TAGS ≡ true → ForSome (P.told keys.old) (λ told. tags.new.items ≡ map (tag_of (S.rule scheme.now) seed) told.keys)) }
     ensures untagged { S.KEEPS_TAGS ≡ false → tags.new.items ≡ [] }
-    ensures changed { IfErr result (HasChanged m) }
+    ensures memory { result ≢ Err PassFault.Memory }
+    ensures changed { IfErr result (HasChanged m (P.place keys.new)) }
     ensures fault { IfErr result (λ e. ForSome (P.told keys.old) (λ told. FailsPass told m e)) }
 {
     keys.rewind()?;
     let divisor = scheme.divisor(edges.vertices());
     for count in 0..m + 1 {
-        if count < m && add_at_hand(scheme, &divisor, keys, seed, edges, tags)? {
+        if count < m && add_at_hand(scheme, &divisor, keys, seed, edges, tags) {
             continue;
         }
         match read_words(keys, key, seed) {
             Ok(Some(hashed)) => {
                 if count == m {
-                    return Err(BuildFault::Changed {
+                    return Err(PassFault::Changed {
                         first: m,
                         now: m + 1,
                     });
                 }
-                add_key(scheme, &divisor, hashed, edges, tags)?;
+                add_key(scheme, &divisor, hashed, edges, tags);
             }
             Ok(None) => {
                 if count < m {
-                    return Err(BuildFault::Changed {
+                    return Err(PassFault::Changed {
                         first: m,
                         now: count,
                     });
                 }
                 return Ok(());
             }
-            Err(fault) => return Err(BuildFault::Key(fault)),
+            Err(fault) => return Err(PassFault::Key(fault)),
         }
     }
     unreachable!()

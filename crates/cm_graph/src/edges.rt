@@ -24,7 +24,7 @@ impl<const K: usize> Model for Edges<K> {
 
     ghost view = { λ g. record { vertices = g.vertices; room = g.room; edges = g.ends.items } };
 
-    ghost invariant = { λ g. IsWidth K × (g.vertices ≤ 671088645) × (length g.ends.items ≤ 67108864) × (g.room ≤ vec_capacity g.ends) × AreEdges K g.vertices g.ends.items };
+    ghost invariant = { λ g. IsWidth K × (g.vertices ≤ 671088645) × (length g.ends.items ≤ 67108864) × (g.room ≤ 67108864) × (g.room ≤ vec_capacity g.ends) × AreEdges K g.vertices g.ends.items };
 }
 
 impl<const K: usize> Edges<K> {
@@ -69,6 +69,15 @@ impl<const K: usize> Edges<K> {
     {
         self.ends.push(ends)?;
         Ok(())
+    }
+
+    /// One more edge, for which there is room.
+    pub fn push_reserved(&mut self, ends: [u32; K])
+        requires room { length self.old.edges < self.old.room }
+        requires edge { IsEdge self.old.vertices ends }
+        ensures { self.new ≡ record self.old { edges = self.old.edges ++ ends.entry ∷ [] } }
+    {
+        self.ends.push_reserved(ends);
     }
 
     /// How many edges there are.

@@ -2,7 +2,7 @@ use Rattle.std.proofs.Common.{arith, ◌≢◌, ℕ, ◌<◌, [], length, sym, r
 use Rattle.cm_spec.specs.Built.{graph_of}
 use Rattle.cm_spec.specs.Rounds.{rest_of}
 use Rattle.cm_algo.proofs.OneSeed.{no_keys, steps_more, chosen_at, none_chosen, first_at, all_cored}
-use Rattle.cm_algo.proofs.seeds.build.Goals as goal
+use Rattle.cm_algo.proofs.seeds.build_with.Goals as goal
 
 pub returns-then-m-eq0-clause-fault : goal.returns-then-m-eq0-clause-fault
 returns-then-m-eq0-clause-fault g c = λ told is.

@@ -2,7 +2,7 @@ use Rattle.std.proofs.Common.{◌≡◌, ◌≢◌, ◌+◌, ◌*◌, ◌<◌, �
 use Rattle.std.specs.Option.{ForSome}
 use Rattle.cm_spec.specs.Built.{graph_of}
 use Rattle.cm_spec.specs.Rounds.{rest_of}
-use Rattle.cm_algo.proofs.seeds.build.Given as goal
+use Rattle.cm_algo.proofs.seeds.build_with.Given as goal
 
 abbrev pub invariant-loop-i : goal.invariant-loop-i
 invariant-loop-i g l =
