@@ -7,7 +7,7 @@ use Rattle.std.proofs.lemmas.Nat.{div_below, mod_below}
 use Rattle.cm_bdz.specs.Functions.{IsThirds}
 use Rattle.cm_spec.specs.Bdz.{bdz_edge, bdz_rule, bdz_ph_rule, bdz_size, made_odd, third_of}
 use Rattle.cm_spec.specs.Graph.{IsEdge}
-use Rattle.cm_spec.specs.Rule.{IsCount, IsRatio, IsRule}
+use Rattle.cm_spec.specs.Rule.{IsCount, IsRatio, IsRule, Rule}
 
 odd_most : (q : ℕ) → q ≤ 223696214 → made_odd q ≤ 223696215
 odd_most q few = go (cases_eq (q % 2) 0) where
@@ -90,24 +90,23 @@ bdz_ends w n t =
     let c : slice_index w 2 % (n / 3) < n / 3 = mod_below _ _ (omega (arith, t.some)) in
     (refl, subst (λ (k : ℕ). IsEdge k (bdz_edge w n)) (sym t.is) (triple_is_edge (n / 3) _ _ _ a b c))
 
-pub bdz_is_rule : IsRule 3 bdz_rule
-bdz_is_rule = record {
+-- a rule of such edges whose cells are below a bound of at least 3; an untouched one counts as 0, modulo 3
+abbrev triple_rule : ℕ → ℕ → Rule
+triple_rule bound idle = record { size = bdz_size; edge = bdz_edge; tag = λ _. 0; modulus = λ _. 3; bound = λ _. bound; idle = idle; target = λ i p t. p }
+
+is_rule : (bound idle : ℕ) → 3 ≤ bound → idle < bound → idle % 3 ≡ 0 → IsRule 3 (triple_rule bound idle)
+is_rule bound idle high below none = record {
   two_or_three = (omega arith, omega arith);
   few = λ n s. let t = thirds s.keys s.ratio n s.many s.within s.is in omega (arith, t.is, t.few);
   ends = λ w n s. bdz_ends w n (thirds s.keys s.ratio n s.many s.within s.is);
   target_below = λ m i p t many l k. k;
-  modulus_within = λ m many. omega arith;
-  idle_below = λ m many. omega arith;
-  idle_none = λ m many. refl;
+  modulus_within = λ m many. high;
+  idle_below = λ m many. below;
+  idle_none = λ m many. none;
 }
 
+pub bdz_is_rule : IsRule 3 bdz_rule
+bdz_is_rule = is_rule 4 3 (omega arith) (omega arith) refl
+
 pub bdz_ph_is_rule : IsRule 3 bdz_ph_rule
-bdz_ph_is_rule = record {
-  two_or_three = (omega arith, omega arith);
-  few = λ n s. let t = thirds s.keys s.ratio n s.many s.within s.is in omega (arith, t.is, t.few);
-  ends = λ w n s. bdz_ends w n (thirds s.keys s.ratio n s.many s.within s.is);
-  target_below = λ m i p t many l k. k;
-  modulus_within = λ m many. omega arith;
-  idle_below = λ m many. omega arith;
-  idle_none = λ m many. refl;
-}
+bdz_ph_is_rule = is_rule 3 0 (omega arith) (omega arith) refl
