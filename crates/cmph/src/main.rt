@@ -1,17 +1,13 @@
 //! The program `cmph`: the top call over real files and the standard streams.
 #![tactic(auto)]
 
-mod file_disk;
-mod std_sink;
-
+use cm_real::{FileDisk, StdSink};
 use cm_tool::run;
-use file_disk::FileDisk;
 use std::alloc::{Alloc, AllocError, Global};
 use std::env;
 use std::env::Env;
 use std::io::ErrorKind;
 use std::process::ExitCode;
-use std_sink::StdSink;
 
 /// The words of the command line. Where one of them isn't UTF-8, they are read as an option that there isn't.
 fn words_of<R: Env + Alloc<A = Global>>(rt: &R) -> Result<Vec<String>, AllocError> {

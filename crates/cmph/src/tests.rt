@@ -1,5 +1,4 @@
-use crate::file_disk::FileDisk;
-use crate::std_sink::StdSink;
+use cm_real::{FileDisk, StdSink};
 use cm_tool::run;
 use std::alloc::{AllocGlobal, Global};
 use std::fs;

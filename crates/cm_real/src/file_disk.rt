@@ -5,7 +5,7 @@ ghost use Rattle.std.specs.Io.KnownBytes.{Consumes, IsAtEnd};
 ghost use Rattle.std.specs.Io.Seek.{MovesTo};
 ghost use Rattle.cm_outer.specs.Causes.{HasCause};
 
-use crate::std_sink::StdSink;
+use crate::StdSink;
 use cm_outer::{Disk, DiskFault, Failed, Sink, Source};
 use std::fs::OpenFile;
 use std::io::{ErrorKind, Read, Seek, SeekFrom, Write};

@@ -1,0 +1,10 @@
+//! The outside of a program as the system gives it: files, and what is written to one of std's writers.
+#![tactic(auto)]
+
+mod file_disk;
+mod std_sink;
+#[cfg(test)]
+mod tests;
+
+pub use file_disk::{FileDisk, FileReader};
+pub use std_sink::StdSink;
