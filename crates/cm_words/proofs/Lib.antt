@@ -1,4 +1,2 @@
 pub mod CommandLemmas
-pub mod DigitLemmas
 pub mod JobLemmas
-pub mod NameLemmas

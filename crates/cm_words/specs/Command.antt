@@ -1,19 +1,24 @@
 -- The command that the words are read as, in clap's terms.
 use Rattle.std.specs.Prelude.{ℕ, List, [], ◌∷◌, true, Some, codes}
 use Rattle.clap.specs.Words.{App, Rule, Text, new_app, new_rule, with_rule}
+use Rattle.clap.specs.declared.builder.action.ArgAction.{ArgAction}
 use Rattle.clap.specs.declared.builder.action.ArgAction.TheVariants.{Count, Set, SetTrue}
 
--- a flag, given at most once, with a name within this crate and a letter
+-- an option with a name within this crate and a letter
+abbrev pub option_rule : Text → ℕ → ArgAction → Rule
+option_rule id letter action = record (new_rule id) { short = Some letter; action = Some action }
+
+-- a flag, given at most once
 abbrev pub flag_rule : Text → ℕ → Rule
-flag_rule id letter = record (new_rule id) { short = Some letter; action = Some SetTrue }
+flag_rule id letter = option_rule id letter SetTrue
 
 -- a flag that may be given again
 abbrev pub counted_rule : Text → ℕ → Rule
-counted_rule id letter = record (new_rule id) { short = Some letter; action = Some Count }
+counted_rule id letter = option_rule id letter Count
 
 -- an option with one text as its value, given at most once
 abbrev pub value_rule : Text → ℕ → Rule
-value_rule id letter = record (new_rule id) { short = Some letter; action = Some Set }
+value_rule id letter = option_rule id letter Set
 
 -- a word that belongs to no option
 abbrev pub file_rule : Text → Rule

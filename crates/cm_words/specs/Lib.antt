@@ -1,5 +1,4 @@
 pub mod Command
-pub mod Digits
 pub mod Examples
 pub mod Limits
 pub mod Meaning

@@ -2,7 +2,8 @@
 use Rattle.std.specs.Prelude.{◌++◌, Bool, true, false, List, [], ◌∷◌, codes, Option, Some, None, Ok, Err, if◌then◌else◌, unwrap_or}
 use Rattle.clap.specs.Words.{Kinds, Row, Text, fault_of, first_of, matches_of}
 use Rattle.cm_words.specs.Command.{cmph_app}
-use Rattle.cm_words.specs.Options.{Read, and_then, is_counted, is_set, values_of}
+use Rattle.cm_numbers.specs.Options.{and_then}
+use Rattle.cm_words.specs.Options.{Read, as_usage, is_counted, is_set, values_of}
 use Rattle.cm_words.specs.declared.fault.UsageFault.TheVariants.{NoFile, Words}
 use Rattle.cm_words.specs.declared.jobs.BuildJob.{BuildJob}
 use Rattle.cm_words.specs.declared.jobs.QueryJob.{QueryJob}
@@ -49,7 +50,7 @@ job_over (Some keys) v rows = if is_set (codes "generate") rows then Ok (Build (
 abbrev pub job_of_rows : List Row → Read Job
 job_of_rows rows = if is_set (codes "help") rows then Ok Help
     else (if is_set (codes "version") rows then Ok Version
-    else and_then (values_of rows) (λ v. job_over (first_of (codes "keys") rows) v rows))
+    else and_then (as_usage (values_of rows)) (λ v. job_over (first_of (codes "keys") rows) v rows))
 
 -- clap has a fault for the words
 abbrev pub is_refused : Kinds → Bool

@@ -1,48 +1,23 @@
 //! The command that the words are read as.
 ghost use Rattle.std.specs.Prelude.{◌≡◌, IfOk};
 ghost use Rattle.clap.specs.Words.{app_of};
-ghost use Rattle.cm_words.specs.Command.{bare_app, build_options, cmph_app, counted_rule, file_options, file_rule, flag_rule, flags, value_rule, with_argument, with_arguments};
+ghost use Rattle.cm_words.specs.Command.{bare_app, build_options, cmph_app, file_options, file_rule, flags, option_rule, with_argument, with_arguments};
 
 use clap::{Arg, ArgAction, Command};
 use std::alloc::{AllocError, Global};
 
+/// The command with one option more, of a name within this crate and a letter.
 #[tactic(auto, unfolding(crate::specs::Command::with_argument))]
-fn with_flag<'a>(
+fn with_option<'a>(
     alloc: Global,
     command: Command<'a>,
     id: &'a str,
     letter: char,
+    action: ArgAction,
 ) -> Result<Command<'a>, AllocError>
-    ensures { IfOk result (λ r. app_of r ≡ with_argument (app_of command.entry) (flag_rule id.entry.now letter)) }
+    ensures { IfOk result (λ r. app_of r ≡ with_argument (app_of command.entry) (option_rule id.entry.now letter action)) }
 {
-    let flag = Arg::new(alloc, id).short(letter).action(ArgAction::SetTrue);
-    command.arg(flag)
-}
-
-#[tactic(auto, unfolding(crate::specs::Command::with_argument))]
-fn with_counted<'a>(
-    alloc: Global,
-    command: Command<'a>,
-    id: &'a str,
-    letter: char,
-) -> Result<Command<'a>, AllocError>
-    ensures { IfOk result (λ r. app_of r ≡ with_argument (app_of command.entry) (counted_rule id.entry.now letter)) }
-{
-    let flag = Arg::new(alloc, id).short(letter).action(ArgAction::Count);
-    command.arg(flag)
-}
-
-#[tactic(auto, unfolding(crate::specs::Command::with_argument))]
-fn with_value<'a>(
-    alloc: Global,
-    command: Command<'a>,
-    id: &'a str,
-    letter: char,
-) -> Result<Command<'a>, AllocError>
-    ensures { IfOk result (λ r. app_of r ≡ with_argument (app_of command.entry) (value_rule id.entry.now letter)) }
-{
-    let option = Arg::new(alloc, id).short(letter).action(ArgAction::Set);
-    command.arg(option)
+    command.arg(Arg::new(alloc, id).short(letter).action(action))
 }
 
 #[tactic(auto, unfolding(crate::specs::Command::with_argument))]
@@ -68,30 +43,30 @@ fn bare<'a>(alloc: Global) -> Command<'a>
 fn with_flags<'a>(alloc: Global, command: Command<'a>) -> Result<Command<'a>, AllocError>
     ensures { IfOk result (λ r. app_of r ≡ with_arguments (app_of command.entry) flags) }
 {
-    let command = with_flag(alloc, command, "help", 'h')?;
-    let command = with_flag(alloc, command, "version", 'V')?;
-    let command = with_counted(alloc, command, "verbose", 'v')?;
-    with_flag(alloc, command, "generate", 'g')
+    let command = with_option(alloc, command, "help", 'h', ArgAction::SetTrue)?;
+    let command = with_option(alloc, command, "version", 'V', ArgAction::SetTrue)?;
+    let command = with_option(alloc, command, "verbose", 'v', ArgAction::Count)?;
+    with_option(alloc, command, "generate", 'g', ArgAction::SetTrue)
 }
 
 fn with_build_options<'a>(alloc: Global, command: Command<'a>) -> Result<Command<'a>, AllocError>
     ensures { IfOk result (λ r. app_of r ≡ with_arguments (app_of command.entry) build_options) }
 {
-    let command = with_value(alloc, command, "algorithm", 'a')?;
-    let command = with_value(alloc, command, "bits", 'b')?;
-    let command = with_value(alloc, command, "ratio", 'c')?;
-    let command = with_value(alloc, command, "directory", 'd')?;
-    let command = with_value(alloc, command, "hash", 'f')?;
-    let command = with_value(alloc, command, "buffer", 'M')?;
-    let command = with_value(alloc, command, "count", 'r')?;
-    with_value(alloc, command, "seed", 's')
+    let command = with_option(alloc, command, "algorithm", 'a', ArgAction::Set)?;
+    let command = with_option(alloc, command, "bits", 'b', ArgAction::Set)?;
+    let command = with_option(alloc, command, "ratio", 'c', ArgAction::Set)?;
+    let command = with_option(alloc, command, "directory", 'd', ArgAction::Set)?;
+    let command = with_option(alloc, command, "hash", 'f', ArgAction::Set)?;
+    let command = with_option(alloc, command, "buffer", 'M', ArgAction::Set)?;
+    let command = with_option(alloc, command, "count", 'r', ArgAction::Set)?;
+    with_option(alloc, command, "seed", 's', ArgAction::Set)
 }
 
 fn with_file_options<'a>(alloc: Global, command: Command<'a>) -> Result<Command<'a>, AllocError>
     ensures { IfOk result (λ r. app_of r ≡ with_arguments (app_of command.entry) file_options) }
 {
-    let command = with_value(alloc, command, "first", 'k')?;
-    let command = with_value(alloc, command, "function", 'm')?;
+    let command = with_option(alloc, command, "first", 'k', ArgAction::Set)?;
+    let command = with_option(alloc, command, "function", 'm', ArgAction::Set)?;
     with_file(alloc, command, "keys")
 }
 

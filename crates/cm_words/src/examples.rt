@@ -1,14 +1,15 @@
 //! Worked examples of what words mean. Each function has an empty body, and its clauses are checked by the prover.
+#![tactic(auto, unfolding(crate::specs::Meaning::job_of, crate::specs::Command::with_argument, clap::proofs::OnLiterals::clap_on_literals))]
+
 ghost use Rattle.std.specs.Prelude.{◌≡◌, ◌++◌, ◌∷◌, [], Ok, Err, Some, None, true, codes};
 ghost use Rattle.cm_algorithm.specs.declared.algorithm.Algorithm.TheVariants.{Bdz, BdzPh};
-ghost use Rattle.cm_words.specs.Digits.{millionths_of, whole_of};
+ghost use Rattle.cm_numbers.specs.Digits.{millionths_of, whole_of};
 ghost use Rattle.cm_words.specs.Examples.{plain_build, plain_query, query_of_file, typed};
 ghost use Rattle.cm_words.specs.Meaning.{job_of};
 ghost use Rattle.cm_words.specs.declared.fault.UsageFault.TheVariants.{BadValue, NoFile, Words};
 ghost use Rattle.cm_words.specs.declared.jobs.Job.TheVariants.{Help, Version, Build, Query};
 
 /// The program's name and files.
-#[tactic(auto, unfolding(crate::specs::Meaning::job_of, crate::specs::Command::with_argument, clap::proofs::OnLiterals::clap_on_literals))]
 pub fn files()
     ensures no_words { job_of [] ≡ Err NoFile }
     ensures name_alone { job_of (typed (codes "cmph")) ≡ Err NoFile }
@@ -24,7 +25,6 @@ pub fn files()
 {}
 
 /// Two hyphens, after which no word is an option.
-#[tactic(auto, unfolding(crate::specs::Meaning::job_of, crate::specs::Command::with_argument, clap::proofs::OnLiterals::clap_on_literals))]
 pub fn dashes()
     ensures alone { job_of (typed (codes "cmph --")) ≡ Err NoFile }
     ensures before_letter { job_of (typed (codes "cmph -- -g")) ≡ Ok (Query (query_of_file (codes "-g"))) }
@@ -41,7 +41,6 @@ pub fn dashes()
 {}
 
 /// Flags.
-#[tactic(auto, unfolding(crate::specs::Meaning::job_of, crate::specs::Command::with_argument, clap::proofs::OnLiterals::clap_on_literals))]
 pub fn flags()
     ensures generate { job_of (typed (codes "cmph -g keys")) ≡ Ok (Build plain_build) }
     ensures verbose { job_of (typed (codes "cmph -g -v keys")) ≡ Ok (Build (record plain_build { verbose = true })) }
@@ -59,7 +58,6 @@ pub fn flags()
 {}
 
 /// Options that there aren't.
-#[tactic(auto, unfolding(crate::specs::Meaning::job_of, crate::specs::Command::with_argument, clap::proofs::OnLiterals::clap_on_literals))]
 pub fn unknown()
     ensures letter { job_of (typed (codes "cmph -t 2 keys")) ≡ Err Words }
     ensures capital { job_of (typed (codes "cmph -G keys")) ≡ Err Words }
@@ -74,7 +72,6 @@ pub fn unknown()
 {}
 
 /// The value of an option: where it stands.
-#[tactic(auto, unfolding(crate::specs::Meaning::job_of, crate::specs::Command::with_argument, clap::proofs::OnLiterals::clap_on_literals))]
 pub fn values()
     ensures next_word { job_of (typed (codes "cmph -k 3 keys")) ≡ Ok (Query (record plain_query { first = Some 3 })) }
     ensures attached { job_of (typed (codes "cmph -k3 keys")) ≡ Ok (Query (record plain_query { first = Some 3 })) }
@@ -97,7 +94,6 @@ pub fn values()
 {}
 
 /// The paths of files and of the spill's directory.
-#[tactic(auto, unfolding(crate::specs::Meaning::job_of, crate::specs::Command::with_argument, clap::proofs::OnLiterals::clap_on_literals))]
 pub fn paths()
     ensures function { job_of (typed (codes "cmph -m f keys")) ≡ Ok (Query (record plain_query { function = codes "f" })) }
     ensures of_build { job_of (typed (codes "cmph -g -m f keys")) ≡ Ok (Build (record plain_build { function = codes "f" })) }
@@ -108,7 +104,6 @@ pub fn paths()
 {}
 
 /// The forms of whole numbers.
-#[tactic(auto, unfolding(crate::specs::Meaning::job_of, crate::specs::Command::with_argument, clap::proofs::OnLiterals::clap_on_literals))]
 pub fn whole_numbers()
     ensures zeros { job_of (typed (codes "cmph -k 0000000003 keys")) ≡ Ok (Query (record plain_query { first = Some 3 })) }
     ensures eleven_digits { job_of (typed (codes "cmph -k 00000000003 keys")) ≡ Err (BadValue 107) }
@@ -130,7 +125,6 @@ pub fn whole_numbers()
 {}
 
 /// The ranges of whole numbers.
-#[tactic(auto, unfolding(crate::specs::Meaning::job_of, crate::specs::Command::with_argument, clap::proofs::OnLiterals::clap_on_literals))]
 pub fn ranges()
     ensures first_least { job_of (typed (codes "cmph -k 1 keys")) ≡ Ok (Query (record plain_query { first = Some 1 })) }
     ensures first_most { job_of (typed (codes "cmph -k 4294967295 keys")) ≡ Ok (Query (record plain_query { first = Some 4294967295 })) }
@@ -150,7 +144,6 @@ pub fn ranges()
 {}
 
 /// Ratios.
-#[tactic(auto, unfolding(crate::specs::Meaning::job_of, crate::specs::Command::with_argument, clap::proofs::OnLiterals::clap_on_literals))]
 pub fn ratios()
     ensures one_place { job_of (typed (codes "cmph -g -c 1.5 keys")) ≡ Ok (Build (record plain_build { c = 1500000 })) }
     ensures two_places { job_of (typed (codes "cmph -g -c 2.09 keys")) ≡ Ok (Build plain_build) }
@@ -174,7 +167,6 @@ pub fn ratios()
 {}
 
 /// Algorithms, with the ratio and the sampling that are usual for them, and the hash function.
-#[tactic(auto, unfolding(crate::specs::Meaning::job_of, crate::specs::Command::with_argument, clap::proofs::OnLiterals::clap_on_literals))]
 pub fn algorithms()
     ensures chm { job_of (typed (codes "cmph -g -a chm keys")) ≡ Ok (Build plain_build) }
     ensures bdz { job_of (typed (codes "cmph -g -a bdz keys")) ≡ Ok (Build (record plain_build { algorithm = Bdz; c = 1230000; b = 7 })) }
@@ -191,7 +183,6 @@ pub fn algorithms()
 {}
 
 /// The sampling of ranks.
-#[tactic(auto, unfolding(crate::specs::Meaning::job_of, crate::specs::Command::with_argument, clap::proofs::OnLiterals::clap_on_literals))]
 pub fn sampling()
     ensures least { job_of (typed (codes "cmph -g -a bdz -b 3 keys")) ≡ Ok (Build (record plain_build { algorithm = Bdz; c = 1230000; b = 3 })) }
     ensures most { job_of (typed (codes "cmph -g -a bdz -b 10 keys")) ≡ Ok (Build (record plain_build { algorithm = Bdz; c = 1230000; b = 10 })) }
@@ -206,7 +197,6 @@ pub fn sampling()
 {}
 
 /// Words that mean more than one thing: the first of them in the order of the tests.
-#[tactic(auto, unfolding(crate::specs::Meaning::job_of, crate::specs::Command::with_argument, clap::proofs::OnLiterals::clap_on_literals))]
 pub fn orders()
     ensures help { job_of (typed (codes "cmph -h")) ≡ Ok Help }
     ensures version { job_of (typed (codes "cmph -V")) ≡ Ok Version }
@@ -228,7 +218,6 @@ pub fn orders()
 {}
 
 /// A build with all options.
-#[tactic(auto, unfolding(crate::specs::Meaning::job_of, crate::specs::Command::with_argument, clap::proofs::OnLiterals::clap_on_literals))]
 pub fn all_options()
     ensures build { job_of (typed (codes "cmph -v -g -a bdz -b 4 -c 1.5 -d tmp -f jenkins -k 2 -M 3 -m f -r 7 -s 0 keys")) ≡ Ok (Build (record { keys = codes "keys"; function = codes "f"; first = Some 2; algorithm = Bdz; c = 1500000; b = 4; seed = 0; count = 7; buffer = 3145728; dir = codes "tmp"; verbose = true })) }
 {}

@@ -2,9 +2,10 @@
 ghost use Rattle.std.specs.Prelude.{◌≡◌};
 ghost use Rattle.clap.specs.Words.{kind_of};
 ghost use Rattle.cm_words.specs.Refusals.{fault_of_kind};
-ghost use Rattle.cm_words.specs.declared.fault.UsageFault.TheVariants.{Memory};
+ghost use Rattle.cm_words.specs.declared.fault.UsageFault.TheVariants.{BadValue, Memory};
 
 use clap::error::ErrorKind;
+use cm_numbers::BadValue as BadOption;
 use std::alloc::{AllocError, AllocFailed};
 use thiserror::Error;
 
@@ -34,6 +35,14 @@ impl From<clap::Error> for UsageFault {
             ErrorKind::OutOfMemory => UsageFault::Memory,
             _ => UsageFault::Words,
         }
+    }
+}
+
+impl From<BadOption> for UsageFault {
+    ghost from_gives = { λ e u. u ≡ BadValue e.letter };
+
+    fn from(bad: BadOption) -> Self {
+        UsageFault::BadValue { letter: bad.letter }
     }
 }
 

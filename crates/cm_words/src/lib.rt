@@ -5,15 +5,14 @@ mod arguments;
 pub mod examples;
 mod fault;
 mod jobs;
-mod numbers;
 mod reading;
 #[cfg(test)]
 mod tests;
 mod texts;
 mod values;
 
+pub use cm_numbers::{millionths, whole};
 pub use fault::UsageFault;
 pub use jobs::{BuildJob, Job, QueryJob};
-pub use numbers::{millionths, whole};
 pub use reading::read_words;
 pub use texts::Text;

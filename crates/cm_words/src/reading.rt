@@ -1,5 +1,5 @@
 //! The job of the words.
-ghost use Rattle.std.specs.Prelude.{◌≡◌, ◌⊎◌, IfErr, IfOk, map, option_map, string_bytes, true};
+ghost use Rattle.std.specs.Prelude.{◌≡◌, ◌⊎◌, Err, IfErr, IfOk, IsOk, Ok, map, option_map, string_bytes, true};
 ghost use Rattle.clap.specs.Words.{found_of, rows_of};
 ghost use Rattle.cm_words.specs.Limits.{AreValues, IsBuild, IsJob};
 ghost use Rattle.cm_words.specs.Meaning.{build_of, directory_of, function_of, job_of, job_of_rows, query_of};
@@ -85,6 +85,9 @@ fn job(alloc: Global, matches: &ArgMatches<'_>) -> Result<Job, UsageFault>
     ensures fault { IfErr result (λ fault. (fault ≡ UsageFault.Memory)
         ⊎ (Err fault ≡ job_of_rows (rows_of (found_of matches.now)))) }
     ensures within { IfOk result IsJob }
+
+    // A fault that was found is never reported as out of memory.
+    ensures memory { result ≡ Err UsageFault.Memory → IsOk (job_of_rows (rows_of (found_of matches.now))) }
 {
     if flag(matches, "help") {
         return Ok(Job::Help);

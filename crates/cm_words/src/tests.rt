@@ -2,7 +2,7 @@ ghost use Rattle.std.specs.Prelude.{IfOk};
 ghost use Rattle.std.specs.Option.{ForSome};
 ghost use Rattle.cm_words.specs.Limits.{IsBuild, IsJob};
 
-use crate::{BuildJob, Job, UsageFault, millionths, read_words, whole};
+use crate::{BuildJob, Job, UsageFault, read_words};
 use cm_algorithm::Algorithm;
 use std::alloc::{AllocError, Global};
 use std::test::Fail;
@@ -148,41 +148,5 @@ fn reads_other_jobs(rt: HostRuntime) -> Result<(), Fail> {
     }
     assert!(rt; matches!(job_of(alloc, "cmph -s x -V -h"), Ok(Job::Help)));
     assert!(rt; matches!(job_of(alloc, "cmph -V"), Ok(Job::Version)));
-    Ok(())
-}
-
-#[test]
-fn reads_numbers(rt: HostRuntime) -> Result<(), Fail> {
-    for (text, number) in [
-        ("3", Some(3)),
-        ("0000000010", Some(10)),
-        ("00000000010", None),
-        ("2", None),
-        ("11", None),
-        ("4294967299", None),
-        ("", None),
-        ("+3", None),
-        ("3 ", None),
-        ("0x3", None),
-    ] {
-        assert_eq!(rt; whole(text.as_bytes(), 3, 10), number, "{text}");
-    }
-    for (text, number) in [
-        ("2.09", Some(2_090_000)),
-        ("1", Some(1_000_000)),
-        ("01.000001", Some(1_000_001)),
-        ("10.000000", Some(10_000_000)),
-        ("10.000001", None),
-        ("0.999999", None),
-        ("1.", None),
-        (".5", None),
-        ("001", None),
-        ("1.0000000", None),
-        ("1,5", None),
-        ("1.5.5", None),
-        ("", None),
-    ] {
-        assert_eq!(rt; millionths(text.as_bytes()), number, "{text}");
-    }
     Ok(())
 }

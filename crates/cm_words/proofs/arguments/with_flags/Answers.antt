@@ -3,8 +3,8 @@ use Rattle.cm_words.proofs.CommandLemmas.{along}
 use Rattle.cm_words.proofs.arguments.with_flags.Goals as goal
 
 pub returns : goal.returns
-returns c = IfOk-weaker c.with_flag-3.result _ _ (λ last is. along _ is
+returns c = IfOk-weaker c.with_option-4.result _ _ (λ last is. along _ is
     (along _ c.in_ok-command-3.ensures
     (along _ c.in_ok-command-2.ensures
     c.in_ok-command.ensures)))
-    c.with_flag-3.ensures
+    c.with_option-4.ensures

@@ -1,6 +1,6 @@
 use Rattle.std.proofs.Common.{sym, ◌∙◌}
-use Rattle.cm_words.proofs.DigitLemmas.{next_digit, no_digits, number_of-none}
-use Rattle.cm_words.proofs.numbers.digits.Goals as goal
+use Rattle.cm_numbers.proofs.DigitLemmas.{next_digit, no_digits, number_of-none}
+use Rattle.cm_numbers.proofs.numbers.digits.Goals as goal
 
 pub loop-byte-preserved : goal.loop-byte-preserved
 loop-byte-preserved c = next_digit c.args.text.now c.loop-byte.byte-index c.loop-byte.value c.loop-byte-test.true

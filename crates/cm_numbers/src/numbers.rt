@@ -1,7 +1,7 @@
 //! Numbers as command lines write them.
 ghost use Rattle.std.specs.Prelude.{◌≡◌, ◌-◌, ◌<◌, ◌≤◌, ◌^◌, ◌==◌, IfSome, length};
 ghost use Rattle.std.specs.List.{position_from};
-ghost use Rattle.cm_words.specs.Digits.{decimal_at, millionths_of, number_of, places_of, units_of, whole_of};
+ghost use Rattle.cm_numbers.specs.Digits.{decimal_at, millionths_of, number_of, places_of, units_of, whole_of};
 
 /// The number that the digits write, where they are from one to `most` digits.
 fn digits(text: &[u8], most: usize) -> Option<u64>

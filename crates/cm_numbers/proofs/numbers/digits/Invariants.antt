@@ -1,7 +1,7 @@
 use Rattle.std.proofs.Common.{◌≡◌, ◌^◌, ◌<◌, drop}
 use Rattle.std.specs.Str.{all_ascii_digits}
 use Rattle.std.specs.Str.Parse.{digits_value, digits_value_after}
-use Rattle.cm_words.proofs.numbers.digits.Given as goal
+use Rattle.cm_numbers.proofs.numbers.digits.Given as goal
 
 -- the digits still to come continue the value so far, and tell whether all are digits
 abbrev pub invariant-loop-byte : goal.invariant-loop-byte

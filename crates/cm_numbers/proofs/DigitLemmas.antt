@@ -10,7 +10,7 @@ use Rattle.std.specs.Int.{IsInRange}
 use Rattle.std.specs.Str.{all_ascii_digits}
 use Rattle.std.specs.Str.Parse.{digits_value, digits_value_after}
 use Rattle.std.specs.Prelude.{None, zero, suc}
-use Rattle.cm_words.specs.Digits.{number_of}
+use Rattle.cm_numbers.specs.Digits.{number_of}
 
 in_range : (d : ℕ) → is_ascii_digit d ≡ true → IsInRange 48 57 d
 in_range d h = search rules

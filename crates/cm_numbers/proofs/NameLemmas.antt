@@ -6,7 +6,7 @@ use Rattle.std.proofs.lemmas.Slice.Eq.{bytes_eq-Decides}
 use Rattle.cm_algorithm.specs.Names.{name_of}
 use Rattle.cm_algorithm.specs.declared.algorithm.Algorithm.{Algorithm}
 use Rattle.cm_algorithm.specs.declared.algorithm.Algorithm.TheVariants.{Chm, Bdz, BdzPh}
-use Rattle.cm_words.specs.Options.{named}
+use Rattle.cm_numbers.specs.Options.{named}
 
 not_same : (b : Bool) (P : Type 0) → Decides b P → ¬ P → b ≡ false
 not_same true P d never = absurd (never (d.0 refl))

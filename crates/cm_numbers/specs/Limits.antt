@@ -1,0 +1,35 @@
+-- The ranges of the options' values.
+use Rattle.std.specs.Prelude.{◌≢◌, ◌≤◌, ℕ, Option}
+use Rattle.std.specs.Option.{ForSome}
+use Rattle.cm_algorithm.specs.declared.algorithm.Algorithm.{Algorithm}
+use Rattle.cm_algorithm.specs.declared.algorithm.Algorithm.TheVariants.{Brz}
+
+-- a number of lines, where it is given, is at least one
+abbrev pub IsFirst : Option ℕ → Type 0
+IsFirst first = ForSome first (λ n. 1 ≤ n)
+
+-- a ratio in millionths
+abbrev pub IsRatio : ℕ → Type 0
+IsRatio c = (1000000 ≤ c) × (c ≤ 10000000)
+
+-- a sampling of ranks
+abbrev pub IsSampling : ℕ → Type 0
+IsSampling b = (3 ≤ b) × (b ≤ 10)
+
+-- how many seeds are tried
+abbrev pub IsCount : ℕ → Type 0
+IsCount seeds = (1 ≤ seeds) × (seeds ≤ 1000)
+
+-- a buffer in bytes
+abbrev pub IsBuffer : ℕ → Type 0
+IsBuffer bytes = (1048576 ≤ bytes) × (bytes ≤ 1073741824)
+
+-- The ranges of a build's numbers: the ratio in millionths, the sampling of ranks where there is one, how many seeds, the
+-- buffer in bytes, and the number of lines.
+pub record AreInRange (sampled : Type 0) (algorithm : Algorithm) (c b seeds bytes : ℕ) (lines : Option ℕ) : Type 0 where
+  pub offered : algorithm ≢ Brz
+  pub ratio : IsRatio c
+  pub sampling : sampled → IsSampling b
+  pub count : IsCount seeds
+  pub buffer : IsBuffer bytes
+  pub first : IsFirst lines

@@ -1,0 +1,7 @@
+//! Why the value of an option is refused.
+
+/// The value of the option with this letter, in ASCII, is out of form or out of its range.
+#[derive(Clone, Copy, Debug, PartialEq, Eq)]
+pub struct BadValue {
+    pub letter: u8,
+}

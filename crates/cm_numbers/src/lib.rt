@@ -1,0 +1,14 @@
+//! The values of options on a command line: numbers in their ranges and names, or the letter of the option whose value is bad.
+#![tactic(auto)]
+
+mod fault;
+mod numbers;
+mod options;
+#[cfg(test)]
+mod tests;
+
+pub use fault::BadValue;
+pub use numbers::{millionths, whole};
+pub use options::{
+    MEGABYTE, algorithm, bits, buffer, count, first, hash, number, optional, ratio, seed,
+};

@@ -1,0 +1,74 @@
+use crate::{
+    BadValue, algorithm, bits, buffer, count, first, hash, millionths, number, optional, ratio,
+    seed, whole,
+};
+use cm_algorithm::Algorithm;
+use std::test::Fail;
+
+#[test]
+fn whole_numbers(rt: HostRuntime) -> Result<(), Fail> {
+    for (text, number) in [
+        ("3", Some(3)),
+        ("0000000010", Some(10)),
+        ("00000000010", None),
+        ("2", None),
+        ("11", None),
+        ("4294967299", None),
+        ("", None),
+        ("+3", None),
+        ("3 ", None),
+        ("0x3", None),
+    ] {
+        assert_eq!(rt; whole(text.as_bytes(), 3, 10), number, "{text}");
+    }
+    Ok(())
+}
+
+#[test]
+fn decimals(rt: HostRuntime) -> Result<(), Fail> {
+    for (text, number) in [
+        ("2.09", Some(2_090_000)),
+        ("1", Some(1_000_000)),
+        ("01.000001", Some(1_000_001)),
+        ("10.000000", Some(10_000_000)),
+        ("10.000001", None),
+        ("0.999999", None),
+        ("1.", None),
+        (".5", None),
+        ("001", None),
+        ("1.0000000", None),
+        ("1,5", None),
+        ("1.5.5", None),
+        ("", None),
+    ] {
+        assert_eq!(rt; millionths(text.as_bytes()), number, "{text}");
+    }
+    Ok(())
+}
+
+#[test]
+fn values_of_options(rt: HostRuntime) -> Result<(), Fail> {
+    assert_eq!(rt; number(Some("7"), b'x', 1, 9, 5), Ok(7));
+    assert_eq!(rt;
+        number(Some("0"), b'x', 1, 9, 5),
+        Err(BadValue { letter: b'x' })
+    );
+    assert_eq!(rt; optional(None, b'x', 1, 9), Ok(None));
+    assert_eq!(rt; algorithm(Some("bdz_ph")), Ok(Algorithm::BdzPh));
+    assert_eq!(rt; algorithm(Some("brz")), Err(BadValue { letter: b'a' }));
+    assert_eq!(rt; bits(None, true, Algorithm::Bdz), Ok(7));
+    assert_eq!(rt; bits(Some("11"), false, Algorithm::Bdz), Ok(0));
+    assert_eq!(rt;
+        bits(Some("11"), true, Algorithm::Bdz),
+        Err(BadValue { letter: b'b' })
+    );
+    assert_eq!(rt; ratio(None, Algorithm::Chm), Ok(2_090_000));
+    assert_eq!(rt; ratio(Some("1.5"), Algorithm::Bdz), Ok(1_500_000));
+    assert_eq!(rt; hash(Some("jenkins")), Ok(()));
+    assert_eq!(rt; hash(Some("md5")), Err(BadValue { letter: b'f' }));
+    assert_eq!(rt; first(Some("4294967295")), Ok(Some(4_294_967_295)));
+    assert_eq!(rt; buffer(Some("1024")), Ok(1_073_741_824));
+    assert_eq!(rt; count(Some("1001")), Err(BadValue { letter: b'r' }));
+    assert_eq!(rt; seed(None), Ok(1));
+    Ok(())
+}
