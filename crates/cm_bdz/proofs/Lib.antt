@@ -1,2 +1,2 @@
 pub mod NumberingLemmas
-pub mod Ranking
+mod Ranking
