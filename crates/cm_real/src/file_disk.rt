@@ -168,7 +168,8 @@ impl<'a, R: Files> Disk for FileDisk<'a, R> {
 
     fn close(&mut self, _path: &str, writer: StdSink<R::File>) -> Result<(), Failed> {
         let mut writer = writer;
-        let sent = writer.write(&[]).is_ok();
+        // After a failed write nothing more is sent: a part of what waits may be in the file already.
+        let sent = writer.faults() == 0 && writer.write(&[]).is_ok();
         let (file, faults) = writer.into_parts();
         if sent && faults == 0 && is_synced(&file) {
             Ok(())

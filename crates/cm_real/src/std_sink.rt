@@ -45,6 +45,13 @@ impl<W: Write> StdSink<W> {
         }
     }
 
+    /// How often a write has failed.
+    pub fn faults(&self) -> u64
+        ensures faults { result ≡ ⟦<StdSink<W> as Sink>⟧.faults self.now }
+    {
+        self.faults
+    }
+
     /// The writer, and how often writing to it has failed.
     pub fn into_parts(self) -> (W, u64)
         ensures faults { result.1 ≡ ⟦<StdSink<W> as Sink>⟧.faults self }
