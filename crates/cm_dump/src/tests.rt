@@ -3,25 +3,115 @@ ghost use Rattle.std.specs.Prelude.{◌≡◌, IfOk};
 use crate::{Func, LoadFault, load, save, saved_len};
 use cm_bits::Cells;
 use cm_outer::{MemSink, MemSource};
+use cm_scheme::{Answers, answer};
 use std::alloc::{AllocError, Global};
+use std::process::Abort;
 use std::test::Fail;
 
-/// The function of the empty key: three vertices, seed 0, cells 0 0 0.
-const ONE_EMPTY: [u8; 25] = [
+/// The CHM function of the empty key: three vertices, seed 0, cells 0 0 0.
+const CHM_ONE: [u8; 25] = [
     0x43, 0x4d, 0x50, 0x48, 0x44, 0x4d, 0x50, 0x31, 1, 0, 0, 0, 1, 0, 0, 0, 0x10, 0xe4, 0x1f, 0, 0,
     0, 0, 0, 0,
 ];
 
-/// The function of the empty key and `a`: five vertices, seed 0, cells 0 0 1 0 0.
-const EMPTY_AND_A: [u8; 25] = [
+/// The CHM function of the empty key and `a`: five vertices, seed 0, cells 0 0 1 0 0.
+const CHM_TWO: [u8; 25] = [
     0x43, 0x4d, 0x50, 0x48, 0x44, 0x4d, 0x50, 0x31, 1, 0, 0, 0, 2, 0, 0, 0, 0x10, 0xe4, 0x1f, 0, 0,
     0, 0, 0, 4,
 ];
 
-/// A function of five keys with the seed 0x01020304: eleven cells of three bits, all 0.
-const FIVE: [u8; 29] = [
+/// A CHM function of five keys with the seed 0x01020304: eleven cells of three bits, all 0.
+const CHM_FIVE: [u8; 29] = [
     0x43, 0x4d, 0x50, 0x48, 0x44, 0x4d, 0x50, 0x31, 1, 0, 0, 0, 5, 0, 0, 0, 0x10, 0xe4, 0x1f, 0, 4,
     3, 2, 1, 0, 0, 0, 0, 0,
+];
+
+/// The BDZ function of the empty key: nine vertices, seed 0, cell 1 is 0 and all others are 3, and one rank.
+pub(crate) const BDZ_ONE: [u8; 31] = [
+    0x43, 0x4d, 0x50, 0x48, 0x44, 0x4d, 0x50, 0x31, 2, 7, 0, 0, 1, 0, 0, 0, 0xb0, 0xc4, 0x12, 0, 0,
+    0, 0, 0, 0xf3, 0xff, 3, 0, 0, 0, 0,
+];
+
+/// The BDZ function of the empty key and `a`.
+pub(crate) const BDZ_TWO: [u8; 31] = [
+    0x43, 0x4d, 0x50, 0x48, 0x44, 0x4d, 0x50, 0x31, 2, 7, 0, 0, 2, 0, 0, 0, 0xb0, 0xc4, 0x12, 0, 0,
+    0, 0, 0, 0xc3, 0xff, 3, 0, 0, 0, 0,
+];
+
+/// The BDZ_PH function of the empty key and `a`: nine vertices, seed 0, all cells 0.
+const PH_TWO: [u8; 26] = [
+    0x43, 0x4d, 0x50, 0x48, 0x44, 0x4d, 0x50, 0x31, 3, 0, 0, 0, 2, 0, 0, 0, 0xb0, 0xc4, 0x12, 0, 0,
+    0, 0, 0, 0, 0,
+];
+
+/// What a byte more or another one makes of `CHM_ONE`: rows of `check_changes`.
+const CHM_CHANGES: [(usize, usize, u8, LoadFault); 17] = [
+    (25, 0, b'c', LoadFault::BadMagic),
+    (25, 7, b'2', LoadFault::BadMagic),
+    (25, 8, 0, LoadFault::BadAlgorithm),
+    (25, 8, 2, LoadFault::BadField { at: 9 }),
+    (25, 8, 3, LoadFault::Truncated { at: 25 }),
+    (25, 8, 4, LoadFault::BadAlgorithm),
+    (25, 8, 5, LoadFault::BadAlgorithm),
+    (25, 9, 2, LoadFault::BadField { at: 9 }),
+    (25, 10, 1, LoadFault::BadField { at: 10 }),
+    (25, 11, 1, LoadFault::BadField { at: 11 }),
+    // No key, and one more than may be.
+    (25, 12, 0, LoadFault::BadField { at: 12 }),
+    (25, 15, 1, LoadFault::BadField { at: 12 }),
+    // A ratio below 1, and one above 10.
+    (25, 18, 0, LoadFault::BadField { at: 16 }),
+    (25, 19, 1, LoadFault::BadField { at: 16 }),
+    (25, 24, 1, LoadFault::BadCell { at: 24 }),
+    (25, 24, 8, LoadFault::BadPadding { at: 24 }),
+    (25, 24, 9, LoadFault::BadCell { at: 24 }),
+];
+
+/// The same of `BDZ_ONE`.
+const BDZ_CHANGES: [(usize, usize, u8, LoadFault); 23] = [
+    (31, 8, 0, LoadFault::BadAlgorithm),
+    (31, 8, 1, LoadFault::BadField { at: 9 }),
+    (31, 8, 3, LoadFault::BadField { at: 9 }),
+    (31, 8, 4, LoadFault::BadAlgorithm),
+    (31, 8, 5, LoadFault::BadAlgorithm),
+    (31, 9, 2, LoadFault::BadField { at: 9 }),
+    (31, 9, 11, LoadFault::BadField { at: 9 }),
+    (31, 10, 1, LoadFault::BadField { at: 10 }),
+    (31, 11, 1, LoadFault::BadField { at: 11 }),
+    (31, 12, 0, LoadFault::BadField { at: 12 }),
+    (31, 15, 1, LoadFault::BadField { at: 12 }),
+    (31, 18, 0, LoadFault::BadField { at: 16 }),
+    (31, 19, 1, LoadFault::BadField { at: 16 }),
+    // One key more than there are cells that aren't 3, and then one such cell more, or one less.
+    (31, 12, 2, LoadFault::BadCount { at: 24 }),
+    (31, 24, 0xf0, LoadFault::BadCount { at: 24 }),
+    (31, 25, 0xfc, LoadFault::BadCount { at: 24 }),
+    (31, 26, 0, LoadFault::BadCount { at: 24 }),
+    (31, 24, 0xff, LoadFault::BadCount { at: 24 }),
+    (31, 26, 7, LoadFault::BadPadding { at: 26 }),
+    (31, 26, 0x83, LoadFault::BadPadding { at: 26 }),
+    (31, 27, 1, LoadFault::BadRank { at: 27 }),
+    (31, 28, 1, LoadFault::BadRank { at: 27 }),
+    (31, 30, 1, LoadFault::BadRank { at: 27 }),
+];
+
+/// The same of `PH_TWO`.
+const PH_CHANGES: [(usize, usize, u8, LoadFault); 15] = [
+    (26, 8, 1, LoadFault::Trailing),
+    (26, 8, 2, LoadFault::BadField { at: 9 }),
+    (26, 8, 4, LoadFault::BadAlgorithm),
+    (26, 9, 1, LoadFault::BadField { at: 9 }),
+    (26, 9, 7, LoadFault::BadField { at: 9 }),
+    (26, 10, 1, LoadFault::BadField { at: 10 }),
+    (26, 11, 1, LoadFault::BadField { at: 11 }),
+    (26, 12, 0, LoadFault::BadField { at: 12 }),
+    (26, 15, 1, LoadFault::BadField { at: 12 }),
+    (26, 18, 0, LoadFault::BadField { at: 16 }),
+    (26, 19, 1, LoadFault::BadField { at: 16 }),
+    (26, 24, 243, LoadFault::BadCell { at: 24 }),
+    (26, 25, 255, LoadFault::BadCell { at: 25 }),
+    (26, 25, 81, LoadFault::BadPadding { at: 25 }),
+    (27, 25, 0, LoadFault::Trailing),
 ];
 
 /// A source of these bytes, whose listed reads fail.
@@ -44,18 +134,18 @@ pub(crate) fn fault_of(
     }
 }
 
-/// The first `len` of the bytes, or zeros after them, with two of them changed.
+/// The first `len` of the bytes, or zeros after them, with some of them changed.
 pub(crate) fn changed(
     alloc: Global,
     bytes: &[u8],
     len: usize,
-    changes: [(usize, u8); 2],
+    changes: &[(usize, u8)],
 ) -> Result<Vec<u8>, AllocError> {
     let mut all = bytes.to_vec(alloc)?;
     all.resize(len, 0)?;
     for (at, byte) in changes {
-        if let Some(b) = all.get_mut(at) {
-            *b = byte;
+        if let Some(b) = all.get_mut(*at) {
+            *b = *byte;
         }
     }
     Ok(all)
@@ -72,10 +162,34 @@ pub(crate) fn is_saved_again(alloc: Global, bytes: &[u8]) -> Result<bool, AllocE
     Ok(is_saved && out.bytes() == bytes && saved_len(&function) == bytes.len() as u64)
 }
 
+/// Compares the faults of a dump of which so many bytes are there, and one is changed: its length, the place, the byte and the
+/// fault of each row.
+fn check_changes(
+    rt: &impl Abort,
+    alloc: Global,
+    dump: &[u8],
+    rows: &[(usize, usize, u8, LoadFault)],
+) -> Result<(), AllocError> {
+    for (len, at, byte, fault) in rows {
+        let bytes = changed(alloc, dump, *len, &[(*at, *byte)])?;
+        assert_eq!(rt;
+            fault_of(alloc, &bytes, &[])?,
+            Some(*fault),
+            "{byte} at {at}"
+        );
+    }
+    Ok(())
+}
+
+/// What the answers of a function are below.
+fn span<A: Answers>(function: &A) -> u32 {
+    function.span()
+}
+
 #[test]
 fn functions(rt: HostRuntime) -> Result<(), Fail> {
     let alloc = rt.alloc();
-    let mut source = source_of(alloc, &EMPTY_AND_A, &[])?;
+    let mut source = source_of(alloc, &CHM_TWO, &[])?;
     match load(alloc, &mut source) {
         Ok(Func::Chm(chm)) => {
             assert_eq!(rt; (chm.keys(), chm.c(), chm.seed()), (2, 2_090_000, 0));
@@ -88,50 +202,60 @@ fn functions(rt: HostRuntime) -> Result<(), Fail> {
         Ok(_other) => assert!(rt; false),
         Err(fault) => assert!(rt; false, "{fault}"),
     }
-    let mut source = source_of(alloc, &FIVE, &[])?;
+    let mut source = source_of(alloc, &CHM_FIVE, &[])?;
     match load(alloc, &mut source) {
         Ok(Func::Chm(chm)) => assert_eq!(rt; chm.seed(), 0x0102_0304),
         Ok(_other) => assert!(rt; false),
         Err(fault) => assert!(rt; false, "{fault}"),
     }
-    assert!(rt; is_saved_again(alloc, &ONE_EMPTY)?);
-    assert!(rt; is_saved_again(alloc, &EMPTY_AND_A)?);
-    assert!(rt; is_saved_again(alloc, &FIVE)?);
+    Ok(())
+}
+
+#[test]
+fn saved_again(rt: HostRuntime) -> Result<(), Fail> {
+    let dumps = [
+        CHM_ONE.as_slice(),
+        CHM_TWO.as_slice(),
+        CHM_FIVE.as_slice(),
+        BDZ_ONE.as_slice(),
+        BDZ_TWO.as_slice(),
+        PH_TWO.as_slice(),
+    ];
+    for dump in dumps {
+        assert!(rt; is_saved_again(rt.alloc(), dump)?);
+    }
+    Ok(())
+}
+
+#[test]
+fn answers(rt: HostRuntime) -> Result<(), Fail> {
+    let rows = [
+        (CHM_TWO.as_slice(), 2, 0, 1),
+        (BDZ_TWO.as_slice(), 2, 0, 1),
+        (PH_TWO.as_slice(), 9, 1, 2),
+    ];
+    for (dump, below, first, second) in rows {
+        let mut source = source_of(rt.alloc(), dump, &[])?;
+        match load(rt.alloc(), &mut source) {
+            Ok(function) => {
+                assert_eq!(rt; span(&function), below);
+                assert_eq!(rt; answer(&function, b""), Some(first));
+                assert_eq!(rt; answer(&function, b"a"), Some(second));
+            }
+            Err(fault) => assert!(rt; false, "{fault}"),
+        }
+    }
     Ok(())
 }
 
 #[test]
 fn changed_bytes(rt: HostRuntime) -> Result<(), Fail> {
-    let alloc = rt.alloc();
-    let changes = [
-        (0, b'c', LoadFault::BadMagic),
-        (7, b'2', LoadFault::BadMagic),
-        (8, 0, LoadFault::BadAlgorithm),
-        (8, 2, LoadFault::BadField { at: 9 }),
-        (8, 3, LoadFault::Truncated { at: 25 }),
-        (8, 4, LoadFault::BadAlgorithm),
-        (8, 5, LoadFault::BadAlgorithm),
-        (9, 2, LoadFault::BadField { at: 9 }),
-        (10, 1, LoadFault::BadField { at: 10 }),
-        (11, 1, LoadFault::BadField { at: 11 }),
-        // No key, and one more than may be.
-        (12, 0, LoadFault::BadField { at: 12 }),
-        (15, 1, LoadFault::BadField { at: 12 }),
-        // A ratio below 1, and one above 10.
-        (18, 0, LoadFault::BadField { at: 16 }),
-        (19, 1, LoadFault::BadField { at: 16 }),
-        (24, 1, LoadFault::BadCell { at: 24 }),
-        (24, 8, LoadFault::BadPadding { at: 24 }),
-        (24, 9, LoadFault::BadCell { at: 24 }),
-    ];
-    for (at, byte, fault) in changes {
-        let bytes = changed(alloc, &ONE_EMPTY, 25, [(at, byte), (at, byte)])?;
-        assert_eq!(rt;
-            fault_of(alloc, &bytes, &[])?,
-            Some(fault),
-            "{byte} at {at}"
-        );
-    }
+    check_changes(&rt, rt.alloc(), &CHM_ONE, &CHM_CHANGES)?;
+    check_changes(&rt, rt.alloc(), &BDZ_ONE, &BDZ_CHANGES)?;
+    check_changes(&rt, rt.alloc(), &PH_TWO, &PH_CHANGES)?;
+    // The greatest byte of five digits, and the greatest of four.
+    let full = changed(rt.alloc(), &PH_TWO, 26, &[(24, 242), (25, 80)])?;
+    assert!(rt; is_saved_again(rt.alloc(), &full)?);
     Ok(())
 }
 
@@ -155,7 +279,7 @@ fn images(rt: HostRuntime) -> Result<(), Fail> {
         (30, [(25, 0), (26, 0)], LoadFault::Trailing),
     ];
     for (len, two, fault) in changes {
-        let bytes = changed(alloc, &FIVE, len, two)?;
+        let bytes = changed(alloc, &CHM_FIVE, len, &two)?;
         assert_eq!(rt; fault_of(alloc, &bytes, &[])?, Some(fault));
     }
     Ok(())
@@ -164,30 +288,44 @@ fn images(rt: HostRuntime) -> Result<(), Fail> {
 #[test]
 fn lengths(rt: HostRuntime) -> Result<(), Fail> {
     let alloc = rt.alloc();
-    for n in 0..25usize {
-        let fault = fault_of(alloc, &ONE_EMPTY[..n], &[])?;
-        assert_eq!(rt; fault, Some(LoadFault::Truncated { at: n as u64 }));
+    for dump in [CHM_ONE.as_slice(), BDZ_ONE.as_slice(), PH_TWO.as_slice()] {
+        for n in 0..dump.len() {
+            let fault = fault_of(alloc, &dump[..n], &[])?;
+            assert_eq!(rt; fault, Some(LoadFault::Truncated { at: n as u64 }));
+        }
+        let longer = changed(alloc, dump, dump.len() + 1, &[])?;
+        assert_eq!(rt; fault_of(alloc, &longer, &[])?, Some(LoadFault::Trailing));
     }
-    let longer = changed(alloc, &ONE_EMPTY, 26, [(24, 0), (25, 0)])?;
-    assert_eq!(rt; fault_of(alloc, &longer, &[])?, Some(LoadFault::Trailing));
-    // A header that claims an image of half a gigabyte, of which one byte is there.
-    let claim = changed(alloc, &ONE_EMPTY, 25, [(14, 255), (18, 0x97)])?;
-    assert_eq!(rt;
-        fault_of(alloc, &claim, &[])?,
-        Some(LoadFault::Truncated { at: 25 })
-    );
+    // Headers that claim images of half a gigabyte and of 16,777,216 keys, of which a few bytes are there.
+    let claims = [
+        (CHM_ONE.as_slice(), 25, [(14, 255), (18, 0x97)]),
+        (BDZ_ONE.as_slice(), 30, [(12, 0), (15, 1)]),
+        (PH_TWO.as_slice(), 30, [(12, 0), (15, 1)]),
+    ];
+    for (dump, len, changes) in claims {
+        let claim = changed(alloc, dump, len, &changes)?;
+        let fault = Some(LoadFault::Truncated { at: len as u64 });
+        assert_eq!(rt; fault_of(alloc, &claim, &[])?, fault);
+    }
     Ok(())
 }
 
 #[test]
-fn failing_sources(rt: HostRuntime) -> Result<(), Fail> {
+fn failing_reads(rt: HostRuntime) -> Result<(), Fail> {
     let alloc = rt.alloc();
-    // Each item is one read here: eight of the header, the image, and the end.
-    for read in 0..10u64 {
-        let fault = fault_of(alloc, &ONE_EMPTY, &[read])?;
-        assert_eq!(rt; fault, Some(LoadFault::Read), "read {read}");
+    // Each item is one read here: eight of the header, the image, the ranks of BDZ, and the end.
+    let rows = [
+        (CHM_ONE.as_slice(), 10),
+        (BDZ_ONE.as_slice(), 11),
+        (PH_TWO.as_slice(), 10),
+    ];
+    for (dump, reads) in rows {
+        for read in 0..reads {
+            let fault = fault_of(alloc, dump, &[read])?;
+            assert_eq!(rt; fault, Some(LoadFault::Read), "read {read}");
+        }
+        assert_eq!(rt; fault_of(alloc, dump, &[reads])?, None);
     }
-    assert_eq!(rt; fault_of(alloc, &ONE_EMPTY, &[10])?, None);
     Ok(())
 }
 
@@ -195,13 +333,13 @@ fn failing_sources(rt: HostRuntime) -> Result<(), Fail> {
 fn long_images(rt: HostRuntime) -> Result<(), Fail> {
     let alloc = rt.alloc();
     // 65,536 keys, and so 136,971 cells of sixteen bits.
-    let mut bytes = changed(alloc, &ONE_EMPTY, 24, [(12, 0), (14, 1)])?;
+    let mut bytes = changed(alloc, &CHM_ONE, 24, &[(12, 0), (14, 1)])?;
     for i in 0..273_942u32 {
         bytes.push((i % 251) as u8)?;
     }
     assert!(rt; is_saved_again(alloc, &bytes)?);
     assert_eq!(rt; fault_of(alloc, &bytes, &[40])?, Some(LoadFault::Read));
-    let cut = changed(alloc, &bytes, 100_000, [(24, 0), (25, 0)])?;
+    let cut = changed(alloc, &bytes, 100_000, &[])?;
     assert_eq!(rt;
         fault_of(alloc, &cut, &[])?,
         Some(LoadFault::Truncated { at: 100_000 })
