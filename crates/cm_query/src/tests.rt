@@ -127,6 +127,27 @@ struct Case<'a> {
     err: &'a [u8],
 }
 
+impl<'a> Case<'a> {
+    /// Keys that end with this fault, or with none, over sinks with ample room.
+    fn new(
+        keys: &'a [&'a [u8]],
+        fault: Option<KeyFault>,
+        answer: Result<Tally, QueryFault>,
+        out: &'a [u8],
+        err: &'a [u8],
+    ) -> Case<'a> {
+        Case {
+            keys,
+            fault,
+            out_room: 1000,
+            err_room: 1000,
+            answer,
+            out,
+            err,
+        }
+    }
+}
+
 /// Checks a case with no key at hand after another, and with some and all.
 fn check(rt: &impl Abort, alloc: Global, case: &Case) -> Result<(), AllocError> {
     for at_hand in [0, 1, 2, 1000] {
@@ -180,43 +201,34 @@ fn worked_queries(rt: HostRuntime) -> Result<(), Fail> {
     worked_rows();
     noted_exactly();
     front_of_text();
+    let repeated = b"cmph: line 2: value 0 is repeated\n".as_slice();
+    let notes = b"cmph: line 3: key is unknown\ncmph: line 4: value 2 is repeated\n".as_slice();
+    let mut nothing = Case::new(&[], None, answered(0, 0, 0), b"", b"");
+    nothing.out_room = 0;
+    nothing.err_room = 0;
     let cases = [
-        Case {
-            keys: &[b"", b"a"],
-            fault: None,
-            out_room: 100,
-            err_room: 100,
-            answer: answered(2, 0, 0),
-            out: b" -> 0\na -> 1\n",
-            err: b"",
-        },
-        Case {
-            keys: &[b"", b""],
-            fault: None,
-            out_room: 100,
-            err_room: 100,
-            answer: answered(2, 1, 0),
-            out: b" -> 0\n -> 0\n",
-            err: b"cmph: line 2: value 0 is repeated\n",
-        },
-        Case {
-            keys: &[b"ab", b"c", b"none", b"de", b"fgh"],
-            fault: None,
-            out_room: 100,
-            err_room: 100,
-            answer: answered(5, 1, 1),
-            out: b"ab -> 2\nc -> 1\nde -> 2\nfgh -> 3\n",
-            err: b"cmph: line 3: key is unknown\ncmph: line 4: value 2 is repeated\n",
-        },
-        Case {
-            keys: &[],
-            fault: None,
-            out_room: 0,
-            err_room: 0,
-            answer: answered(0, 0, 0),
-            out: b"",
-            err: b"",
-        },
+        Case::new(
+            &[b"", b"a"],
+            None,
+            answered(2, 0, 0),
+            b" -> 0\na -> 1\n",
+            b"",
+        ),
+        Case::new(
+            &[b"", b""],
+            None,
+            answered(2, 1, 0),
+            b" -> 0\n -> 0\n",
+            repeated,
+        ),
+        Case::new(
+            &[b"ab", b"c", b"none", b"de", b"fgh"],
+            None,
+            answered(5, 1, 1),
+            b"ab -> 2\nc -> 1\nde -> 2\nfgh -> 3\n",
+            notes,
+        ),
+        nothing,
     ];
     for case in &cases {
         check(&rt, rt.alloc(), case)?;
@@ -226,45 +238,43 @@ fn worked_queries(rt: HostRuntime) -> Result<(), Fail> {
 
 #[test]
 fn refusals_in_mid_stream(rt: HostRuntime) -> Result<(), Fail> {
+    let long = KeyFault::TooLong { line: 3 };
+    let unknown = b"cmph: line 2: key is unknown\n".as_slice();
+    // The room for out ends inside the line of a repeated key.
+    let mut out_full = Case::new(
+        &[b"", b"", b"none"],
+        None,
+        Err(QueryFault::Write),
+        b" -> 0\n ->",
+        b"",
+    );
+    out_full.out_room = 9;
+    // A note that fails stops no answer.
+    let mut err_full = Case::new(
+        &[b"none", b"", b""],
+        None,
+        answered(3, 1, 1),
+        b" -> 0\n -> 0\n",
+        b"cmph: line ",
+    );
+    err_full.err_room = 11;
     let cases = [
-        Case {
-            keys: &[b"ab", b"none"],
-            fault: Some(KeyFault::TooLong { line: 3 }),
-            out_room: 100,
-            err_room: 100,
-            answer: Err(QueryFault::Key(KeyFault::TooLong { line: 3 })),
-            out: b"ab -> 2\n",
-            err: b"cmph: line 2: key is unknown\n",
-        },
-        Case {
-            keys: &[b"ab"],
-            fault: Some(KeyFault::Read),
-            out_room: 100,
-            err_room: 100,
-            answer: Err(QueryFault::Key(KeyFault::Read)),
-            out: b"ab -> 2\n",
-            err: b"",
-        },
-        // The room for out ends inside the line of a repeated key.
-        Case {
-            keys: &[b"", b"", b"none"],
-            fault: None,
-            out_room: 9,
-            err_room: 100,
-            answer: Err(QueryFault::Write),
-            out: b" -> 0\n ->",
-            err: b"",
-        },
-        // A note that fails stops no answer.
-        Case {
-            keys: &[b"none", b"", b""],
-            fault: None,
-            out_room: 100,
-            err_room: 11,
-            answer: answered(3, 1, 1),
-            out: b" -> 0\n -> 0\n",
-            err: b"cmph: line ",
-        },
+        Case::new(
+            &[b"ab", b"none"],
+            Some(long),
+            Err(QueryFault::Key(long)),
+            b"ab -> 2\n",
+            unknown,
+        ),
+        Case::new(
+            &[b"ab"],
+            Some(KeyFault::Read),
+            Err(QueryFault::Key(KeyFault::Read)),
+            b"ab -> 2\n",
+            b"",
+        ),
+        out_full,
+        err_full,
     ];
     for case in &cases {
         check(&rt, rt.alloc(), case)?;
@@ -277,15 +287,14 @@ fn writes_that_fail_anywhere(rt: HostRuntime) -> Result<(), Fail> {
     let text = b"ab -> 2\n -> 0\nc -> 1\n".as_slice();
     let rooms = [0, 3, 7, 8, 12, 14, 20];
     for room in rooms {
-        let case = Case {
-            keys: &[b"ab", b"", b"c"],
-            fault: Some(KeyFault::TooMany),
-            out_room: room,
-            err_room: 100,
-            answer: Err(QueryFault::Write),
-            out: &text[..room],
-            err: b"",
-        };
+        let mut case = Case::new(
+            &[b"ab", b"", b"c"],
+            Some(KeyFault::TooMany),
+            Err(QueryFault::Write),
+            &text[..room],
+            b"",
+        );
+        case.out_room = room;
         check(&rt, rt.alloc(), &case)?;
     }
     Ok(())
@@ -299,15 +308,8 @@ fn more_keys_than_are_taken_together(rt: HostRuntime) -> Result<(), Fail> {
     for _ in 0..70 {
         text.extend_from_slice(b"ab -> 2\n")?;
     }
-    let mut case = Case {
-        keys: &keys,
-        fault: None,
-        out_room: 560,
-        err_room: 0,
-        answer: answered(70, 69, 0),
-        out: &text,
-        err: b"",
-    };
+    let mut case = Case::new(&keys, None, answered(70, 69, 0), &text, b"");
+    case.err_room = 0;
     check(&rt, alloc, &case)?;
     case.fault = Some(KeyFault::Read);
     case.answer = Err(QueryFault::Key(KeyFault::Read));
@@ -319,15 +321,22 @@ fn more_keys_than_are_taken_together(rt: HostRuntime) -> Result<(), Fail> {
 fn long_keys_between_short_ones(rt: HostRuntime) -> Result<(), Fail> {
     let alloc = rt.alloc();
     let long = vec![in alloc; b'x'; MAX_KEY_LEN]?;
-    let case = Case {
-        keys: &[b"a", &long, b"bc", &long, &long, b"d", b""],
-        fault: None,
-        out_room: 100,
-        err_room: 200,
-        answer: answered(7, 1, 3),
-        out: b"a -> 1\nbc -> 2\nd -> 1\n -> 0\n",
-        err: b"cmph: line 2: key is unknown\ncmph: line 4: key is unknown\ncmph: line 5: key is unknown\ncmph: line 6: value 1 is repeated\n",
-    };
+    let keys = [
+        b"a".as_slice(),
+        &long,
+        b"bc".as_slice(),
+        &long,
+        &long,
+        b"d".as_slice(),
+        b"".as_slice(),
+    ];
+    let case = Case::new(
+        &keys,
+        None,
+        answered(7, 1, 3),
+        b"a -> 1\nbc -> 2\nd -> 1\n -> 0\n",
+        b"cmph: line 2: key is unknown\ncmph: line 4: key is unknown\ncmph: line 5: key is unknown\ncmph: line 6: value 1 is repeated\n",
+    );
     check(&rt, alloc, &case)?;
     Ok(())
 }
