@@ -1,9 +1,5 @@
 //! Whole commands over a disk in memory.
-use crate::run;
-use crate::tests::{EMPTY_AND_A, ONE_EMPTY};
-use cm_outer::{MemDisk, MemSink};
-use std::alloc::{AllocError, Global};
-use std::process::Abort;
+use crate::tests::{Case, EMPTY_AND_A, ONE_EMPTY, changed, check_all};
 use std::test::Fail;
 
 /// The BDZ function of the empty key: nine vertices, of which the second is its own, and one rank.
@@ -65,92 +61,6 @@ const QUERY_FIRST: &[&str] = &["cmph", "-k", "1", "keys"];
 
 const QUERY_NAMED: &[&str] = &["cmph", "-k", "4294967295", "-m", "keys.mph", "keys"];
 
-/// A command over a keys file and perhaps a function file, and what it answers, writes and leaves.
-#[derive(Drop)]
-struct Case<'a> {
-    words: &'a [&'a str],
-    keys: &'a [u8],
-    dump: Option<&'a [u8]>,
-    status: u8,
-    out: &'a [u8],
-    err: &'a str,
-    path: &'a str,
-    file: Option<&'a [u8]>,
-}
-
-impl<'a> Case<'a> {
-    /// A build that is done, with what it says, and the function file.
-    fn build(words: &'a [&'a str], keys: &'a [u8], err: &'a str, file: &'a [u8]) -> Case<'a> {
-        Case {
-            words,
-            keys,
-            dump: None,
-            status: 0,
-            out: b"",
-            err,
-            path: "keys.mph",
-            file: Some(file),
-        }
-    }
-
-    /// A query of `keys` by this function file.
-    fn query(
-        words: &'a [&'a str],
-        keys: &'a [u8],
-        dump: &'a [u8],
-        status: u8,
-        out: &'a [u8],
-        err: &'a str,
-    ) -> Case<'a> {
-        Case {
-            words,
-            keys,
-            dump: Some(dump),
-            status,
-            out,
-            err,
-            path: "keys.mph",
-            file: Some(dump),
-        }
-    }
-
-    /// Words that do nothing to files, over keys that a build by CHM needs a second seed for.
-    fn words(words: &'a [&'a str], status: u8, out: &'a [u8], err: &'a str) -> Case<'a> {
-        Case {
-            words,
-            keys: b"a\nb\n",
-            dump: None,
-            status,
-            out,
-            err,
-            path: "keys.mph",
-            file: None,
-        }
-    }
-}
-
-/// Runs a command, and compares all that is left.
-fn check(rt: &impl Abort, alloc: Global, case: &Case) -> Result<(), AllocError> {
-    let mut disk = MemDisk::new(alloc, 1_000_000);
-    disk.put("keys", case.keys)?;
-    if let Some(bytes) = case.dump {
-        disk.put("keys.mph", bytes)?;
-    }
-    let mut words = Vec::new(alloc);
-    for word in case.words {
-        words.push(String::from_str(alloc, *word)?)?;
-    }
-    let mut out = MemSink::new(alloc, 1_000_000, Vec::new(alloc))?;
-    let mut err = MemSink::new(alloc, 1_000_000, Vec::new(alloc))?;
-    let status = run(alloc, &words, &mut disk, &mut out, &mut err);
-    assert_eq!(rt; err.bytes(), case.err.as_bytes());
-    assert_eq!(rt; status, case.status);
-    assert_eq!(rt; out.bytes(), case.out);
-    assert_eq!(rt; disk.get("keys"), Some(case.keys));
-    assert_eq!(rt; disk.get(case.path), case.file);
-    Ok(())
-}
-
 #[test]
 fn algorithms(rt: HostRuntime) -> Result<(), Fail> {
     let cases = [
@@ -159,9 +69,7 @@ fn algorithms(rt: HostRuntime) -> Result<(), Fail> {
         Case::build(BDZ_PH, b"\na\n", "", &BDZ_PH_TWO),
         Case::build(CHM, b"\na\n", "", &EMPTY_AND_A),
     ];
-    for case in &cases {
-        check(&rt, rt.alloc(), case)?;
-    }
+    check_all(&rt, rt.alloc(), &cases)?;
     Ok(())
 }
 
@@ -182,29 +90,13 @@ fn queries(rt: HostRuntime) -> Result<(), Fail> {
             "",
         ),
     ];
-    for case in &cases {
-        check(&rt, rt.alloc(), case)?;
-    }
+    check_all(&rt, rt.alloc(), &cases)?;
     Ok(())
-}
-
-/// The BDZ function of the empty key, of so many bytes, with other bytes at two places.
-fn changed(alloc: Global, len: usize, changes: [(usize, u8); 2]) -> Result<Vec<u8>, AllocError> {
-    let mut bytes = Vec::new(alloc);
-    for i in 0..len {
-        let mut byte = if i < BDZ_ONE.len() { BDZ_ONE[i] } else { 0 };
-        for (at, other) in changes {
-            if i == at {
-                byte = other;
-            }
-        }
-        bytes.push(byte)?;
-    }
-    Ok(bytes)
 }
 
 #[test]
 fn damaged_functions(rt: HostRuntime) -> Result<(), Fail> {
+    let alloc = rt.alloc();
     let same = (99, 0);
     let rows = [
         (30, [same, same], "truncated at 30"),
@@ -221,13 +113,9 @@ fn damaged_functions(rt: HostRuntime) -> Result<(), Fail> {
         (31, [(24, 0xf0), (26, 7)], "bad padding at 26"),
     ];
     for (len, changes, fault) in rows {
-        let dump = changed(rt.alloc(), len, changes)?;
-        let err = format!(in rt.alloc(); "cmph: keys.mph: bad dump: {fault}\n")?;
-        check(
-            &rt,
-            rt.alloc(),
-            &Case::query(QUERY, b"\n", &dump, 3, b"", err.as_str()),
-        )?;
+        let dump = changed(alloc, &BDZ_ONE, len, &changes)?;
+        let err = format!(in alloc; "cmph: keys.mph: bad dump: {fault}\n")?;
+        Case::query(QUERY, b"\n", &dump, 3, b"", err.as_str()).check(&rt, alloc)?;
     }
     Ok(())
 }
@@ -250,32 +138,24 @@ fn options(rt: HostRuntime) -> Result<(), Fail> {
             "cmph: bdz_ph keys 2 cells 9 seed 0\n",
             &BDZ_PH_TWO,
         ),
-        Case::words(
+        // Keys that a build by CHM needs a second seed for.
+        Case::refused(
             ONE_SEED,
+            b"a\nb\n",
             1,
-            b"",
             "cmph: no seed of the list gives an empty core\n",
         ),
     ];
-    for case in &cases {
-        check(&rt, rt.alloc(), case)?;
-    }
+    check_all(&rt, rt.alloc(), &cases)?;
     Ok(())
 }
 
 #[test]
 fn named_function_file(rt: HostRuntime) -> Result<(), Fail> {
-    let case = Case {
-        words: NAMED,
-        keys: b"\na\n",
-        dump: None,
-        status: 0,
-        out: b"",
-        err: "cmph: chm keys 2 cells 5 seed 0\n",
-        path: "f",
-        file: Some(&EMPTY_AND_A),
-    };
-    check(&rt, rt.alloc(), &case)?;
+    let said = "cmph: chm keys 2 cells 5 seed 0\n";
+    let mut case = Case::build(NAMED, b"\na\n", said, &EMPTY_AND_A);
+    case.path = "f";
+    case.check(&rt, rt.alloc())?;
     Ok(())
 }
 
@@ -303,7 +183,7 @@ fn refused_words(rt: HostRuntime) -> Result<(), Fail> {
         (&["cmph", "-k", "0", "keys"], "cmph: bad value of -k\n"),
     ];
     for (words, err) in rows {
-        check(&rt, rt.alloc(), &Case::words(words, 2, b"", err))?;
+        Case::refused(words, b"a\nb\n", 2, err).check(&rt, rt.alloc())?;
     }
     Ok(())
 }
@@ -312,38 +192,13 @@ fn refused_words(rt: HostRuntime) -> Result<(), Fail> {
 fn texts(rt: HostRuntime) -> Result<(), Fail> {
     let help =
         "usage: cmph [-v] [-h] [-V] [-k nkeys] [-f hash] [-g [-c c] [-s seed] [-r seeds]] [-a algorithm] [-M MB] [-b b] [-d dir] [-m file.mph] keysfile\n       cmph -T nkeys [-s seed] [-r seeds] [-M MB] [-d dir]\nalgorithms: chm bdz bdz_ph brz\nhash functions: jenkins\n";
-    check(
-        &rt,
-        rt.alloc(),
-        &Case::words(&["cmph", "-h"], 0, help.as_bytes(), ""),
-    )?;
-    check(
-        &rt,
-        rt.alloc(),
-        &Case::words(&["cmph", "-V"], 0, b"cmph 1\n", ""),
-    )?;
-    check(
-        &rt,
-        rt.alloc(),
-        &Case::words(&["cmph", "-Vhg"], 0, help.as_bytes(), ""),
-    )?;
-    Ok(())
-}
-
-#[test]
-fn text_on_a_full_device(rt: HostRuntime) -> Result<(), Fail> {
-    let alloc = rt.alloc();
-    let mut words = Vec::new(alloc);
-    words.push(String::from_str(alloc, "cmph")?)?;
-    words.push(String::from_str(alloc, "-V")?)?;
-    let mut disk = MemDisk::new(alloc, 10);
-    let mut out = MemSink::new(alloc, 3, Vec::new(alloc))?;
-    let mut err = MemSink::new(alloc, 100, Vec::new(alloc))?;
-    assert_eq!(rt; run(alloc, &words, &mut disk, &mut out, &mut err), 5);
-    assert_eq!(rt; out.bytes(), b"cmp".as_slice());
-    assert_eq!(rt;
-        err.bytes(),
-        b"cmph: cannot write standard output\n".as_slice()
-    );
+    let rows: [(&[&str], &str); 3] = [
+        (&["cmph", "-h"], help),
+        (&["cmph", "-V"], "cmph 1\n"),
+        (&["cmph", "-Vhg"], help),
+    ];
+    for (words, text) in rows {
+        Case::new(words, b"a\nb\n", 0, text.as_bytes(), "").check(&rt, rt.alloc())?;
+    }
     Ok(())
 }

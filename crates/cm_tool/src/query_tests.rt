@@ -1,86 +1,29 @@
-use crate::run;
-use crate::tests::{EMPTY_AND_A, ONE_EMPTY};
-use cm_outer::{MemDisk, MemSink};
-use std::alloc::{AllocError, Global};
-use std::process::Abort;
+use crate::tests::{Case, EMPTY_AND_A, ONE_EMPTY, changed, check_all};
 use std::test::Fail;
 
-/// A query of `keys` over a disk with these files, where out and err have so much room, and what it has to answer and to write.
-#[derive(Drop)]
-struct Case<'a> {
-    keys: Option<&'a [u8]>,
-    dump: Option<&'a [u8]>,
-    out_room: usize,
-    err_room: usize,
-    status: u8,
-    out: &'a [u8],
-    err: &'a str,
-}
-
-impl<'a> Case<'a> {
-    /// Both files are there, and the sinks have ample room.
-    fn new(keys: &'a [u8], dump: &'a [u8], status: u8, out: &'a [u8], err: &'a str) -> Case<'a> {
-        Case {
-            keys: Some(keys),
-            dump: Some(dump),
-            out_room: 1_000_000,
-            err_room: 1_000_000,
-            status,
-            out,
-            err,
-        }
-    }
-}
-
-/// Queries, and compares all that is left.
-fn check(rt: &impl Abort, alloc: Global, case: &Case) -> Result<(), AllocError> {
-    let mut disk = MemDisk::new(alloc, 1_000_000);
-    if let Some(bytes) = case.keys {
-        disk.put("keys", bytes)?;
-    }
-    if let Some(bytes) = case.dump {
-        disk.put("keys.mph", bytes)?;
-    }
-    let mut words = Vec::new(alloc);
-    words.push(String::from_str(alloc, "cmph")?)?;
-    words.push(String::from_str(alloc, "keys")?)?;
-    let mut out = MemSink::new(alloc, case.out_room, Vec::new(alloc))?;
-    let mut err = MemSink::new(alloc, case.err_room, Vec::new(alloc))?;
-    let status = run(alloc, &words, &mut disk, &mut out, &mut err);
-    assert_eq!(rt; status, case.status);
-    assert_eq!(rt; out.bytes(), case.out);
-    assert_eq!(rt; err.bytes(), case.err.as_bytes());
-    assert_eq!(rt; disk.get("keys"), case.keys);
-    assert_eq!(rt; disk.get("keys.mph"), case.dump);
-    Ok(())
-}
+const QUERY: &[&str] = &["cmph", "keys"];
 
 #[test]
 fn answers(rt: HostRuntime) -> Result<(), Fail> {
     let repeated = "cmph: line 2: value 0 is repeated\n";
     let cases = [
-        Case::new(b"\na\n", &EMPTY_AND_A, 0, b" -> 0\na -> 1\n", ""),
+        Case::query(QUERY, b"\na\n", &EMPTY_AND_A, 0, b" -> 0\na -> 1\n", ""),
         // A last line without its end is a key.
-        Case::new(b"\na", &EMPTY_AND_A, 0, b" -> 0\na -> 1\n", ""),
-        Case::new(b"\n\n", &ONE_EMPTY, 1, b" -> 0\n -> 0\n", repeated),
-        Case::new(b"", &ONE_EMPTY, 0, b"", ""),
+        Case::query(QUERY, b"\na", &EMPTY_AND_A, 0, b" -> 0\na -> 1\n", ""),
+        Case::query(QUERY, b"\n\n", &ONE_EMPTY, 1, b" -> 0\n -> 0\n", repeated),
+        Case::query(QUERY, b"", &ONE_EMPTY, 0, b"", ""),
         // The carriage return is part of its key, and any key of a function of one has the number 0.
-        Case::new(b"a\r\nb", &ONE_EMPTY, 1, b"a\r -> 0\nb -> 0\n", repeated),
+        Case::query(
+            QUERY,
+            b"a\r\nb",
+            &ONE_EMPTY,
+            1,
+            b"a\r -> 0\nb -> 0\n",
+            repeated,
+        ),
     ];
-    for case in &cases {
-        check(&rt, rt.alloc(), case)?;
-    }
+    check_all(&rt, rt.alloc(), &cases)?;
     Ok(())
-}
-
-/// The dump of the empty key with other bytes at two places, and its first bytes alone.
-fn changed(alloc: Global, len: usize, at: usize, byte: u8) -> Result<Vec<u8>, AllocError> {
-    let mut bytes = Vec::new(alloc);
-    for i in 0..len {
-        let old = if i < ONE_EMPTY.len() { ONE_EMPTY[i] } else { 0 };
-        bytes.push(if i == at { byte } else { old })?;
-    }
-    Ok(bytes)
 }
 
 #[test]
@@ -98,43 +41,34 @@ fn damaged_dumps(rt: HostRuntime) -> Result<(), Fail> {
         (25, 18, 0, "cmph: keys.mph: bad dump: bad field at 16\n"),
     ];
     for (len, at, byte, err) in rows {
-        let dump = changed(rt.alloc(), len, at, byte)?;
-        check(&rt, rt.alloc(), &Case::new(b"\n", &dump, 3, b"", err))?;
+        let dump = changed(rt.alloc(), &ONE_EMPTY, len, &[(at, byte)])?;
+        Case::query(QUERY, b"\n", &dump, 3, b"", err).check(&rt, rt.alloc())?;
     }
     Ok(())
 }
 
 #[test]
 fn missing_files(rt: HostRuntime) -> Result<(), Fail> {
-    let mut case = Case::new(b"\n", &ONE_EMPTY, 4, b"", "cmph: keys: cannot read\n");
-    case.keys = None;
-    check(&rt, rt.alloc(), &case)?;
-    let mut case = Case::new(b"\n", &ONE_EMPTY, 4, b"", "cmph: keys.mph: cannot read\n");
-    case.dump = None;
-    check(&rt, rt.alloc(), &case)?;
+    let mut no_keys = Case::query(QUERY, b"", &ONE_EMPTY, 4, b"", "cmph: keys: cannot read\n");
+    no_keys.keys = None;
     // A damaged function file is told before a keys file that isn't there.
-    let mut case = Case::new(
-        b"",
-        b"C",
-        3,
-        b"",
-        "cmph: keys.mph: bad dump: truncated at 1\n",
-    );
-    case.keys = None;
-    check(&rt, rt.alloc(), &case)?;
+    let fault = "cmph: keys.mph: bad dump: truncated at 1\n";
+    let mut damaged = Case::query(QUERY, b"", b"C", 3, b"", fault);
+    damaged.keys = None;
+    let no_function = Case::refused(QUERY, b"\n", 4, "cmph: keys.mph: cannot read\n");
+    check_all(&rt, rt.alloc(), &[no_keys, damaged, no_function])?;
     Ok(())
 }
 
 #[test]
 fn failing_sinks(rt: HostRuntime) -> Result<(), Fail> {
     let err = "cmph: cannot write standard output\n";
-    let mut case = Case::new(b"\na\n", &EMPTY_AND_A, 5, b" -> 0\na -", err);
-    case.out_room = 9;
-    check(&rt, rt.alloc(), &case)?;
+    let mut out_full = Case::query(QUERY, b"\na\n", &EMPTY_AND_A, 5, b" -> 0\na -", err);
+    out_full.out_room = 9;
     // A fault of err changes no status.
-    let mut case = Case::new(b"\n\n", &ONE_EMPTY, 1, b" -> 0\n -> 0\n", "cmph: li");
-    case.err_room = 8;
-    check(&rt, rt.alloc(), &case)?;
+    let mut err_full = Case::query(QUERY, b"\n\n", &ONE_EMPTY, 1, b" -> 0\n -> 0\n", "cmph: li");
+    err_full.err_room = 8;
+    check_all(&rt, rt.alloc(), &[out_full, err_full])?;
     Ok(())
 }
 
@@ -153,13 +87,9 @@ fn long_lines(rt: HostRuntime) -> Result<(), Fail> {
     out.extend_from_slice(&line)?;
     out.extend_from_slice(b" -> 0\n")?;
     let repeated = "cmph: line 2: value 0 is repeated\n";
-    check(&rt, alloc, &Case::new(&text, &ONE_EMPTY, 1, &out, repeated))?;
+    Case::query(QUERY, &text, &ONE_EMPTY, 1, &out, repeated).check(&rt, alloc)?;
     text.push(b'b')?;
     let long = "cmph: keys: line 2 is too long\n";
-    check(
-        &rt,
-        alloc,
-        &Case::new(&text, &ONE_EMPTY, 8, b" -> 0\n", long),
-    )?;
+    Case::query(QUERY, &text, &ONE_EMPTY, 8, b" -> 0\n", long).check(&rt, alloc)?;
     Ok(())
 }

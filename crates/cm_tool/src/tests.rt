@@ -3,6 +3,7 @@ ghost use Rattle.std.specs.Prelude.{◌≡◌};
 use crate::run;
 use cm_outer::{MemDisk, MemSink};
 use std::alloc::{AllocError, Global};
+use std::process::Abort;
 use std::test::Fail;
 
 /// The function of `a` and `b`: five vertices, seed 1, cells 0 1 0 0 0.
@@ -23,108 +24,205 @@ pub(crate) const EMPTY_AND_A: [u8; 25] = [
     0, 0, 0, 4,
 ];
 
-/// What a run left: its status, and what err holds.
+/// How many bytes a file, out and err may have where nothing is to fail.
+const AMPLE: usize = 1_000_000;
+
+const PLAIN: &[&str] = &["cmph", "-g", "keys"];
+
+const SEEDED: &[&str] = &["cmph", "-g", "-s", "0", "keys"];
+
+/// A command over a disk with these files, where a file, out and err have so much room, and what it answers, writes and leaves.
 #[derive(Drop)]
-struct Left {
-    status: u8,
-    err: MemSink,
+pub(crate) struct Case<'a> {
+    pub words: &'a [&'a str],
+    pub keys: Option<&'a [u8]>,
+    pub dump: Option<&'a [u8]>,
+    pub disk_room: usize,
+    pub out_room: usize,
+    pub err_room: usize,
+    pub status: u8,
+    pub out: &'a [u8],
+    pub err: &'a str,
+    pub path: &'a str,
+    pub file: Option<&'a [u8]>,
 }
 
-/// Runs over a disk. Nothing may be written to out.
-fn run_on(alloc: Global, disk: &mut MemDisk, words: &[&str]) -> Result<Option<Left>, AllocError> {
+impl<'a> Case<'a> {
+    /// A command over a keys file alone that makes no function file.
+    pub(crate) fn new(
+        words: &'a [&'a str],
+        keys: &'a [u8],
+        status: u8,
+        out: &'a [u8],
+        err: &'a str,
+    ) -> Case<'a> {
+        Case {
+            words,
+            keys: Some(keys),
+            dump: None,
+            disk_room: AMPLE,
+            out_room: AMPLE,
+            err_room: AMPLE,
+            status,
+            out,
+            err,
+            path: "keys.mph",
+            file: None,
+        }
+    }
+
+    /// A build that is done, with what it says, and the function file.
+    pub(crate) fn build(
+        words: &'a [&'a str],
+        keys: &'a [u8],
+        err: &'a str,
+        file: &'a [u8],
+    ) -> Case<'a> {
+        let mut case = Case::new(words, keys, 0, b"", err);
+        case.file = Some(file);
+        case
+    }
+
+    /// A command that is refused, with its message.
+    pub(crate) fn refused(
+        words: &'a [&'a str],
+        keys: &'a [u8],
+        status: u8,
+        err: &'a str,
+    ) -> Case<'a> {
+        Case::new(words, keys, status, b"", err)
+    }
+
+    /// A query of `keys` by this function file, which stays as it is.
+    pub(crate) fn query(
+        words: &'a [&'a str],
+        keys: &'a [u8],
+        dump: &'a [u8],
+        status: u8,
+        out: &'a [u8],
+        err: &'a str,
+    ) -> Case<'a> {
+        let mut case = Case::new(words, keys, status, out, err);
+        case.dump = Some(dump);
+        case.file = Some(dump);
+        case
+    }
+
+    /// Runs the command, and compares all that is left.
+    pub(crate) fn check(&self, rt: &impl Abort, alloc: Global) -> Result<(), AllocError> {
+        let mut disk = MemDisk::new(alloc, self.disk_room);
+        if let Some(bytes) = self.keys {
+            disk.put("keys", bytes)?;
+        }
+        if let Some(bytes) = self.dump {
+            disk.put("keys.mph", bytes)?;
+        }
+        let mut out = MemSink::new(alloc, self.out_room, Vec::new(alloc))?;
+        let mut err = MemSink::new(alloc, self.err_room, Vec::new(alloc))?;
+        let status = run_words(alloc, self.words, &mut disk, &mut out, &mut err)?;
+        assert_eq!(rt; err.bytes(), self.err.as_bytes());
+        assert_eq!(rt; status, self.status);
+        assert_eq!(rt; out.bytes(), self.out);
+        assert_eq!(rt; disk.get("keys"), self.keys);
+        assert_eq!(rt; disk.get(self.path), self.file);
+        Ok(())
+    }
+}
+
+/// Runs all the cases.
+pub(crate) fn check_all(rt: &impl Abort, alloc: Global, cases: &[Case]) -> Result<(), AllocError> {
+    for case in cases {
+        case.check(rt, alloc)?;
+    }
+    Ok(())
+}
+
+/// Runs a command, and gives its status.
+fn run_words(
+    alloc: Global,
+    words: &[&str],
+    disk: &mut MemDisk,
+    out: &mut MemSink,
+    err: &mut MemSink,
+) -> Result<u8, AllocError> {
     let mut owned = Vec::new(alloc);
     for word in words {
         owned.push(String::from_str(alloc, *word)?)?;
     }
-    let mut out = MemSink::new(alloc, 1000, Vec::new(alloc))?;
-    let mut err = MemSink::new(alloc, 1000, Vec::new(alloc))?;
-    let status = run(alloc, &owned, disk, &mut out, &mut err);
-    if !out.bytes().is_empty() {
-        return Ok(None);
-    }
-    Ok(Some(Left { status, err }))
+    Ok(run(alloc, &owned, disk, out, err))
 }
 
-/// Whether a run over these keys ends so, with this function file.
-fn ends(
-    alloc: Global,
-    room: usize,
-    keys: &[u8],
-    words: &[&str],
-    status: u8,
-    message: &str,
-    file: Option<&[u8]>,
-) -> Result<bool, AllocError> {
-    let mut disk = MemDisk::new(alloc, room);
+/// How many bytes the function file of these keys has, unless the build fails.
+fn built_len(alloc: Global, keys: &[u8]) -> Result<Option<usize>, AllocError> {
+    let mut disk = MemDisk::new(alloc, AMPLE);
     disk.put("keys", keys)?;
-    let Some(left) = run_on(alloc, &mut disk, words)? else {
-        return Ok(false);
-    };
-    let is_said = left.err.bytes() == message.as_bytes();
-    let is_kept = disk.get("keys") == Some(keys);
-    let is_saved = disk.get("keys.mph") == file;
-    Ok(left.status == status && is_said && is_kept && is_saved)
+    let mut out = MemSink::new(alloc, AMPLE, Vec::new(alloc))?;
+    let mut err = MemSink::new(alloc, AMPLE, Vec::new(alloc))?;
+    let status = run_words(alloc, PLAIN, &mut disk, &mut out, &mut err)?;
+    Ok(match disk.get("keys.mph") {
+        Some(bytes) if status == 0 => Some(bytes.len()),
+        _ => None,
+    })
+}
+
+/// The first `len` bytes of a dump, or zeros after them, with some of them changed.
+pub(crate) fn changed(
+    alloc: Global,
+    dump: &[u8],
+    len: usize,
+    changes: &[(usize, u8)],
+) -> Result<Vec<u8>, AllocError> {
+    let mut all = dump.to_vec(alloc)?;
+    all.resize(len, 0)?;
+    for (at, byte) in changes {
+        if let Some(b) = all.get_mut(*at) {
+            *b = *byte;
+        }
+    }
+    Ok(all)
 }
 
 #[test]
 fn functions(rt: HostRuntime) -> Result<(), Fail> {
-    let alloc = rt.alloc();
-    let plain = ["cmph", "-g", "keys"];
-    let seeded = ["cmph", "-g", "-s", "0", "keys"];
-    assert!(rt; ends(alloc, 1_000_000, b"a\nb\n", &plain, 0, "", Some(&LETTERS))?);
-    assert!(rt; ends(alloc, 1_000_000, b"a\nb", &plain, 0, "", Some(&LETTERS))?);
-    assert!(rt; ends(alloc, 1_000_000, b"\n", &seeded, 0, "", Some(&ONE_EMPTY))?);
-    assert!(rt;
-        ends(
-            alloc,
-            1_000_000,
-            b"\na\n",
-            &seeded,
-            0,
-            "",
-            Some(&EMPTY_AND_A)
-        )?
-    );
+    let cases = [
+        Case::build(PLAIN, b"a\nb\n", "", &LETTERS),
+        Case::build(PLAIN, b"a\nb", "", &LETTERS),
+        Case::build(SEEDED, b"\n", "", &ONE_EMPTY),
+        Case::build(SEEDED, b"\na\n", "", &EMPTY_AND_A),
+    ];
+    check_all(&rt, rt.alloc(), &cases)?;
     Ok(())
 }
 
 #[test]
 fn refused_keys(rt: HostRuntime) -> Result<(), Fail> {
-    let alloc = rt.alloc();
-    let plain = ["cmph", "-g", "keys"];
     let no_seed = "cmph: no seed of the list gives an empty core\n";
-    assert!(rt; ends(alloc, 1_000_000, b"\n\n", &plain, 1, no_seed, None)?);
-    assert!(rt; ends(alloc, 1_000_000, b"a\nb\na\n", &plain, 1, no_seed, None)?);
-    assert!(rt;
-        ends(
-            alloc,
-            1_000_000,
-            b"",
-            &plain,
-            8,
-            "cmph: keys: no keys\n",
-            None
-        )?
-    );
+    let mut kept = Case::refused(PLAIN, b"a\na\n", 1, no_seed);
+    kept.dump = Some(b"older");
+    kept.file = Some(b"older");
+    let cases = [
+        Case::refused(PLAIN, b"\n\n", 1, no_seed),
+        Case::refused(PLAIN, b"a\nb\na\n", 1, no_seed),
+        Case::refused(PLAIN, b"", 8, "cmph: keys: no keys\n"),
+        // A refusal keeps the older file.
+        kept,
+    ];
+    check_all(&rt, rt.alloc(), &cases)?;
     Ok(())
 }
 
 #[test]
 fn long_lines(rt: HostRuntime) -> Result<(), Fail> {
     let alloc = rt.alloc();
-    let plain = ["cmph", "-g", "keys"];
     let mut text = Vec::new(alloc);
     text.extend_from_slice(b"a\n")?;
     for _ in 0..65535u32 {
         text.push(b'b')?;
     }
-    let mut disk = MemDisk::new(alloc, 1000);
-    disk.put("keys", &text)?;
-    let left = run_on(alloc, &mut disk, &plain)?;
-    assert!(rt; matches!(left, Some(Left { status: 0, err: _ })));
+    assert!(rt; built_len(alloc, &text)?.is_some());
     text.push(b'b')?;
     let message = "cmph: keys: line 2 is too long\n";
-    assert!(rt; ends(alloc, 1000, &text, &plain, 8, message, None)?);
+    Case::refused(PLAIN, &text, 8, message).check(&rt, alloc)?;
     Ok(())
 }
 
@@ -138,61 +236,31 @@ fn every_byte_is_a_key(rt: HostRuntime) -> Result<(), Fail> {
             text.push(b'\n')?;
         }
     }
-    let mut disk = MemDisk::new(alloc, 1000);
-    disk.put("keys", &text)?;
-    let left = run_on(alloc, &mut disk, &["cmph", "-g", "keys"])?;
-    assert!(rt; matches!(left, Some(Left { status: 0, err: _ })));
     // 255 keys have 533 vertices, and cells below 255 take a byte each.
-    let saved = match disk.get("keys.mph") {
-        Some(bytes) => bytes.len(),
-        None => 0,
-    };
-    assert_eq!(rt; saved, 24 + 533);
+    assert_eq!(rt; built_len(alloc, &text)?, Some(24 + 533));
     Ok(())
 }
 
 #[test]
 fn faults(rt: HostRuntime) -> Result<(), Fail> {
-    let alloc = rt.alloc();
-    let plain = ["cmph", "-g", "keys"];
-    let write = "cmph: keys.mph: cannot write\n";
-    assert!(rt; ends(alloc, 24, b"a\nb\n", &plain, 5, write, Some(&LETTERS[..24]))?);
-    let mut disk = MemDisk::new(alloc, 1000);
-    disk.put("keys.mph", b"older")?;
-    let left = run_on(alloc, &mut disk, &plain)?;
-    assert!(rt; matches!(left, Some(Left { status: 4, err: _ })));
-    assert!(rt;
-        match left {
-            Some(left) => left.err.bytes() == b"cmph: keys: cannot read\n".as_slice(),
-            None => false,
-        }
+    let mut full = Case::refused(PLAIN, b"a\nb\n", 5, "cmph: keys.mph: cannot write\n");
+    full.disk_room = 24;
+    full.file = Some(&LETTERS[..24]);
+    let mut unread = Case::refused(PLAIN, b"", 4, "cmph: keys: cannot read\n");
+    unread.keys = None;
+    unread.dump = Some(b"older");
+    unread.file = Some(b"older");
+    // A fault of err changes no status.
+    let mut silent = Case::refused(&["cmph"], b"", 2, "cmph:");
+    silent.err_room = 5;
+    let mut printed = Case::new(
+        &["cmph", "-V"],
+        b"",
+        5,
+        b"cmp",
+        "cmph: cannot write standard output\n",
     );
-    assert_eq!(rt; disk.get("keys.mph"), Some(b"older".as_slice()));
-    Ok(())
-}
-
-#[test]
-fn refusal_keeps_the_older_file(rt: HostRuntime) -> Result<(), Fail> {
-    let alloc = rt.alloc();
-    let mut disk = MemDisk::new(alloc, 1000);
-    disk.put("keys", b"a\na\n")?;
-    disk.put("keys.mph", b"older")?;
-    let left = run_on(alloc, &mut disk, &["cmph", "-g", "keys"])?;
-    assert!(rt; matches!(left, Some(Left { status: 1, err: _ })));
-    assert_eq!(rt; disk.get("keys.mph"), Some(b"older".as_slice()));
-    Ok(())
-}
-
-#[test]
-fn failing_err_changes_no_status(rt: HostRuntime) -> Result<(), Fail> {
-    let alloc = rt.alloc();
-    let mut words = Vec::new(alloc);
-    words.push(String::from_str(alloc, "cmph")?)?;
-    let mut disk = MemDisk::new(alloc, 10);
-    let mut out = MemSink::new(alloc, 10, Vec::new(alloc))?;
-    let mut err = MemSink::new(alloc, 5, Vec::new(alloc))?;
-    let status = run(alloc, &words, &mut disk, &mut out, &mut err);
-    assert_eq!(rt; status, 2);
-    assert_eq!(rt; err.bytes(), b"cmph:".as_slice());
+    printed.out_room = 3;
+    check_all(&rt, rt.alloc(), &[full, unread, silent, printed])?;
     Ok(())
 }
