@@ -1,10 +1,11 @@
 //! The header of a dump.
-ghost use Rattle.std.specs.Prelude.{◌≡◌, ◌+◌, ◌<◌, ◌≤◌, ℕ, List, Option, OnOk, IfOk, length};
+ghost use Rattle.std.specs.Prelude.{◌≡◌, ◌≢◌, ◌+◌, ◌<◌, ◌≤◌, ℕ, List, Option, Err, OnOk, IfOk, length};
 ghost use Rattle.std.specs.Option.{ForSome};
 ghost use Rattle.cm_outer.specs.declared.key_pass.TheConstants.{MAX_KEYS};
 ghost use Rattle.cm_spec.specs.Rule.{IsRatio};
 ghost use Rattle.cm_dump.specs.Reading.{Answers, IsAt, HasLoadCause};
 ghost use Rattle.cm_dump.specs.Headings.{IsParameter, algorithm_at, heading_at, kind_at, least_b, magic_at, most_b};
+ghost use Rattle.cm_dump.specs.declared.fault.LoadFault.{LoadFault};
 
 use crate::LoadFault;
 use crate::items::{byte, item, number};
@@ -54,6 +55,7 @@ fn magic<S: Source>(source: &mut S) -> Result<(), LoadFault>
     ensures at { OnOk result (IsAt (S.told source.new) (S.place source.new) 8) }
     ensures exact { ForSome (S.told source.old) (λ bytes. Answers (λ x. x) result (magic_at bytes)) }
     ensures cause { HasLoadCause (S.faults source.old) (S.faults source.new) result }
+    ensures memory { result ≢ Err LoadFault.Memory }
 {
     let mut buf = [0; 8];
     item(source, 0, &mut buf)?;
@@ -72,6 +74,7 @@ fn read_algorithm<S: Source>(source: &mut S) -> Result<Algorithm, LoadFault>
     ensures at { OnOk result (IsAt (S.told source.new) (S.place source.new) 9) }
     ensures exact { ForSome (S.told source.old) (λ bytes. Answers (λ a. a) result (algorithm_at bytes)) }
     ensures cause { HasLoadCause (S.faults source.old) (S.faults source.new) result }
+    ensures memory { result ≢ Err LoadFault.Memory }
 {
     let mut buf = [0; 1];
     item(source, 8, &mut buf)?;
@@ -103,6 +106,7 @@ fn read_kind<S: Source>(source: &mut S) -> Result<Kind, LoadFault>
     ensures parameter { IfOk result (λ k. IsParameter k.algorithm k.b) }
     ensures exact { ForSome (S.told source.old) (λ bytes. Answers (λ k. k) result (kind_at bytes)) }
     ensures cause { HasLoadCause (S.faults source.old) (S.faults source.new) result }
+    ensures memory { result ≢ Err LoadFault.Memory }
 {
     magic(source)?;
     let algorithm = read_algorithm(source)?;
@@ -124,6 +128,7 @@ pub(crate) fn read_header<S: Source>(source: &mut S) -> Result<Header, LoadFault
     ensures ratio { IfOk result (λ h. IsRatio h.ratio) }
     ensures exact { ForSome (S.told source.old) (λ bytes. Answers (λ h. h) result (heading_at bytes)) }
     ensures cause { HasLoadCause (S.faults source.old) (S.faults source.new) result }
+    ensures memory { result ≢ Err LoadFault.Memory }
 {
     let kind = read_kind(source)?;
     let keys = number(source, 12, 1, MAX_KEYS)?;

@@ -1,9 +1,10 @@
 //! The items of a file, each read at its offset and checked. A source that stands there gives the item, or the first fault of
 //! what it tells.
-ghost use Rattle.std.specs.Prelude.{◌≡◌, ◌+◌, ◌<◌, ◌≤◌, ◌^◌, ℕ, List, Option, OnOk, IfOk, length};
+ghost use Rattle.std.specs.Prelude.{◌≡◌, ◌≢◌, ◌+◌, ◌<◌, ◌≤◌, ◌^◌, ℕ, List, Option, Err, OnOk, IfOk, length};
 ghost use Rattle.std.specs.Option.{ForSome};
 ghost use Rattle.cm_outer.specs.Causes.{HasCause};
 ghost use Rattle.cm_dump.specs.Reading.{Answers, Fills, IsAt, HasLoadCause, item_at, byte_at, number_at, end_at};
+ghost use Rattle.cm_dump.specs.declared.fault.LoadFault.{LoadFault};
 
 use crate::LoadFault;
 use cm_outer::{Failed, Source};
@@ -38,6 +39,7 @@ pub(crate) fn item<S: Source>(source: &mut S, at: u64, buf: &mut [u8]) -> Result
     ensures at { OnOk result (IsAt (S.told source.new) (S.place source.new) (at + length buf.old)) }
     ensures exact { ForSome (S.told source.old) (λ bytes. Answers (λ _. buf.new) result (item_at bytes at (length buf.old))) }
     ensures cause { HasLoadCause (S.faults source.old) (S.faults source.new) result }
+    ensures memory { result ≢ Err LoadFault.Memory }
 {
     let got = match fill(source, at, buf) {
         Ok(got) => got,
@@ -62,6 +64,7 @@ pub(crate) fn byte<S: Source>(source: &mut S, at: u64, low: u8, high: u8) -> Res
     ensures range { IfOk result (λ b. (low ≤ b) × (b ≤ high)) }
     ensures exact { ForSome (S.told source.old) (λ bytes. Answers (λ b. b) result (byte_at bytes at low high)) }
     ensures cause { HasLoadCause (S.faults source.old) (S.faults source.new) result }
+    ensures memory { result ≢ Err LoadFault.Memory }
 {
     let mut buf = [0; 1];
     item(source, at, &mut buf)?;
@@ -88,6 +91,7 @@ pub(crate) fn number<S: Source>(
     ensures range { IfOk result (λ x. (low ≤ x) × (x ≤ high)) }
     ensures exact { ForSome (S.told source.old) (λ bytes. Answers (λ x. x) result (number_at bytes at low high)) }
     ensures cause { HasLoadCause (S.faults source.old) (S.faults source.new) result }
+    ensures memory { result ≢ Err LoadFault.Memory }
 {
     let mut buf = [0; 4];
     item(source, at, &mut buf)?;
@@ -106,6 +110,7 @@ pub(crate) fn end<S: Source>(source: &mut S, at: u64) -> Result<(), LoadFault>
     ensures told { S.told source.new ≡ S.told source.old }
     ensures exact { ForSome (S.told source.old) (λ bytes. Answers (λ x. x) result (end_at bytes at)) }
     ensures cause { HasLoadCause (S.faults source.old) (S.faults source.new) result }
+    ensures memory { result ≢ Err LoadFault.Memory }
 {
     let mut buf = [0; 1];
     match source.read(&mut buf) {

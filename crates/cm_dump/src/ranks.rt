@@ -1,5 +1,5 @@
 //! The ranks of a function by BDZ, four bytes each, written and read in pieces.
-ghost use Rattle.std.specs.Prelude.{◌≡◌, ◌≢◌, ◌+◌, ◌-◌, ◌*◌, ◌<◌, ◌≤◌, ◌^◌, ◌++◌, ℕ, List, Option, MatchOption, OnOk, drop, length, slice_index, take};
+ghost use Rattle.std.specs.Prelude.{◌≡◌, ◌≢◌, ◌+◌, ◌-◌, ◌*◌, ◌<◌, ◌≤◌, ◌^◌, ◌++◌, ℕ, List, Option, Err, MatchOption, OnOk, drop, length, slice_index, take};
 ghost use Rattle.std.specs.Int.{to_le_bytes, w32};
 ghost use Rattle.std.specs.Option.{ForSome};
 ghost use Rattle.cm_outer.specs.Causes.{HasCause};
@@ -8,6 +8,7 @@ ghost use Rattle.cm_dump.specs.Dumps.{ranks_image};
 ghost use Rattle.cm_dump.specs.Parts.{AreRanks, rank_bytes};
 ghost use Rattle.cm_dump.specs.Reading.{Answers, HasLoadCause, IsAt};
 ghost use Rattle.cm_dump.specs.Spelling.{ranks_at};
+ghost use Rattle.cm_dump.specs.declared.fault.LoadFault.{LoadFault};
 
 use crate::LoadFault;
 use crate::items::fill;
@@ -88,6 +89,7 @@ fn read_piece<S: Source>(
     ensures at { OnOk result (IsAt (S.told source.new) (S.place source.new) (at + 4 * count)) }
     ensures exact { ForSome (S.told source.old) (λ bytes. Answers (λ x. x) result (ranks_at bytes at (take count (drop from ranks.now.ranks)))) }
     ensures cause { HasLoadCause (S.faults source.old) (S.faults source.new) result }
+    ensures memory { result ≢ Err LoadFault.Memory }
 {
     let got = match fill(source, at, part) {
         Ok(got) => got,
@@ -119,6 +121,7 @@ pub(crate) fn read_ranks<S: Source>(
     ensures at { OnOk result (IsAt (S.told source.new) (S.place source.new) (at + 4 * length ranks.now.ranks)) }
     ensures exact { ForSome (S.told source.old) (λ bytes. Answers (λ x. x) result (ranks_at bytes at ranks.now.ranks)) }
     ensures cause { HasLoadCause (S.faults source.old) (S.faults source.new) result }
+    ensures memory { result ≢ Err LoadFault.Memory }
 {
     let entries = ranks.entries();
     let mut buf = [0u8; 4096];

@@ -1,16 +1,19 @@
 //! The function that a source's bytes spell.
-ghost use Rattle.std.specs.Prelude.{◌≡◌, ◌+◌, ◌*◌, ◌/◌, ◌<◌, ◌≤◌, ◌^◌, ℕ, List, Option, OnOk, IfOk, length};
+ghost use Rattle.std.specs.Prelude.{◌≡◌, ◌+◌, ◌*◌, ◌/◌, ◌<◌, ◌≤◌, ◌^◌, ℕ, List, Option, Err, IsOk, OnOk, IfOk, count_by, length};
 ghost use Rattle.std.specs.Option.{ForSome};
 ghost use Rattle.cm_bits.specs.declared.TheConstants.{MAX_CELLS};
 ghost use Rattle.cm_outer.specs.declared.key_pass.TheConstants.{MAX_KEYS};
 ghost use Rattle.cm_spec.specs.Bdz.{bdz_size};
+ghost use Rattle.cm_spec.specs.Cells.{is_busy};
 ghost use Rattle.cm_spec.specs.Image.{packed_len};
 ghost use Rattle.cm_spec.specs.Lists.{list_of};
 ghost use Rattle.cm_spec.specs.Rule.{IsRatio};
+ghost use Rattle.cm_dump.specs.Headings.{heading_at};
 ghost use Rattle.cm_dump.specs.Functions.{IsBdz, IsBdzPh, IsChm, IsFunction};
 ghost use Rattle.cm_dump.specs.Places.{AreNear, IsPlace};
 ghost use Rattle.cm_dump.specs.Reading.{Answers, IsAt, HasLoadCause};
 ghost use Rattle.cm_dump.specs.Spelling.{bdz_at, bdz_ph_at, chm_at, counted, fault_at, image_at, ranked_at, spelling_of};
+ghost use Rattle.cm_dump.specs.declared.fault.LoadFault.{LoadFault};
 
 use crate::bulk::long_item;
 use crate::front::{Algorithm, Header, read_header};
@@ -109,6 +112,7 @@ fn count_cells(alloc: Global, header: Header, cells: Crumbs) -> Result<Bdz, Load
     ensures exact { Answers (λ f. f) result (counted header (⟦<Crumbs as Cells>⟧.cells cells)) }
     ensures valid { IfOk result (λ f. IsBdz f) }
     ensures cause { (n : ℕ) → HasLoadCause n n result }
+    ensures memory { result ≡ Err LoadFault.Memory → count_by (is_busy 3) (⟦<Crumbs as Cells>⟧.cells cells) ≡ header.keys }
 {
     let built = Built {
         m: header.keys,
@@ -141,6 +145,7 @@ fn load_ranked<S: Source>(
     ensures exact { ForSome (S.told source.old) (λ bytes. Answers (λ f. f) result (ranked_at bytes header (⟦<Crumbs as Cells>⟧.cells cells))) }
     ensures valid { IfOk result (λ f. IsBdz f) }
     ensures cause { HasLoadCause (S.faults source.old) (S.faults source.new) result }
+    ensures memory { result ≡ Err LoadFault.Memory → count_by (is_busy 3) (⟦<Crumbs as Cells>⟧.cells cells) ≡ header.keys }
 {
     let at = 24 + Crumbs::image_len(cells.len(), 4);
     let bdz = match count_cells(alloc, header, cells) {
@@ -205,8 +210,8 @@ fn load_bdz_ph<S: Source>(alloc: Global, source: &mut S, header: Header) -> Resu
 }
 
 /// Loads a function from a source at its start: the one whose dump all the bytes are. `Read` is answered exactly where the
-/// source fails, `Memory` only for want of memory, and any other refusal is the first fault of the bytes. Memory is taken as
-/// the bytes come, whatever the header claims.
+/// source fails, `Memory` only where memory runs out after a header without a fault, and any other refusal is the first fault of
+/// the bytes. Memory is taken as the bytes come, whatever the header claims.
 #[tactic(auto, unfolding(crate::specs::Spelling::spelling_of))]
 pub fn load<S: Source>(alloc: Global, source: &mut S) -> Result<Func, LoadFault>
     requires start { ForSome (S.told source.old) (λ _. S.place source.old ≡ 0) }
@@ -214,6 +219,7 @@ pub fn load<S: Source>(alloc: Global, source: &mut S) -> Result<Func, LoadFault>
     ensures spelling { ForSome (S.told source.old) (λ bytes. Answers (λ f. f) result (spelling_of bytes)) }
     ensures valid { IfOk result (λ f. IsFunction f) }
     ensures cause { HasLoadCause (S.faults source.old) (S.faults source.new) result }
+    ensures memory { result ≡ Err LoadFault.Memory → ForSome (S.told source.old) (λ bytes. IsOk (heading_at bytes)) }
 {
     let header = read_header(source)?;
     match header.algorithm {
