@@ -1,6 +1,6 @@
 mod BatchLemmas
 mod EarlierLemmas
 mod MarkLemmas
-pub mod NotedLemmas
+mod NotedLemmas
 mod ProgressLemmas
-pub mod TextLemmas
+mod TextLemmas

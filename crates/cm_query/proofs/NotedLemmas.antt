@@ -7,17 +7,9 @@ use Rattle.std.proofs.lemmas.List.Sums.{sum_by-cons}
 use Rattle.cm_outer.specs.NotingLaws.{noted_next}
 use Rattle.cm_outer.specs.Noting.{Noted}
 use Rattle.cm_outer.specs.Writing.{joined}
-use Rattle.cm_query.proofs.TextLemmas.{then_nothing}
 use Rattle.cm_query.specs.Repeats.{is_repeated, with_earlier}
 use Rattle.cm_query.specs.Tallies.{tally_of}
 use Rattle.cm_query.specs.Texts.{note_of, notes_of}
-
--- no note
-pub noted_nothing : (failed : Bool) (err : Option (List ℕ)) (faults : ℕ) → Noted failed failed err err faults faults []
-noted_nothing failed err faults = record {
-  wrote = λ fine. record { all = λ _. (then_nothing err, refl); part = λ bad. absurd (false≢true (sym fine ∙ bad)) };
-  silent = λ bad. (bad, refl, refl);
-}
 
 -- one note more
 pub noted_more : {f g h : Bool} {a b c : Option (List ℕ)} {i j k : ℕ} {text piece : List ℕ} → Noted f g a b i j text → Noted g h b c j k piece → Noted f h a c i k (text ++ piece)

@@ -4,15 +4,11 @@ use Rattle.std.proofs.lemmas.Grind.{flat_map-append}
 use Rattle.std.proofs.lemmas.List.{take_at, take_min, take-append-le}
 use Rattle.std.proofs.Math.Seq.{take-append-add}
 use Rattle.cm_outer.specs.Writing.{then_bytes}
-use Rattle.cm_outer.specs.Passes.{Told}
-use Rattle.cm_query.specs.Stops.{IsReached, StopsAt, TextAfter}
+use Rattle.cm_query.specs.QueryLaws.{then_nothing}
+use Rattle.cm_query.specs.Stops.{TextAfter}
 use Rattle.cm_query.specs.Texts.{line_of, text_of}
 use Rattle.cm_query.specs.declared.fault.QueryFault.{QueryFault}
 use Rattle.cm_query.specs.declared.fault.QueryFault.TheVariants.{Memory, Key, Write}
-
-pub then_nothing : (known : Option (List ℕ)) → known ≡ then_bytes known []
-then_nothing None = refl
-then_nothing (Some w) = ap (λ (l : List ℕ). let o : Option (List ℕ) = Some l in o) (sym (append-nil w))
 
 pub text_of-append : (end : ℕ) (f : List ℕ → Option ℕ) (xs ys : List (ℕ × List ℕ)) → text_of end f (xs ++ ys) ≡ text_of end f xs ++ text_of end f ys
 text_of-append end f xs ys = flat_map-append (λ (k : ℕ × List ℕ). line_of end k.1 (f k.1)) xs ys
@@ -51,9 +47,3 @@ pub front_after : (end : ℕ) (f : List ℕ → Option ℕ) (keys : List (ℕ ×
 front_after end f keys given old new Memory is = (0, is ∙ then_nothing old)
 front_after end f keys given old new (Key fault) is = front_of_given end f keys given old new is
 front_after end f keys given old new Write is = front_of_next end f keys (given - 1) is.0 old new is.1
-
--- the keys that were come to stop where those given do
-pub stops_reached : (told : Told) (given reached : ℕ) (fault : QueryFault) → StopsAt told given fault → IsReached given reached fault → StopsAt told reached fault
-stops_reached told given reached Memory stops is = is
-stops_reached told given reached (Key fault) stops is = subst (λ (n : ℕ). StopsAt told n (Key fault)) (sym is) stops
-stops_reached told given reached Write stops is = (is.0, omega (arith, is.1, stops.1))

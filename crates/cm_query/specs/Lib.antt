@@ -5,3 +5,4 @@ pub mod Stops
 pub mod Tallies
 pub mod Texts
 pub mod Waiting
+pub mod QueryLaws

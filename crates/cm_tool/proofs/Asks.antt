@@ -14,8 +14,7 @@ use Rattle.cm_outer.specs.Noting.{HasNoted}
 use Rattle.cm_outer.specs.Writing.{then_bytes}
 use Rattle.cm_outer.specs.declared.key_pass.KeyFault.{KeyFault}
 use Rattle.cm_outer.specs.declared.key_pass.KeyFault.TheVariants as key_fault
-use Rattle.cm_query.proofs.NotedLemmas.{noted_exactly}
-use Rattle.cm_query.proofs.TextLemmas.{then_nothing}
+use Rattle.cm_query.specs.QueryLaws.{then_nothing}
 use Rattle.cm_query.specs.Stops.{StopsAt, TextAfter, noted_keys}
 use Rattle.cm_query.specs.Tallies.{tally_of}
 use Rattle.cm_query.specs.Texts.{notes_of, text_of}
@@ -118,9 +117,10 @@ status_noted [] n status exact none some = none (exact.0 refl)
 status_noted (b ∷ notes) n status exact none some = some (λ zero. absurd (let e : b ∷ notes ≡ [] = exact.1 zero in cc))
 
 -- a query that came to its end
-pub query_done : (job : QueryJob) (files : Files) (old new err err_new : Option (List ℕ)) (before now : ℕ) (notes : List ℕ) (tally : Tally) (status : ℕ) (left : Option Files) → EndsQuery files job old new notes (Ok tally) → Says notes err err_new before now
+pub query_done : (job : QueryJob) (files : Files) (old new err err_new : Option (List ℕ)) (before now : ℕ) (notes : List ℕ) (tally : Tally) (status : ℕ) (left : Option Files)
+    → ((f : List ℕ → Option ℕ) (keys : List (ℕ × List ℕ)) → (notes_of f keys ≡ []) ↔ ((tally_of f keys).repeated + (tally_of f keys).unknown ≡ 0)) → EndsQuery files job old new notes (Ok tally) → Says notes err err_new before now
     → (tally.repeated + tally.unknown ≡ 0 → status ≡ 0) → (tally.repeated + tally.unknown ≢ 0 → status ≡ 1) → left ≡ Some files → Reaches (job_outcome files (Ok (Query job))) status old new err err_new before now left
-query_done job files old new err err_new before now notes tally status left ends says none some same =
+query_done job files old new err err_new before now notes tally status left noted_exactly ends says none some same =
     let f = answer_by ends.0 in
     let all = ends.2.0 in
     let keys = (keys_in job.first all.bytes).keys in

@@ -4,15 +4,11 @@ use Rattle.std.specs.Cmp.{eq_by_cmp_equiv}
 use Rattle.std.specs.Cmp.Lexicographic.{nat_list_cmp_total}
 use Rattle.std.specs.Option.{ForSome, option_map}
 use Rattle.std.specs.FinMap as map
-use Rattle.cm_bdz.proofs.NumberingLemmas.{bdz_apart, bdz_ph_apart}
-use Rattle.cm_chm.proofs.NumberingLemmas.{answers_numbers}
-use Rattle.cm_dump.proofs.SpellingLemmas.{spelling_of-dump_of}
 use Rattle.cm_dump.specs.Spelling.{spelling_of}
 use Rattle.cm_outer.specs.Files.{Files, file_at, with_file}
 use Rattle.cm_outer.specs.declared.key_pass.KeyFault.{KeyFault}
 use Rattle.cm_outer.specs.declared.key_pass.KeyFault.TheVariants as key_fault
-use Rattle.cm_peel.specs.CoreLaws.{empty_rest}
-use Rattle.cm_query.proofs.TextLemmas.{then_nothing}
+use Rattle.cm_query.specs.QueryLaws.{then_nothing}
 use Rattle.cm_spec.specs.Built.{first_seed, graph_of}
 use Rattle.cm_spec.specs.Rounds.{rest_of}
 use Rattle.cm_spec.specs.Rule.{IsCount, IsRatio}
@@ -153,28 +149,9 @@ saved_part job old new (TooLong line) files leaves is five = absurd (omega arith
 saved_part job old new TooMany files leaves is five = absurd (omega arith)
 
 -- the file of a path that was written
-written_at : (files : Files) (path bytes : List ℕ) → file_at (map.insert files path bytes) path ≡ Some bytes
+pub written_at : (files : Files) (path bytes : List ℕ) → file_at (map.insert files path bytes) path ≡ Some bytes
 written_at files path bytes =
     map.get-insert nat_list_cmp_total files path bytes path ∙ ap (λ (b : Bool). cond b (Some bytes) (map.get files path)) ((eq_by_cmp_equiv nat_list_cmp_total).refl path)
-
--- the function of keys under a seed that leaves no rest is of its algorithm, and has the answers that it is for
-answers_of : (algorithm : Algorithm) (b c seed : ℕ) (keys : List (ℕ × List ℕ)) → algorithm ≢ Brz → IsCount (length keys) → IsRatio c → rest_of (graph_of (rule_by algorithm) keys c seed) ≡ [] → IsBy algorithm (func_by algorithm b keys c seed) × AnswersOf keys (func_by algorithm b keys c seed)
-answers_of Chm b c seed keys known many ratio none = (tt, answers_numbers keys c seed many ratio none)
-answers_of Bdz b c seed keys known many ratio none = (tt, bdz_apart keys c seed b many ratio none)
-answers_of BdzPh b c seed keys known many ratio none = (tt, bdz_ph_apart keys c seed many ratio none)
-answers_of Brz b c seed keys known many ratio none = absurd (known refl)
-
-pub saved_numbers : (job : BuildJob) (old new : Option Files) (s : Summary) (files : Files) → IsBuild job → Leaves job old new (Ok s) → old ≡ Some files → SavedNumbers files new job
-saved_numbers job old new s files build leaves is =
-    let saves = (leaves.2 files is).0 in
-    let made = saves.made in
-    let keys = (keys_in job.first saves.bytes).keys in
-    let none : rest_of (graph_of (rule_by job.algorithm) keys job.c made.seed) ≡ [] = empty_rest _ made.first.empty in
-    let answers = answers_of job.algorithm job.b job.c made.seed keys build.offered made.many build.ratio none in
-    let is_by : IsBy job.algorithm saves.f = subst (IsBy job.algorithm) (sym made.is) answers.0 in
-    let answered : AnswersOf keys saves.f = subst (AnswersOf keys) (sym made.is) answers.1 in
-    let spells = ap spelling_of saves.dump_is ∙ spelling_of-dump_of saves.f saves.valid in
-    (saves.bytes, leaves.0, saves.f, map.insert files job.function leaves.0, saves.there, leaves.1 ∙ ap (with_file job.function leaves.0) is, written_at files job.function leaves.0, spells, is_by, answered)
 
 -- the message of a job that stopped goes with its status
 pub message_is : (job : BuildJob) (stop : Stop) → Differs stop → IsBuildMessage job (status_of stop) (message_of job stop)

@@ -5,7 +5,7 @@ use Rattle.std.proofs.lemmas.List.{take_all}
 use Rattle.cm_outer.specs.Files.{Files}
 use Rattle.cm_outer.specs.Writing.{Writes, then_bytes}
 use Rattle.cm_outer.specs.declared.fault.Failed.{Failed}
-use Rattle.cm_query.proofs.TextLemmas.{then_nothing}
+use Rattle.cm_query.specs.QueryLaws.{then_nothing}
 use Rattle.cm_tool.specs.Ends.{Says, usage_status_of}
 use Rattle.cm_tool.specs.Messages.{out_of_memory, usage_message}
 use Rattle.cm_tool.specs.Outcome.{Outcome, job_outcome, printing, refusal}

@@ -13,6 +13,7 @@ ghost use Rattle.cm_words.specs.declared.jobs.Job.TheVariants.{Build};
 
 use crate::built::{Summary, sum_up};
 use crate::functions::func_of;
+use crate::laws::saved_numbers;
 use crate::report::{report, say_built};
 use crate::stop::Stop;
 use crate::storing::store;
@@ -137,6 +138,7 @@ pub(crate) fn run_build<D: Disk, E: Sink>(
 {
     match build_file(alloc, job, disk) {
         Ok(summary) => {
+            saved_numbers();
             say_built(job, summary, err);
             0
         }

@@ -5,6 +5,7 @@ mod asking;
 mod building;
 mod built;
 mod functions;
+mod laws;
 mod loading;
 mod printing;
 mod querying;

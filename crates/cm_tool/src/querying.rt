@@ -14,7 +14,7 @@ use crate::loading::load_file;
 use crate::report::report_query;
 use crate::stop::QueryStop;
 use cm_outer::{Disk, Notes, Sink};
-use cm_query::Tally;
+use cm_query::{Tally, noted_exactly};
 use cm_words::QueryJob;
 use std::alloc::Global;
 
@@ -66,7 +66,11 @@ pub(crate) fn run_query<D: Disk, O: Sink, E: Sink>(
 {
     let mut notes = Notes::new();
     match answer_file(alloc, job, disk, out, err, &mut notes) {
-        Ok(tally) => noted_status(tally),
+        Ok(tally) => {
+            // A law, for the proof alone.
+            noted_exactly();
+            noted_status(tally)
+        }
         Err(stop) => report_query(job, stop, err, &mut notes),
     }
 }

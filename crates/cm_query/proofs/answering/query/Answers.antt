@@ -7,9 +7,9 @@ use Rattle.cm_outer.specs.Noting.{Noted}
 use Rattle.cm_outer.specs.Writing.{then_bytes}
 use Rattle.cm_query.proofs.BatchLemmas.{ahead_of, first_of, none_waits, same_line}
 use Rattle.cm_query.proofs.MarkLemmas.{length-marked}
-use Rattle.cm_query.proofs.NotedLemmas.{noted_more, noted_nothing}
+use Rattle.cm_query.proofs.NotedLemmas.{noted_more}
 use Rattle.cm_query.proofs.ProgressLemmas.{SoFar, next_within, so_far_all, so_far_next, so_far_none, text_at_write}
-use Rattle.cm_query.proofs.TextLemmas.{then_nothing}
+use Rattle.cm_query.specs.QueryLaws.{noted_nothing, then_nothing}
 use Rattle.cm_query.specs.Texts.{line_of, notes_of}
 use Rattle.cm_query.specs.Waiting.{WaitingKeys}
 use Rattle.cm_query.proofs.answering.query.Goals as goal

@@ -1,7 +1,7 @@
 use Rattle.std.proofs.Common.{rules, ◌≡◌, ◌∙◌, ap, sym, Option, List, ℕ, true}
 use Rattle.std.proofs.Math.Seq.{take-nil}
 use Rattle.cm_outer.specs.Writing.{then_bytes}
-use Rattle.cm_query.proofs.TextLemmas.{then_nothing}
+use Rattle.cm_query.specs.QueryLaws.{then_nothing}
 use Rattle.cm_tool.proofs.Asks.{cut_after}
 use Rattle.cm_tool.specs.Asked.{asked_all}
 use Rattle.cm_tool.proofs.asking.send_on.Goals as goal

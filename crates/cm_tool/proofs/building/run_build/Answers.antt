@@ -1,7 +1,7 @@
 use Rattle.std.proofs.Common.{◌∙◌, sym}
 use Rattle.cm_tool.specs.Ends.{message_of}
 use Rattle.cm_tool.specs.Messages.{built_message}
-use Rattle.cm_tool.proofs.Outcomes.{built_is, finished, is_cored, message_is, missing, saved_numbers, saved_part, stopped, took_first}
+use Rattle.cm_tool.proofs.Outcomes.{built_is, finished, is_cored, message_is, missing, saved_part, stopped, took_first}
 use Rattle.cm_tool.proofs.building.run_build.Goals as goal
 
 pub returns-in-Ok-clause-outcome : goal.returns-in-Ok-clause-outcome
@@ -11,7 +11,7 @@ pub returns-in-Ok-clause-first : goal.returns-in-Ok-clause-first
 returns-in-Ok-clause-first g c = λ _ files is. took_first c.args.job.now _ _ c.in-Ok.summary files c.in-Ok.ensures.leaves is
 
 pub returns-in-Ok-clause-numbers : goal.returns-in-Ok-clause-numbers
-returns-in-Ok-clause-numbers g c = λ _ files is. saved_numbers c.args.job.now _ _ c.in-Ok.summary files c.requires.job c.in-Ok.ensures.leaves is
+returns-in-Ok-clause-numbers g c = λ _ files is. c.saved_numbers.ensures c.args.job.now _ _ c.in-Ok.summary files c.requires.job c.in-Ok.ensures.leaves is
 
 pub returns-in-Ok-clause-err : goal.returns-in-Ok-clause-err
 returns-in-Ok-clause-err g c = (built_message c.args.job.now c.in-Ok.summary, built_is c.args.job.now c.in-Ok.summary, c.say_built.ensures.says)

@@ -1,5 +1,5 @@
 use Rattle.std.proofs.Common.{[], ◌≡◌, ◌∙◌}
-use Rattle.cm_query.proofs.NotedLemmas.{noted_nothing}
+use Rattle.cm_query.specs.QueryLaws.{noted_nothing}
 use Rattle.cm_tool.proofs.Asks.{with_function, without_function}
 use Rattle.cm_tool.proofs.querying.answer_file.Goals as goal
 

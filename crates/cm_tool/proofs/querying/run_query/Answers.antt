@@ -7,7 +7,7 @@ use Rattle.cm_tool.proofs.querying.run_query.Goals as goal
 pub returns-in-Ok-clause-outcome : goal.returns-in-Ok-clause-outcome
 returns-in-Ok-clause-outcome g c = λ _ _ _ files is.
     let told = c.in-Ok.ensures.told files is in
-    query_done c.args.job.now files _ _ _ _ _ _ told.0 c.in-Ok.tally _ _ told.2 (says_all (noted_first c.new-notes.ensures.fresh told.1)) c.noted_status.ensures.none c.noted_status.ensures.some (c.answer_file.ensures.files ∙ is)
+    query_done c.args.job.now files _ _ _ _ _ _ told.0 c.in-Ok.tally _ _ c.noted_exactly.ensures told.2 (says_all (noted_first c.new-notes.ensures.fresh told.1)) c.noted_status.ensures.none c.noted_status.ensures.some (c.answer_file.ensures.files ∙ is)
 
 pub returns-in-Ok-clause-err : goal.returns-in-Ok-clause-err
 returns-in-Ok-clause-err g c =

@@ -1,0 +1,23 @@
+//! A law of builds. Its body calls the laws that it follows from, and does nothing else.
+ghost use Rattle.std.specs.Prelude.{◌≡◌, Option, Ok, Some};
+ghost use Rattle.cm_outer.specs.Files.{Files};
+ghost use Rattle.cm_tool.specs.Leaves.{Leaves};
+ghost use Rattle.cm_tool.specs.Run.{SavedNumbers};
+ghost use Rattle.cm_tool.specs.declared.built.Summary.{Summary};
+ghost use Rattle.cm_words.specs.Limits.{IsBuild};
+ghost use Rattle.cm_words.specs.declared.jobs.BuildJob.{BuildJob};
+
+use cm_bdz::answers_apart;
+use cm_chm::answers_numbers;
+use cm_dump::laws::dumps_spell;
+use cm_peel::empty_rest;
+
+/// A build that came to its end left a function file that answers the keys as functions by its algorithm do.
+pub(crate) fn saved_numbers()
+    ensures { (job : BuildJob) (old new : Option Files) (summary : Summary) (files : Files) → IsBuild job → Leaves job old new (Ok summary) → old ≡ Some files → SavedNumbers files new job }
+{
+    answers_numbers();
+    answers_apart();
+    dumps_spell();
+    empty_rest();
+}
