@@ -4,27 +4,21 @@ use Rattle.std.specs.Cmp.{eq_by_cmp_equiv}
 use Rattle.std.specs.Cmp.Lexicographic.{nat_list_cmp_total}
 use Rattle.std.specs.Option.{ForSome, option_map}
 use Rattle.std.specs.FinMap as map
-use Rattle.cm_dump.specs.Spelling.{spelling_of}
 use Rattle.cm_outer.specs.Files.{Files, file_at, with_file}
 use Rattle.cm_outer.specs.declared.key_pass.KeyFault.{KeyFault}
 use Rattle.cm_outer.specs.declared.key_pass.KeyFault.TheVariants as key_fault
 use Rattle.cm_query.specs.QueryLaws.{then_nothing}
-use Rattle.cm_spec.specs.Built.{first_seed, graph_of}
-use Rattle.cm_spec.specs.Rounds.{rest_of}
-use Rattle.cm_spec.specs.Rule.{IsCount, IsRatio}
+use Rattle.cm_spec.specs.Built.{first_seed}
 use Rattle.cm_tool.specs.Ends.{Says, message_of, status_of}
-use Rattle.cm_tool.specs.Jobs.{func_by, rule_by, seeds_tried}
-use Rattle.cm_tool.specs.Leaves.{Differs, IsPart, IsRefused, Leaves, Saves}
+use Rattle.cm_tool.specs.Jobs.{rule_by, seeds_tried}
+use Rattle.cm_tool.specs.Leaves.{HasChanged, IsPart, IsRefused, Leaves, Saves}
 use Rattle.cm_tool.specs.Messages.{built_message, no_keys}
 use Rattle.cm_tool.specs.Outcome as outcomes
 use Rattle.cm_tool.specs.Outcome.{Outcome, build_over, fault_message, job_outcome, keys_in, refusal, saving, with_seed}
-use Rattle.cm_tool.specs.Run.{AnswersOf, IsBuildMessage, IsBy, IsCored, Reaches, SavedNumbers, SavedPart, TookFirst}
+use Rattle.cm_tool.specs.Run.{IsBuildMessage, IsCored, Reaches, SavedPart, TookFirst}
 use Rattle.cm_tool.specs.declared.built.Summary.{Summary}
 use Rattle.cm_tool.specs.declared.stop.Stop.{Stop}
 use Rattle.cm_tool.specs.declared.stop.Stop.TheVariants.{Memory, Read, Write, Cored, Changed, NoKeys, TooLong, TooMany}
-use Rattle.cm_algorithm.specs.declared.algorithm.Algorithm.{Algorithm}
-use Rattle.cm_algorithm.specs.declared.algorithm.Algorithm.TheVariants.{Chm, Bdz, BdzPh, Brz}
-use Rattle.cm_words.specs.Limits.{IsBuild}
 use Rattle.cm_words.specs.declared.jobs.BuildJob.{BuildJob}
 use Rattle.cm_words.specs.declared.jobs.Job.TheVariants.{Build}
 
@@ -154,7 +148,7 @@ written_at files path bytes =
     map.get-insert nat_list_cmp_total files path bytes path ∙ ap (λ (b : Bool). cond b (Some bytes) (map.get files path)) ((eq_by_cmp_equiv nat_list_cmp_total).refl path)
 
 -- the message of a job that stopped goes with its status
-pub message_is : (job : BuildJob) (stop : Stop) → Differs stop → IsBuildMessage job (status_of stop) (message_of job stop)
+pub message_is : (job : BuildJob) (stop : Stop) → HasChanged stop → IsBuildMessage job (status_of stop) (message_of job stop)
 message_is job Memory differ = record { done = λ e. absurd (omega arith); cored = λ e. absurd (omega arith); read = λ e. absurd (omega arith); write = λ e. absurd (omega arith); memory = λ e. refl; changed = λ e. absurd (omega arith); keys = λ e. absurd (omega arith) }
 message_is job Read differ = record { done = λ e. absurd (omega arith); cored = λ e. absurd (omega arith); read = λ e. refl; write = λ e. absurd (omega arith); memory = λ e. absurd (omega arith); changed = λ e. absurd (omega arith); keys = λ e. absurd (omega arith) }
 message_is job Write differ = record { done = λ e. absurd (omega arith); cored = λ e. absurd (omega arith); read = λ e. absurd (omega arith); write = λ e. refl; memory = λ e. absurd (omega arith); changed = λ e. absurd (omega arith); keys = λ e. absurd (omega arith) }

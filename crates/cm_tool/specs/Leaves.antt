@@ -1,5 +1,5 @@
 -- What each end of a build leaves.
-use Rattle.std.specs.Prelude.{◌≡◌, ◌≢◌, ◌⊎◌, ◌<◌, ◌≤◌, ℕ, List, [], length, take, Option, None, Some, Result, Ok, Err}
+use Rattle.std.specs.Prelude.{◌≡◌, ◌≢◌, ◌⊎◌, ◌<◌, ◌≤◌, ◌+◌, ℕ, List, [], length, take, Option, None, Some, Result, Ok, Err}
 use Rattle.std.specs.Option.{ForSome}
 use Rattle.cm_outer.specs.Causes.{Rose}
 use Rattle.cm_outer.specs.Files.{Files, file_at, with_file}
@@ -8,8 +8,8 @@ use Rattle.cm_algo.specs.declared.fault.BuildFault.TheVariants as build_fault
 use Rattle.cm_outer.specs.Passes.{Told}
 use Rattle.cm_outer.specs.declared.key_pass.KeyFault.{KeyFault}
 use Rattle.cm_outer.specs.declared.key_pass.KeyFault.TheVariants as key_fault
-use Rattle.cm_spec.specs.Built.{first_seed, IsFirst, AllCored}
-use Rattle.cm_spec.specs.Rule.{IsCount}
+use Rattle.cm_spec.specs.Built.{cells_under, first_seed, IsFirst, AllCored}
+use Rattle.cm_spec.specs.Rule.{IsCount, Rule}
 use Rattle.cm_dump.specs.Dumps.{dump_of}
 use Rattle.cm_dump.specs.Functions.{IsFunction}
 use Rattle.cm_dump.specs.declared.writer.Func.{Func}
@@ -32,6 +32,15 @@ HasStopCause r r' w w' (Err (Changed first again)) = (r' ≡ r) × (w' ≡ w)
 HasStopCause r r' w w' (Err NoKeys) = (r' ≡ r) × (w' ≡ w)
 HasStopCause r r' w w' (Err (TooLong line)) = (r' ≡ r) × (w' ≡ w)
 HasStopCause r r' w w' (Err TooMany) = (r' ≡ r) × (w' ≡ w)
+
+-- a build over told keys gave the number of keys, the seed and the cells, in whatever number of steps
+pub record IsBuiltFrom (r : Rule) (told : Told) (c : ℕ) (seeds : List ℕ) (m seed : ℕ) (cells : List ℕ) : Type 0 where
+  pub no_fault : told.fault ≡ None
+  pub many : m ≡ length told.keys
+  pub place : ℕ
+  pub chosen : first_seed r told.keys c seeds ≡ Some seed
+  pub first : IsFirst r told.keys c seeds place seed
+  pub cells_are : cells ≡ cells_under r told.keys c seed
 
 -- the function of told keys by an algorithm: that of the first seed whose graph has an empty 2-core
 pub record IsFuncOf (algorithm : Algorithm) (b : ℕ) (told : Told) (c : ℕ) (seeds : List ℕ) (f : Func) : Type 0 where
@@ -61,16 +70,22 @@ stop_from (build_fault.Cored seed) = Cored
 stop_from (build_fault.Key fault) = stop_from_key fault
 stop_from (build_fault.Changed first again) = Changed first again
 
--- the two numbers of keys that changed differ
-abbrev pub Differs : Stop → Type 0
-Differs Memory = Unit {0}
-Differs Read = Unit {0}
-Differs Write = Unit {0}
-Differs Cored = Unit {0}
-Differs (Changed first again) = again ≢ first
-Differs NoKeys = Unit {0}
-Differs (TooLong line) = Unit {0}
-Differs TooMany = Unit {0}
+-- how many keys there were in the first pass, and how many of a later one: fewer, or one more, where it stops
+pub record IsChange (first again : ℕ) : Type 0 where
+  pub some : 1 ≤ first
+  pub differs : again ≢ first
+  pub stops : again ≤ first + 1
+
+-- keys that changed have such numbers
+abbrev pub HasChanged : Stop → Type 0
+HasChanged Memory = Unit {0}
+HasChanged Read = Unit {0}
+HasChanged Write = Unit {0}
+HasChanged Cored = Unit {0}
+HasChanged (Changed first again) = IsChange first again
+HasChanged NoKeys = Unit {0}
+HasChanged (TooLong line) = Unit {0}
+HasChanged TooMany = Unit {0}
 
 -- the keys are refused so
 abbrev pub Refuses : BuildJob → Told → Stop → Type 0

@@ -1,5 +1,5 @@
 -- What the top call promises, in words over the command line and the files.
-use Rattle.std.specs.Prelude.{◌≡◌, ◌≢◌, ◌⊎◌, ℕ, List, [], ◌∷◌, ◌++◌, length, Option, Some, Ok, Err, true}
+use Rattle.std.specs.Prelude.{◌≡◌, ◌⊎◌, ℕ, List, [], ◌∷◌, ◌++◌, length, Option, Some, Ok, Err, true}
 use Rattle.cm_bdz.specs.Functions.{bdz_answer, bdz_ph_answer}
 use Rattle.cm_bdz.specs.Numbering.{AnswersApart}
 use Rattle.cm_chm.specs.Numbering.{AnswersNumbers}
@@ -16,7 +16,7 @@ use Rattle.cm_spec.specs.Lists.{has}
 use Rattle.cm_tool.specs.Asked.{AskedPart, GotNothing, Spells, keys_at}
 use Rattle.cm_tool.specs.Ends.{Says}
 use Rattle.cm_tool.specs.Jobs.{rule_by, seeds_tried}
-use Rattle.cm_tool.specs.Leaves.{IsPart}
+use Rattle.cm_tool.specs.Leaves.{IsChange, IsPart}
 use Rattle.cm_tool.specs.Messages.{bad_dump, built_message, no_seed, out_of_memory, cannot_read, cannot_write, cannot_write_out, keys_changed, no_keys, line_too_long, too_many_keys, usage_message}
 use Rattle.cm_tool.specs.Outcome.{Outcome, job_outcome, keys_in, saving}
 use Rattle.cm_tool.specs.Texts.{help_text, version_text}
@@ -141,7 +141,7 @@ pub record IsBuildMessage (job : BuildJob) (status : ℕ) (text : List ℕ) : Ty
   pub read : status ≡ 4 → text ≡ cannot_read job.keys
   pub write : status ≡ 5 → text ≡ cannot_write job.function
   pub memory : status ≡ 6 → text ≡ out_of_memory
-  pub changed : status ≡ 7 → (first : ℕ) × (again : ℕ) × (again ≢ first) × (text ≡ keys_changed job.keys first again)
+  pub changed : status ≡ 7 → (first : ℕ) × (again : ℕ) × IsChange first again × (text ≡ keys_changed job.keys first again)
   pub keys : status ≡ 8 → (text ≡ no_keys job.keys) ⊎ (text ≡ too_many_keys job.keys) ⊎ ((line : ℕ) × (text ≡ line_too_long job.keys line))
 
 -- that of a query, after its notes

@@ -5,7 +5,7 @@ ghost use Rattle.cm_dump.specs.Functions.{IsFunction};
 ghost use Rattle.cm_outer.specs.Files.{file_at, with_file};
 ghost use Rattle.cm_tool.specs.Ends.{Says};
 ghost use Rattle.cm_tool.specs.Jobs.{seeds_of};
-ghost use Rattle.cm_tool.specs.Leaves.{Differs, HasStopCause, IsFunctionOf, IsRefused, Leaves, stop_from, stop_from_key};
+ghost use Rattle.cm_tool.specs.Leaves.{HasChanged, HasStopCause, IsFunctionOf, IsRefused, Leaves, stop_from, stop_from_key};
 ghost use Rattle.cm_tool.specs.Outcome.{job_outcome};
 ghost use Rattle.cm_tool.specs.Run.{IsBuildMessage, IsCored, IsStatus, Reaches, SavedNumbers, SavedPart, TookFirst};
 ghost use Rattle.cm_words.specs.Limits.{IsBuild};
@@ -71,7 +71,7 @@ fn function_of<D: Disk>(alloc: Global, job: &BuildJob, disk: &mut D) -> Result<F
     ensures made { IfOk result (λ f. ForSome (D.files disk.old) (λ files. (bytes : List ℕ) × (file_at files job.now.keys ≡ Some bytes) × IsFunctionOf job.now bytes f)) }
     ensures valid { IfOk result IsFunction }
     ensures refused { IfErr result (λ stop. ForSome (D.files disk.old) (λ files. IsRefused job.now files stop)) }
-    ensures differ { IfErr result Differs }
+    ensures changed { IfErr result HasChanged }
 {
     let reader = match disk.open(job.keys.as_str()) {
         Ok(reader) => reader,
@@ -99,7 +99,7 @@ fn build_file<D: Disk>(alloc: Global, job: &BuildJob, disk: &mut D) -> Result<Su
     requires job { IsBuild job.now }
     ensures cause { HasStopCause (D.read_faults disk.old) (D.read_faults disk.new) (D.write_faults disk.old) (D.write_faults disk.new) result }
     ensures leaves { Leaves job.now (D.files disk.old) (D.files disk.new) result }
-    ensures differ { IfErr result Differs }
+    ensures changed { IfErr result HasChanged }
 {
     let function = match function_of(alloc, job, disk) {
         Ok(function) => function,

@@ -1,34 +1,35 @@
 //! Functions of the algorithms, built over a pass of keys.
-ghost use Rattle.std.specs.Prelude.{◌≡◌, ◌≢◌, ◌<◌, ◌≤◌, ℕ, length, IfOk, IfErr};
+ghost use Rattle.std.specs.Prelude.{◌≡◌, ◌<◌, ◌≤◌, ℕ, List, length, count_by, IfOk, IfErr};
 ghost use Rattle.std.specs.Option.{ForSome};
-ghost use Rattle.cm_algo.specs.Fails.{HasBuildCause, FailsBuild, Differ};
+ghost use Rattle.cm_algo.specs.Fails.{FailsBuild, HasBuildCause, HasNumbers};
 ghost use Rattle.cm_dump.specs.Functions.{IsFunction};
-ghost use Rattle.cm_spec.specs.Bdz.{bdz_rule, bdz_ph_rule};
-ghost use Rattle.cm_spec.specs.Chm.{chm_rule};
+ghost use Rattle.cm_spec.specs.Cells.{is_busy};
 ghost use Rattle.cm_spec.specs.Rule.{IsRatio};
 ghost use Rattle.cm_tool.specs.Jobs.{rule_by};
-ghost use Rattle.cm_tool.specs.Leaves.{IsFuncOf};
+ghost use Rattle.cm_tool.specs.Leaves.{IsBuiltFrom, IsFuncOf};
 ghost use Rattle.cm_words.specs.Limits.{IsBuild};
 
-use cm_algo::{BuildFault, build};
+use cm_algo::{BuildFault, Built, Scheme, build};
+use cm_algorithm::Algorithm;
 use cm_bdz::{Bdz, BdzPh, BdzPhScheme, BdzScheme, PartsFault};
 use cm_chm::{Chm, ChmScheme};
 use cm_dump::Func;
 use cm_graph::{Steps, Xored};
 use cm_outer::KeyPass;
-use cm_algorithm::Algorithm;
 use cm_words::BuildJob;
 use std::alloc::Global;
 use std::sync::ledger::{Blank, Ledger};
 
-/// Builds a function by CHM.
-fn chm_of<P: KeyPass, L: Ledger>(
+/// Builds over a pass by the rule of a scheme, with steps that nobody reads: the cells of the first seed whose graph has an
+/// empty 2-core.
+fn build_by<S: Scheme<K>, P: KeyPass, const K: usize, L: Ledger>(
     alloc: Global,
+    scheme: &S,
     keys: &mut P,
     c: u32,
     seeds: &[u32],
     blank: Blank,
-) -> Result<Func, BuildFault>
+) -> Result<Built<S::Table>, BuildFault>
     requires name { blank.name ≡ L.name }
     requires parts { blank.parts ≡ L.parts }
     requires some { 0 < blank.parts }
@@ -36,92 +37,18 @@ fn chm_of<P: KeyPass, L: Ledger>(
     requires seeds { 0 < length seeds.now }
     ensures told { P.told keys.new ≡ P.told keys.old }
     ensures cause { HasBuildCause (P.faults keys.old) (P.faults keys.new) result }
-    ensures made { (b : ℕ) → IfOk result (λ f. ForSome (P.told keys.old) (λ told. IsFuncOf Algorithm.Chm b told c seeds.now f)) }
-    ensures valid { IfOk result IsFunction }
-    ensures fault { IfErr result (λ e. ForSome (P.told keys.old) (λ told. FailsBuild chm_rule told c seeds.now e)) }
-    ensures differ { IfErr result Differ }
+    ensures many { IfOk result (λ b. (1 ≤ b.m) × (b.m ≤ 16777216) × (b.c ≡ c)) }
+    ensures cells { IfOk result (λ b. (S.Table.bound_of b.cells ≡ (S.rule scheme.now).bound b.m) × (length (S.Table.cells b.cells) ≡ (S.rule scheme.now).size b.m c)) }
+    ensures busy { IfOk result (λ b. (S.rule scheme.now).modulus b.m ≤ (S.rule scheme.now).idle → count_by (is_busy (S.rule scheme.now).idle) (S.Table.cells b.cells) ≡ b.m) }
+    ensures first { IfOk result (λ b. ForSome (P.told keys.old) (λ told. IsBuiltFrom (S.rule scheme.now) told c seeds.now b.m b.seed (S.Table.cells b.cells))) }
+    ensures fault { IfErr result (λ e. ForSome (P.told keys.old) (λ told. FailsBuild (S.rule scheme.now) told c seeds.now e)) }
+    ensures numbers { IfErr result (HasNumbers (P.place keys.new)) }
 {
     let mut steps = Steps::<L>::new(blank);
-    let built = build::<ChmScheme, Xored<2>, P, 2, L>(
-        alloc,
-        &ChmScheme {},
-        keys,
-        c,
-        seeds,
-        &mut steps,
-    )?;
-    Ok(Func::Chm(Chm::from_built(built)))
-}
-
-/// Builds a function by BDZ, with the rank of every `2^b`-th cell, b being from 3 to 10.
-fn bdz_of<P: KeyPass, L: Ledger>(
-    alloc: Global,
-    keys: &mut P,
-    c: u32,
-    b: u8,
-    seeds: &[u32],
-    blank: Blank,
-) -> Result<Func, BuildFault>
-    requires name { blank.name ≡ L.name }
-    requires parts { blank.parts ≡ L.parts }
-    requires some { 0 < blank.parts }
-    requires ratio { IsRatio c }
-    requires b { (3 ≤ b) × (b ≤ 10) }
-    requires seeds { 0 < length seeds.now }
-    ensures told { P.told keys.new ≡ P.told keys.old }
-    ensures cause { HasBuildCause (P.faults keys.old) (P.faults keys.new) result }
-    ensures made { IfOk result (λ f. ForSome (P.told keys.old) (λ told. IsFuncOf Algorithm.Bdz b told c seeds.now f)) }
-    ensures valid { IfOk result IsFunction }
-    ensures fault { IfErr result (λ e. ForSome (P.told keys.old) (λ told. FailsBuild bdz_rule told c seeds.now e)) }
-    ensures differ { IfErr result Differ }
-{
-    let mut steps = Steps::<L>::new(blank);
-    let built = build::<BdzScheme, Xored<3>, P, 3, L>(
-        alloc,
-        &BdzScheme {},
-        keys,
-        c,
-        seeds,
-        &mut steps,
-    )?;
-    match Bdz::from_built(alloc, built, b) {
-        Ok(function) => Ok(Func::Bdz(function)),
-        Err(PartsFault::Memory) => Err(BuildFault::Memory),
-        // A build has as many cells that are not idle as there are keys.
-        Err(PartsFault::BadCount) => unreachable!(),
+    match build::<S, Xored<K>, P, K, L>(alloc, scheme, keys, c, seeds, &mut steps) {
+        Ok(built) => Ok(built),
+        Err(fault) => Err(fault),
     }
-}
-
-/// Builds a function by BDZ_PH.
-fn bdz_ph_of<P: KeyPass, L: Ledger>(
-    alloc: Global,
-    keys: &mut P,
-    c: u32,
-    seeds: &[u32],
-    blank: Blank,
-) -> Result<Func, BuildFault>
-    requires name { blank.name ≡ L.name }
-    requires parts { blank.parts ≡ L.parts }
-    requires some { 0 < blank.parts }
-    requires ratio { IsRatio c }
-    requires seeds { 0 < length seeds.now }
-    ensures told { P.told keys.new ≡ P.told keys.old }
-    ensures cause { HasBuildCause (P.faults keys.old) (P.faults keys.new) result }
-    ensures made { (b : ℕ) → IfOk result (λ f. ForSome (P.told keys.old) (λ told. IsFuncOf Algorithm.BdzPh b told c seeds.now f)) }
-    ensures valid { IfOk result IsFunction }
-    ensures fault { IfErr result (λ e. ForSome (P.told keys.old) (λ told. FailsBuild bdz_ph_rule told c seeds.now e)) }
-    ensures differ { IfErr result Differ }
-{
-    let mut steps = Steps::<L>::new(blank);
-    let built = build::<BdzPhScheme, Xored<3>, P, 3, L>(
-        alloc,
-        &BdzPhScheme {},
-        keys,
-        c,
-        seeds,
-        &mut steps,
-    )?;
-    Ok(Func::BdzPh(BdzPh::from_built(built)))
 }
 
 /// Builds the function that a job asks for.
@@ -142,12 +69,26 @@ pub(crate) fn func_of<P: KeyPass, L: Ledger>(
     ensures made { IfOk result (λ f. ForSome (P.told keys.old) (λ told. IsFuncOf job.now.algorithm job.now.b told job.now.c seeds.now f)) }
     ensures valid { IfOk result IsFunction }
     ensures fault { IfErr result (λ e. ForSome (P.told keys.old) (λ told. FailsBuild (rule_by job.now.algorithm) told job.now.c seeds.now e)) }
-    ensures differ { IfErr result Differ }
+    ensures numbers { IfErr result (HasNumbers (P.place keys.new)) }
 {
     match job.algorithm {
-        Algorithm::Chm => chm_of::<P, L>(alloc, keys, job.c, seeds, blank),
-        Algorithm::Bdz => bdz_of::<P, L>(alloc, keys, job.c, job.b, seeds, blank),
-        Algorithm::BdzPh => bdz_ph_of::<P, L>(alloc, keys, job.c, seeds, blank),
+        Algorithm::Chm => {
+            let built = build_by::<_, P, 2, L>(alloc, &ChmScheme {}, keys, job.c, seeds, blank)?;
+            Ok(Func::Chm(Chm::from_built(built)))
+        }
+        Algorithm::Bdz => {
+            let built = build_by::<_, P, 3, L>(alloc, &BdzScheme {}, keys, job.c, seeds, blank)?;
+            match Bdz::from_built(alloc, built, job.b) {
+                Ok(function) => Ok(Func::Bdz(function)),
+                Err(PartsFault::Memory) => Err(BuildFault::Memory),
+                // A build has as many cells that are not idle as there are keys.
+                Err(PartsFault::BadCount) => unreachable!(),
+            }
+        }
+        Algorithm::BdzPh => {
+            let built = build_by::<_, P, 3, L>(alloc, &BdzPhScheme {}, keys, job.c, seeds, blank)?;
+            Ok(Func::BdzPh(BdzPh::from_built(built)))
+        }
         // No words ask for a build by BRZ.
         Algorithm::Brz => unreachable!(),
     }

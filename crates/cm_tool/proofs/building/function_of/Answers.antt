@@ -2,7 +2,7 @@ use Rattle.std.proofs.Common.{rules, ◌≡◌, ◌∙◌, ℕ, List, Option, ap
 use Rattle.std.specs.Option.{option_map}
 use Rattle.cm_tool.specs.Jobs.{seeds_tried}
 use Rattle.cm_tool.specs.Outcome.{keys_in}
-use Rattle.cm_tool.proofs.Builds.{refused_from}
+use Rattle.cm_tool.proofs.Builds.{has_changed, refused_from}
 use Rattle.cm_tool.proofs.building.function_of.Goals as goal
 
 pub returns-in-Ok-outcome-clause-made : goal.returns-in-Ok-outcome-clause-made
@@ -24,3 +24,6 @@ returns-in-Err-clause-refused g c = λ files is.
     let tried : c.as_slice.result.now ≡ seeds_tried job = search rules in
     let fails = rw tried at (c.in-Err.ensures.fault (keys_in job.first opened.bytes) told) in
     rw c.stop_of.ensures.stop (refused_from job files opened.bytes c.in-Err.fault (rw path at opened.there) fails)
+
+pub returns-in-Err-clause-changed : goal.returns-in-Err-clause-changed
+returns-in-Err-clause-changed g c = rw c.stop_of.ensures.stop (has_changed _ c.in-Err.fault c.in-Err.ensures.numbers)

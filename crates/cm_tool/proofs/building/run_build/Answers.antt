@@ -31,4 +31,4 @@ pub returns-in-Err-clause-part : goal.returns-in-Err-clause-part
 returns-in-Err-clause-part g c = λ five files is. saved_part c.args.job.now _ _ c.in-Err.stop files c.in-Err.ensures.leaves is (sym c.report.ensures.status ∙ five)
 
 pub returns-in-Err-clause-err : goal.returns-in-Err-clause-err
-returns-in-Err-clause-err g c = (message_of c.args.job.now c.in-Err.stop, rw c.report.ensures.status (message_is c.args.job.now c.in-Err.stop c.in-Err.ensures.differ), c.report.ensures.says)
+returns-in-Err-clause-err g c = (message_of c.args.job.now c.in-Err.stop, rw c.report.ensures.status (message_is c.args.job.now c.in-Err.stop c.in-Err.ensures.changed), c.report.ensures.says)
