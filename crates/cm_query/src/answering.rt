@@ -1,5 +1,5 @@
 //! The answers of a function to the keys of a pass.
-ghost use Rattle.std.specs.Prelude.{◌≡◌, ◌≤◌, ◌+◌, ℕ, List, Err, IsTrue, IfOk, IfErr, OnOk, None};
+ghost use Rattle.std.specs.Prelude.{◌≡◌, ◌<◌, ◌≤◌, ◌+◌, ℕ, List, length, Err, IsTrue, IfOk, IfErr, OnOk, None};
 ghost use Rattle.std.specs.Option.{ForSome};
 ghost use Rattle.cm_outer.specs.Noting.{Noted};
 ghost use Rattle.cm_outer.specs.Writing.{then_bytes};
@@ -20,7 +20,7 @@ use std::alloc::Global;
 
 /// Answers each key of a pass that stands at its start: its line goes to out and then, where it has no answer or one that an
 /// earlier key has, a note to err. One bit for each number of the span is taken first, and no other memory. Keys at hand are taken
-/// some at a time, with all lines of those before written.
+/// some at a time, with all lines of those before written, and sent on by an empty piece.
 pub fn query<A: Answers, P: KeyPass, O: Sink, E: Sink>(
     alloc: Global,
     function: &A,
@@ -75,7 +75,8 @@ pub fn query<A: Answers, P: KeyPass, O: Sink, E: Sink>(
             Err(fault) => return Err(QueryFault::Key(fault)),
         }
         let answer = batch.answer();
-        match write_line(out, batch.key(), answer, &mut buffer) {
+        let sends = reads_next(&batch, keys);
+        match write_line(out, batch.key(), answer, sends, &mut buffer) {
             Ok(()) => {}
             Err(Failed) => return Err(QueryFault::Write),
         }
@@ -84,4 +85,12 @@ pub fn query<A: Answers, P: KeyPass, O: Sink, E: Sink>(
         tally.count(answer, repeated);
         batch.pass();
     }
+}
+
+/// Whether the next key has to be read: that may fail, so the lines of all keys before it are sent on first.
+fn reads_next<P: KeyPass>(batch: &Batch, keys: &P) -> bool
+    requires usable { IsTrue (P.usable keys.now) }
+    requires waits { 0 < length batch.now.keys }
+{
+    batch.is_last() && keys.peek().is_none()
 }

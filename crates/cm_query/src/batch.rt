@@ -1,5 +1,5 @@
 //! Keys that wait for their lines.
-ghost use Rattle.std.specs.Prelude.{◌≡◌, ◌<◌, ◌≤◌, ℕ, List, [], length, drop, slice_index_or, Option, Bool, true, false, IsTrue, OnOk, OnErr};
+ghost use Rattle.std.specs.Prelude.{◌≡◌, ◌<◌, ◌≤◌, ℕ, List, [], length, drop, slice_index_or, Option, Bool, true, false, IsTrue, ◌↔◌, OnOk, OnErr};
 ghost use Rattle.std.specs.Option.{ForSome};
 ghost use Rattle.cm_outer.specs.Passes.{HasKeyCause};
 ghost use Rattle.cm_query.specs.Waiting.{AreAnswers, Refills, RefillsBy, WaitingKeys};
@@ -104,6 +104,14 @@ impl Batch {
         self.taken.gather(function, keys);
         self.taken.answer_all(function, &mut self.answers);
         Ok(true)
+    }
+
+    /// Whether one key waits and no other.
+    pub(crate) fn is_last(&self) -> bool
+        requires waits { 0 < length self.now.keys }
+        ensures { IsTrue result ↔ (length self.now.keys ≡ 1) }
+    {
+        self.next + 1 == self.taken.len()
     }
 
     /// The bytes of the key that waits longest.

@@ -57,8 +57,27 @@ fn write_short<O: Sink>(
     out.write(line.as_slice())
 }
 
-/// Writes the line of a key, if it has an answer. Fails exactly where the sink does, which has then taken a prefix of the line.
+/// Writes the line of a key, if it has an answer, and after it, where `sends`, an empty piece, so that all lines reach what is
+/// behind the sink. Fails exactly where the sink does, which has then taken a prefix of the line.
 pub(crate) fn write_line<O: Sink>(
+    out: &mut O,
+    key: &[u8],
+    answer: Option<u32>,
+    sends: bool,
+    buffer: &mut Buffer,
+) -> Result<(), Failed>
+    ensures line { Writes (O.written out.old) (O.written out.new) (line_of LINE_END key.now answer) result }
+    ensures cause { HasCause (O.faults out.old) (O.faults out.new) result }
+{
+    put_line(out, key, answer, buffer)?;
+    if sends {
+        return out.write(&[]);
+    }
+    Ok(())
+}
+
+/// Writes the line of a key, if it has an answer.
+fn put_line<O: Sink>(
     out: &mut O,
     key: &[u8],
     answer: Option<u32>,
