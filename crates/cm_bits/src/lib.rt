@@ -128,6 +128,3 @@ pub trait Cells: Sized {
     // The image of a list has no fault.
     ghost image_is_sound: { (b : ℕ) (xs : List ℕ) → fits b → AllBelow b xs → image_fault (length xs) b (list_of (image_byte b xs) (image_size (length xs) b)) ≡ None };
 }
-
-#[cfg(test)]
-mod tests;

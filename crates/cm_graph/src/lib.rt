@@ -13,6 +13,3 @@ pub use crate::incidence::Incidence;
 pub use crate::linked::Linked;
 pub use crate::steps::Steps;
 pub use crate::xored::Xored;
-
-#[cfg(test)]
-mod tests;

@@ -206,6 +206,3 @@ pub fn words(key: &[u8], seed: u32) -> [u32; 3]
     let s = finish(key, rest, s);
     [s.a, s.b, s.c]
 }
-
-#[cfg(test)]
-mod tests;

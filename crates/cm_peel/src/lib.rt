@@ -9,6 +9,3 @@ mod round;
 
 pub use crate::laws::{empty_rest, rest_is_core};
 pub use crate::peeled::{Peeled, peel, peel_without_levels};
-
-#[cfg(test)]
-mod tests;

@@ -3,8 +3,6 @@
 
 mod counted;
 mod table;
-#[cfg(test)]
-mod tests;
 mod words;
 
 pub use crate::counted::Counted;

@@ -1,9 +1,10 @@
 ghost use Rattle.std.specs.Prelude.{◌≤◌, length};
 ghost use Rattle.cm_rank.specs.Ranks.{StandsFor};
 
-use crate::{Counted, RankTable};
-use cm_bits::{Bits, Cells, Crumbs, Plain};
+use cm_bits::{Bits, Cells, Crumbs, Fields, ImageFault, Plain, Trits};
+use cm_rank::{Counted, RankTable};
 use std::alloc::{AllocError, Global};
+use std::cell::Cell;
 use std::process::Abort;
 use std::test::Fail;
 
@@ -68,6 +69,8 @@ fn tables(rt: HostRuntime) -> Result<(), Fail> {
     check::<Plain>(&rt, rt.alloc(), &some, 4, 1, 2)?;
     check::<Bits>(&rt, rt.alloc(), &[0, 1, 1, 0, 0, 0, 0, 0, 1], 2, 0, 2)?;
     check::<Bits>(&rt, rt.alloc(), &[], 2, 0, 0)?;
+    check::<Trits>(&rt, rt.alloc(), &[2, 0, 1, 1, 2, 2, 0, 2, 1], 3, 2, 2)?;
+    check::<Fields>(&rt, rt.alloc(), &[4, 4, 0, 3, 4, 1, 2, 4, 4], 5, 4, 2)?;
     Ok(())
 }
 
@@ -111,7 +114,7 @@ fn long_table(rt: HostRuntime) -> Result<(), Fail> {
 
 /// A table of n cells of all values that a mask of the lowest bits leaves, in no order.
 fn scattered<C: Cells>(alloc: Global, n: u32, bound: u32, mask: u32) -> Result<C, AllocError>
-    requires room { n ≤ 1000 }
+    requires room { n ≤ 3000 }
     requires fit { C.fits bound }
 {
     let mut cells = C::zeroed(alloc, n, bound)?;
@@ -122,6 +125,46 @@ fn scattered<C: Cells>(alloc: Global, n: u32, bound: u32, mask: u32) -> Result<C
         }
     }
     Ok(cells)
+}
+
+/// Checks the ranks of the cells just before, at and after each multiple of `2^b`, and of the last cells, against a plain loop.
+fn ranks_at_edges<C: Counted>(
+    rt: &impl Abort,
+    alloc: Global,
+    cells: &C,
+    idle: u32,
+    b: u8,
+) -> Result<(), AllocError>
+    requires low { 3 ≤ b }
+    requires high { b ≤ 10 }
+{
+    let table = RankTable::build(alloc, cells, idle, b)?;
+    let step = 1u32 << b;
+    let len = cells.len();
+    let mut count = 0u32;
+    for i in 0..len {
+        let near = (i + 1) % step;
+        if near <= 2 || len - i <= 3 {
+            assert_eq!(rt; table.rank(cells, i), count, "b = {b}, cell {i}");
+        }
+        if cells.get(i) != idle {
+            count = count.wrapping_add(1);
+        }
+    }
+    Ok(())
+}
+
+#[test]
+fn edges_of_blocks(rt: HostRuntime) -> Result<(), Fail> {
+    let crumbs: Crumbs = scattered(rt.alloc(), 2500, 4, 3)?;
+    ranks_at_edges(&rt, rt.alloc(), &crumbs, 3, 3)?;
+    ranks_at_edges(&rt, rt.alloc(), &crumbs, 3, 7)?;
+    ranks_at_edges(&rt, rt.alloc(), &crumbs, 3, 10)?;
+    let fields: Fields = scattered(rt.alloc(), 2500, 8, 7)?;
+    ranks_at_edges(&rt, rt.alloc(), &fields, 5, 3)?;
+    ranks_at_edges(&rt, rt.alloc(), &fields, 5, 7)?;
+    ranks_at_edges(&rt, rt.alloc(), &fields, 5, 10)?;
+    Ok(())
 }
 
 /// Whether the counts from a place to each later one are those of a plain loop.
@@ -182,5 +225,120 @@ fn counts_by_cells(rt: HostRuntime) -> Result<(), Fail> {
     assert!(rt; counts_between(&bits, 1));
     let plain: Plain = scattered(rt.alloc(), 140, 1000, 511)?;
     assert!(rt; counts_between(&plain, 300));
+    Ok(())
+}
+
+/// A table that counts how often its cells are looked at.
+#[derive(Drop)]
+struct Watched<C: Cells + Drop> {
+    table: C,
+    looks: Cell<u32>,
+}
+
+impl<C: Cells + Drop> Cells for Watched<C> {
+    ghost bound_of = { λ t. C.bound_of t.table };
+
+    ghost cells = { λ t. C.cells t.table };
+
+    ghost fits = { λ b. C.fits b };
+
+    ghost image_size = { λ n b. C.image_size n b };
+
+    ghost image_byte = { λ b xs q. C.image_byte b xs q };
+
+    ghost cell_place = { λ b i. C.cell_place b i };
+
+    ghost image_fault = { λ n b bs. C.image_fault n b bs };
+
+    ghost in_bound = { λ t. C.in_bound t.table };
+
+    ghost in_room = { λ t. C.in_room t.table };
+
+    ghost bound_fits = { λ t. C.bound_fits t.table };
+
+    ghost cell_inside = { λ b n i f l. C.cell_inside b n i f l };
+
+    ghost same_from_image = { λ b xs ys f n h l e. C.same_from_image b xs ys f n h l e };
+
+    ghost image_is_sound = { λ b xs f l. C.image_is_sound b xs f l };
+
+    fn zeroed(alloc: Global, n: u32, bound: u32) -> Result<Self, AllocError> {
+        Ok(Watched {
+            table: C::zeroed(alloc, n, bound)?,
+            looks: Cell::new(0),
+        })
+    }
+
+    fn len(&self) -> u32 {
+        self.table.len()
+    }
+
+    fn bound(&self) -> u32 {
+        self.table.bound()
+    }
+
+    fn get(&self, i: u32) -> u32 {
+        self.looks.set(self.looks.get().wrapping_add(1));
+        self.table.get(i)
+    }
+
+    fn set(&mut self, i: u32, value: u32) {
+        self.table.set(i, value);
+    }
+
+    fn image_len(n: u32, bound: u32) -> u64 {
+        C::image_len(n, bound)
+    }
+
+    fn cell_byte(bound: u32, i: u32) -> u64 {
+        C::cell_byte(bound, i)
+    }
+
+    fn byte(&self, i: u64) -> u8 {
+        self.table.byte(i)
+    }
+
+    fn from_image(alloc: Global, n: u32, bound: u32, bytes: &[u8]) -> Result<Self, ImageFault> {
+        match C::from_image(alloc, n, bound, bytes) {
+            Ok(table) => Ok(Watched {
+                table,
+                looks: Cell::new(0),
+            }),
+            Err(fault) => Err(fault),
+        }
+    }
+}
+
+impl<C: Cells + Drop> Counted for Watched<C> {}
+
+/// A table of ranks looks at each cell once, and a rank at less than `2^b` cells.
+fn looks_at_few(
+    rt: &impl Abort,
+    alloc: Global,
+    cells: &Watched<Plain>,
+    b: u8,
+) -> Result<(), AllocError>
+    requires low { 3 ≤ b }
+    requires high { b ≤ 10 }
+{
+    cells.looks.set(0);
+    let table = RankTable::build(alloc, cells, 300, b)?;
+    assert_eq!(rt; cells.looks.get(), cells.len());
+    let mut most = 0;
+    for i in 0..cells.len() {
+        cells.looks.set(0);
+        let _rank = table.rank(cells, i);
+        most = cells.looks.get().max(most);
+    }
+    assert_eq!(rt; most, (1 << b) - 1);
+    Ok(())
+}
+
+#[test]
+fn looks(rt: HostRuntime) -> Result<(), Fail> {
+    let cells: Watched<Plain> = scattered(rt.alloc(), 2500, 1000, 511)?;
+    looks_at_few(&rt, rt.alloc(), &cells, 3)?;
+    looks_at_few(&rt, rt.alloc(), &cells, 7)?;
+    looks_at_few(&rt, rt.alloc(), &cells, 10)?;
     Ok(())
 }

@@ -1,4 +1,4 @@
-use Rattle.cm_graph.proofs.tests.xored.Given as goal
+use Rattle.cm_examples.proofs.graph.shows.Given as goal
 
 abbrev pub ghosts-path : goal.ghosts-path
 ghosts-path g a = record { name = a.blank.name; parts = a.blank.parts }

@@ -1,14 +1,15 @@
 ghost use Rattle.std.specs.Prelude.{◌≡◌, ◌<◌, length, IfOk};
 
-use crate::{Peeled, peel, peel_without_levels};
 use cm_graph::{Edges, Incidence, Linked, Steps, Xored};
+use cm_peel::{Peeled, peel, peel_without_levels};
 use std::alloc::{AllocError, Global};
 use std::marker::Brand;
+use std::process::Abort;
 use std::sync::ledger::{Blank, Ledger};
 use std::test::Fail;
 
 /// Peels edges with two ends over a given incidence, with steps that nobody reads.
-fn peel_pairs<I: Incidence<2> + Drop, L: Ledger>(
+fn pairs_by<I: Incidence<2> + Drop, L: Ledger>(
     alloc: Global,
     edges: &Edges<2>,
     blank: Blank,
@@ -23,22 +24,15 @@ fn peel_pairs<I: Incidence<2> + Drop, L: Ledger>(
     peel::<2, I, L>(alloc, edges, &mut steps)
 }
 
-fn peeled_pairs(alloc: Global, edges: &Edges<2>) -> Result<Peeled<2>, AllocError>
+fn pairs<I: Incidence<2> + Drop>(alloc: Global, edges: &Edges<2>) -> Result<Peeled<2>, AllocError>
     ensures levels { IfOk result (λ p. length p.levels ≡ length edges.now.edges) }
     ensures pivots { IfOk result (λ p. length p.pivots ≡ length edges.now.edges) }
 {
-    peel_pairs::<Xored<2>, Brand>(alloc, edges, Blank::new(1))
-}
-
-fn chained_pairs(alloc: Global, edges: &Edges<2>) -> Result<Peeled<2>, AllocError>
-    ensures levels { IfOk result (λ p. length p.levels ≡ length edges.now.edges) }
-    ensures pivots { IfOk result (λ p. length p.pivots ≡ length edges.now.edges) }
-{
-    peel_pairs::<Linked<2>, Brand>(alloc, edges, Blank::new(1))
+    pairs_by::<I, Brand>(alloc, edges, Blank::new(1))
 }
 
 /// Peels edges with three ends over a given incidence, with steps that nobody reads.
-fn peel_triples<I: Incidence<3> + Drop, L: Ledger>(
+fn triples_by<I: Incidence<3> + Drop, L: Ledger>(
     alloc: Global,
     edges: &Edges<3>,
     blank: Blank,
@@ -53,18 +47,11 @@ fn peel_triples<I: Incidence<3> + Drop, L: Ledger>(
     peel::<3, I, L>(alloc, edges, &mut steps)
 }
 
-fn peeled_triples(alloc: Global, edges: &Edges<3>) -> Result<Peeled<3>, AllocError>
+fn triples<I: Incidence<3> + Drop>(alloc: Global, edges: &Edges<3>) -> Result<Peeled<3>, AllocError>
     ensures levels { IfOk result (λ p. length p.levels ≡ length edges.now.edges) }
     ensures pivots { IfOk result (λ p. length p.pivots ≡ length edges.now.edges) }
 {
-    peel_triples::<Xored<3>, Brand>(alloc, edges, Blank::new(1))
-}
-
-fn chained_triples(alloc: Global, edges: &Edges<3>) -> Result<Peeled<3>, AllocError>
-    ensures levels { IfOk result (λ p. length p.levels ≡ length edges.now.edges) }
-    ensures pivots { IfOk result (λ p. length p.pivots ≡ length edges.now.edges) }
-{
-    peel_triples::<Linked<3>, Brand>(alloc, edges, Blank::new(1))
+    triples_by::<I, Brand>(alloc, edges, Blank::new(1))
 }
 
 /// Peels edges with two ends and keeps no levels, with steps that nobody reads.
@@ -99,84 +86,85 @@ fn add(edges: &mut Edges<2>, first: u32, second: u32) -> Result<bool, AllocError
     }
 }
 
-/// The level of each edge, and the pivot of each removed one (0 for the others).
-fn marks<const K: usize>(
-    alloc: Global,
-    m: u32,
+/// Whether these are the levels and pivots of all edges (0 for the pivot of an edge that is left), the removed edges in order,
+/// and what is left.
+fn gives<const K: usize>(
     peeled: &Peeled<K>,
-) -> Result<Vec<(u32, u32)>, AllocError>
+    m: u32,
+    marks: &[(u32, u32)],
+    order: &[u32],
+    rest: &[u32],
+) -> bool
     requires levels { length peeled.now.levels ≡ m }
     requires pivots { length peeled.now.pivots ≡ m }
 {
-    let mut marks = Vec::new(alloc);
+    if marks.len() != m as usize {
+        return false;
+    }
     for e in 0..m {
         let level = peeled.level(e);
         let pivot = if level > 0 { peeled.pivot(e) } else { 0 };
-        marks.push((level, pivot))?;
+        if (level, pivot) != marks[e as usize] {
+            return false;
+        }
     }
-    Ok(marks)
+    peeled.order() == order && peeled.rest() == rest
 }
 
-#[test]
-fn path(rt: HostRuntime) -> Result<(), Fail> {
-    let mut edges = Edges::<2>::new(rt.alloc(), 4);
+fn peels_a_path<I: Incidence<2> + Drop>(rt: &impl Abort, alloc: Global) -> Result<(), AllocError> {
+    let mut edges = Edges::<2>::new(alloc, 4);
     for v in 0..3u32 {
         assert!(rt; add(&mut edges, v, v + 1)?);
     }
-    let peeled = peeled_pairs(rt.alloc(), &edges)?;
-    let seen = marks(rt.alloc(), edges.len(), &peeled)?;
-    assert_eq!(rt; seen.as_slice(), [(1, 0), (2, 0), (1, 1)].as_slice());
-    assert_eq!(rt; peeled.order(), [0, 2, 1].as_slice());
-    assert_eq!(rt; peeled.rest().len(), 0);
-    let chained = chained_pairs(rt.alloc(), &edges)?;
-    let seen = marks(rt.alloc(), edges.len(), &chained)?;
-    assert_eq!(rt; seen.as_slice(), [(1, 0), (2, 0), (1, 1)].as_slice());
-    assert_eq!(rt; chained.order(), [0, 2, 1].as_slice());
-    assert_eq!(rt; chained.rest().len(), 0);
+    let path = pairs::<I>(alloc, &edges)?;
+    assert!(rt;
+        gives(
+            &path,
+            edges.len(),
+            &[(1, 0), (2, 0), (1, 1)],
+            &[0, 2, 1],
+            &[]
+        )
+    );
     Ok(())
 }
 
-#[test]
-fn ring(rt: HostRuntime) -> Result<(), Fail> {
-    let mut edges = Edges::<2>::new(rt.alloc(), 4);
+fn leaves_a_ring<I: Incidence<2> + Drop>(rt: &impl Abort, alloc: Global) -> Result<(), AllocError> {
+    let mut edges = Edges::<2>::new(alloc, 4);
     for v in 0..3u32 {
         assert!(rt; add(&mut edges, v, (v + 1) % 3)?);
     }
-    let bare = peeled_pairs(rt.alloc(), &edges)?;
-    assert_eq!(rt; bare.order().len(), 0);
-    assert_eq!(rt; bare.rest(), [0, 1, 2].as_slice());
+    let bare = pairs::<I>(alloc, &edges)?;
+    assert!(rt; gives(&bare, edges.len(), &[(0, 0); 3], &[], &[0, 1, 2]));
     assert!(rt; add(&mut edges, 2, 3)?);
-    let tailed = peeled_pairs(rt.alloc(), &edges)?;
-    let marks = marks(rt.alloc(), edges.len(), &tailed)?;
-    assert_eq!(rt;
-        marks.as_slice(),
-        [(0, 0), (0, 0), (0, 0), (1, 1)].as_slice()
-    );
-    assert_eq!(rt; tailed.order(), [3].as_slice());
-    assert_eq!(rt; tailed.rest(), [0, 1, 2].as_slice());
-    let chained = chained_pairs(rt.alloc(), &edges)?;
-    assert_eq!(rt; chained.order(), [3].as_slice());
-    assert_eq!(rt; chained.rest(), [0, 1, 2].as_slice());
+    let tailed = pairs::<I>(alloc, &edges)?;
+    let marks = [(0, 0), (0, 0), (0, 0), (1, 1)];
+    assert!(rt; gives(&tailed, edges.len(), &marks, &[3], &[0, 1, 2]));
+    Ok(())
+}
+
+fn peels_a_triple<I: Incidence<3> + Drop>(
+    rt: &impl Abort,
+    alloc: Global,
+) -> Result<(), AllocError> {
+    let mut edges = Edges::<3>::new(alloc, 9);
+    let none = triples::<I>(alloc, &edges)?;
+    assert!(rt; gives(&none, edges.len(), &[], &[], &[]));
+    edges.push([0, 3, 6])?;
+    let one = triples::<I>(alloc, &edges)?;
+    assert!(rt; gives(&one, edges.len(), &[(1, 0)], &[0], &[]));
     Ok(())
 }
 
 #[test]
-fn triple(rt: HostRuntime) -> Result<(), Fail> {
-    let mut edges = Edges::<3>::new(rt.alloc(), 9);
-    let none = peeled_triples(rt.alloc(), &edges)?;
-    assert_eq!(rt; none.order().len(), 0);
-    assert_eq!(rt; none.rest().len(), 0);
-    edges.push([0, 3, 6])?;
-    let peeled = peeled_triples(rt.alloc(), &edges)?;
-    let seen = marks(rt.alloc(), edges.len(), &peeled)?;
-    assert_eq!(rt; seen.as_slice(), [(1, 0)].as_slice());
-    assert_eq!(rt; peeled.order(), [0].as_slice());
-    assert_eq!(rt; peeled.rest().len(), 0);
-    let chained = chained_triples(rt.alloc(), &edges)?;
-    let seen = marks(rt.alloc(), edges.len(), &chained)?;
-    assert_eq!(rt; seen.as_slice(), [(1, 0)].as_slice());
-    assert_eq!(rt; chained.order(), [0].as_slice());
-    assert_eq!(rt; chained.rest().len(), 0);
+fn small_graphs(rt: HostRuntime) -> Result<(), Fail> {
+    let alloc = rt.alloc();
+    peels_a_path::<Xored<2>>(&rt, alloc)?;
+    peels_a_path::<Linked<2>>(&rt, alloc)?;
+    leaves_a_ring::<Xored<2>>(&rt, alloc)?;
+    leaves_a_ring::<Linked<2>>(&rt, alloc)?;
+    peels_a_triple::<Xored<3>>(&rt, alloc)?;
+    peels_a_triple::<Linked<3>>(&rt, alloc)?;
     Ok(())
 }
 
@@ -213,9 +201,9 @@ fn long_path(rt: HostRuntime) -> Result<(), Fail> {
     }
     let m = edges.len();
     assert_eq!(rt; m, 1_000_000);
-    let peeled = peeled_pairs(rt.alloc(), &edges)?;
-    assert!(rt; is_path_peeled(&peeled, m));
-    let chained = chained_pairs(rt.alloc(), &edges)?;
+    let xored = pairs::<Xored<2>>(rt.alloc(), &edges)?;
+    assert!(rt; is_path_peeled(&xored, m));
+    let chained = pairs::<Linked<2>>(rt.alloc(), &edges)?;
     assert!(rt; is_path_peeled(&chained, m));
     Ok(())
 }
@@ -285,9 +273,9 @@ fn forest(rt: HostRuntime) -> Result<(), Fail> {
         assert!(rt; add(&mut edges, v, v + 1)?);
     }
     assert_eq!(rt; edges.len(), 1141);
-    let peeled = peeled_pairs(rt.alloc(), &edges)?;
-    assert!(rt; is_forest_peeled(&peeled));
-    let chained = chained_pairs(rt.alloc(), &edges)?;
+    let xored = pairs::<Xored<2>>(rt.alloc(), &edges)?;
+    assert!(rt; is_forest_peeled(&xored));
+    let chained = pairs::<Linked<2>>(rt.alloc(), &edges)?;
     assert!(rt; is_forest_peeled(&chained));
     Ok(())
 }

@@ -1,8 +1,9 @@
 ghost use Rattle.std.specs.Prelude.{◌≡◌, ◌<◌};
 
-use crate::{Edges, Incidence, Linked, Steps, Xored};
+use cm_graph::{Edges, Incidence, Linked, Steps, Xored};
 use std::alloc::{AllocError, Global};
 use std::marker::Brand;
+use std::process::Abort;
 use std::sync::ledger::{Blank, Ledger};
 use std::test::Fail;
 
@@ -76,25 +77,24 @@ fn star<I: Incidence<2> + Drop, L: Ledger>(
     Ok([all, two, last, again, both])
 }
 
-#[test]
-fn xored(rt: HostRuntime) -> Result<(), Fail> {
-    let seen = path::<Xored<2>, Brand>(rt.alloc(), Blank::new(1))?;
+/// What an incidence of edges with two ends shows, and one of edges with three.
+fn shows<P: Incidence<2> + Drop, T: Incidence<3> + Drop>(
+    rt: &impl Abort,
+    alloc: Global,
+) -> Result<(), AllocError> {
+    let seen = path::<P, Brand>(alloc, Blank::new(1))?;
     assert_eq!(rt; seen, [2, 1, 0, 0, 1, 1]);
-    let seen = fork::<Xored<3>, Brand>(rt.alloc(), Blank::new(1))?;
+    let seen = fork::<T, Brand>(alloc, Blank::new(1))?;
     assert_eq!(rt; seen, [2, 2, 5, 0]);
-    let seen = star::<Xored<2>, Brand>(rt.alloc(), Blank::new(1))?;
+    let seen = star::<P, Brand>(alloc, Blank::new(1))?;
     assert_eq!(rt; seen, [3, 2, 2, 0, 2]);
     Ok(())
 }
 
 #[test]
-fn linked(rt: HostRuntime) -> Result<(), Fail> {
-    let seen = path::<Linked<2>, Brand>(rt.alloc(), Blank::new(1))?;
-    assert_eq!(rt; seen, [2, 1, 0, 0, 1, 1]);
-    let seen = fork::<Linked<3>, Brand>(rt.alloc(), Blank::new(1))?;
-    assert_eq!(rt; seen, [2, 2, 5, 0]);
-    let seen = star::<Linked<2>, Brand>(rt.alloc(), Blank::new(1))?;
-    assert_eq!(rt; seen, [3, 2, 2, 0, 2]);
+fn incidences(rt: HostRuntime) -> Result<(), Fail> {
+    shows::<Xored<2>, Xored<3>>(&rt, rt.alloc())?;
+    shows::<Linked<2>, Linked<3>>(&rt, rt.alloc())?;
     Ok(())
 }
 

@@ -1,15 +1,14 @@
-ghost use Rattle.std.specs.Prelude.{◌≡◌, ◌<◌, ◌≤◌, length, IfOk, IfErr};
-ghost use Rattle.cm_spec.specs.Lists.{list_of};
-ghost use Rattle.cm_bits.specs.declared.fault.ImageFault.TheVariants.{Memory};
+ghost use Rattle.std.specs.Prelude.{◌<◌, ◌≤◌, length};
 
-use super::*;
+use cm_bits::{
+    Bits, Cells, Crumbs, Fields, ImageFault, MAX_CELLS, MAX_FIELD_BOUND, Plain, Trits, filled,
+};
+use std::alloc::{AllocError, Global};
 use std::process::Abort;
 use std::test::Fail;
 
-// The image of a table.
-fn image_of<C: Cells>(alloc: Global, table: &C) -> Result<Vec<u8>, AllocError>
-    ensures { IfOk result (λ v. v.items ≡ list_of (C.image_byte (C.bound_of table.now) (C.cells table.now)) (C.image_size (length (C.cells table.now)) (C.bound_of table.now))) }
-{
+/// The image of a table, byte by byte.
+fn image_of<C: Cells>(alloc: Global, table: &C) -> Result<Vec<u8>, AllocError> {
     let len = C::image_len(table.len(), table.bound());
     let mut image = Vec::new(alloc);
     for i in 0..len {
@@ -18,22 +17,7 @@ fn image_of<C: Cells>(alloc: Global, table: &C) -> Result<Vec<u8>, AllocError>
     Ok(image)
 }
 
-// The table again, from its image: the laws say that nothing is lost.
-fn copied<C: Cells>(alloc: Global, table: &C) -> Result<C, ImageFault>
-    ensures same { IfOk result (λ t. C.cells t ≡ C.cells table.now) }
-    ensures bound { IfOk result (λ t. C.bound_of t ≡ C.bound_of table.now) }
-    ensures memory_only { IfErr result (λ e. e ≡ Memory) }
-{
-    let Ok(image) = image_of(alloc, table) else {
-        return Err(ImageFault::Memory);
-    };
-    match C::from_image(alloc, table.len(), table.bound(), &image) {
-        Ok(again) => Ok(again),
-        Err(fault) => Err(fault),
-    }
-}
-
-// A table has its cells, and the image has its bytes, on the way there and back.
+/// A table has its cells, and the image has its bytes, on the way there and back.
 fn has_image<C: Cells + Drop>(
     rt: &impl Abort,
     alloc: Global,
@@ -51,7 +35,8 @@ fn has_image<C: Cells + Drop>(
         table.set(i, cells[i as usize]);
     }
     assert_eq!(rt; image_of(alloc, &table)?.as_slice(), bytes);
-    let again = copied(alloc, &table)?;
+    assert_eq!(rt; C::image_len(n, bound), bytes.len() as u64);
+    let again = C::from_image(alloc, n, bound, bytes)?;
     assert_eq!(rt; (again.len(), again.bound()), (n, bound));
     for i in 0..again.len() {
         assert!(rt; i < n);
@@ -60,7 +45,7 @@ fn has_image<C: Cells + Drop>(
     Ok(())
 }
 
-// Bytes are refused with a fault.
+/// Bytes are refused with a fault.
 fn has_fault<C: Cells + Drop>(
     rt: &impl Abort,
     alloc: Global,
@@ -118,76 +103,28 @@ fn highest_bounds(rt: HostRuntime) -> Result<(), Fail> {
     )
 }
 
+fn cell(cell: u32) -> ImageFault {
+    ImageFault::BadCell { cell }
+}
+
+fn padding(byte: u64) -> ImageFault {
+    ImageFault::BadPadding { byte }
+}
+
 #[test]
 fn faults(rt: HostRuntime) {
     let alloc = rt.alloc();
-    has_fault::<Trits>(&rt, alloc, 5, 3, &[0xf3], ImageFault::BadCell { cell: 0 });
-    has_fault::<Trits>(
-        &rt,
-        alloc,
-        3,
-        3,
-        &[0x1b],
-        ImageFault::BadPadding { byte: 0 },
-    );
-    has_fault::<Trits>(
-        &rt,
-        alloc,
-        8,
-        3,
-        &[0xf2, 0xff],
-        ImageFault::BadCell { cell: 5 },
-    );
-    has_fault::<Bits>(
-        &rt,
-        alloc,
-        9,
-        2,
-        &[0x8d, 0x02],
-        ImageFault::BadPadding { byte: 1 },
-    );
-    has_fault::<Crumbs>(
-        &rt,
-        alloc,
-        5,
-        4,
-        &[0x63, 0x07],
-        ImageFault::BadPadding { byte: 1 },
-    );
-    has_fault::<Fields>(
-        &rt,
-        alloc,
-        3,
-        5,
-        &[0xec, 0x02],
-        ImageFault::BadCell { cell: 1 },
-    );
-    has_fault::<Fields>(
-        &rt,
-        alloc,
-        3,
-        5,
-        &[0xcc, 0x02],
-        ImageFault::BadPadding { byte: 1 },
-    );
-    has_fault::<Fields>(
-        &rt,
-        alloc,
-        10,
-        1,
-        &[0x00, 0x06],
-        ImageFault::BadCell { cell: 9 },
-    );
-    has_fault::<Fields>(
-        &rt,
-        alloc,
-        10,
-        1,
-        &[0x00, 0x04],
-        ImageFault::BadPadding { byte: 1 },
-    );
+    has_fault::<Trits>(&rt, alloc, 5, 3, &[0xf3], cell(0));
+    has_fault::<Trits>(&rt, alloc, 3, 3, &[0x1b], padding(0));
+    has_fault::<Trits>(&rt, alloc, 8, 3, &[0xf2, 0xff], cell(5));
+    has_fault::<Bits>(&rt, alloc, 9, 2, &[0x8d, 0x02], padding(1));
+    has_fault::<Crumbs>(&rt, alloc, 5, 4, &[0x63, 0x07], padding(1));
+    has_fault::<Fields>(&rt, alloc, 3, 5, &[0xec, 0x02], cell(1));
+    has_fault::<Fields>(&rt, alloc, 3, 5, &[0xcc, 0x02], padding(1));
+    has_fault::<Fields>(&rt, alloc, 10, 1, &[0x00, 0x06], cell(9));
+    has_fault::<Fields>(&rt, alloc, 10, 1, &[0x00, 0x04], padding(1));
     let two = [0xe7, 3, 0, 0, 0xe8, 3, 0, 0];
-    has_fault::<Plain>(&rt, alloc, 2, 1000, &two, ImageFault::BadCell { cell: 1 });
+    has_fault::<Plain>(&rt, alloc, 2, 1000, &two, cell(1));
 }
 
 #[test]
@@ -199,7 +136,7 @@ fn bytes_of_cells(rt: HostRuntime) {
     assert_eq!(rt; Plain::cell_byte(9, 3), 12);
 }
 
-// Makes each cell the value, and looks at the image.
+/// Makes each cell the value, and looks at the image.
 fn has_filled_image<C: Cells + Drop>(
     rt: &impl Abort,
     alloc: Global,

@@ -1,4 +1,0 @@
-use Rattle.cm_peel.proofs.tests.peeled_pairs.Given as goal
-
-abbrev pub ghosts-peel_pairs : goal.ghosts-peel_pairs
-ghosts-peel_pairs a = record { name = a.blank.name; parts = a.blank.parts }
