@@ -1,5 +1,6 @@
 #!/usr/bin/env bash
-# Measures peeling against the same in plain Rust, in one run, and prints a table of times and one of memory.
+# Measures peeling as a build does it, over Xored and without levels, against the same in plain Rust, in one run, and prints a
+# table of times and one of memory.
 #   bench/peel.sh [ROUNDS [EDGES ..]]
 # Each program runs ROUNDS times (3) on each graph, in turns; the least time counts. The graphs have so many edges (1, 4 and 16
 # million), with three ends over 1.23 vertices for each edge, and with two ends over 2.09.
@@ -61,7 +62,7 @@ awk '
     }' "$out/peel.times"
 
 echo
-echo "Bytes for an edge at the peak, past those of a run on one edge; the rule is 8 n + (4 K + 9.125) m, levels included."
+echo "Bytes for an edge at the peak, past those of a run on one edge; the rule is 8 n + (4 K + 5.125) m."
 echo
 echo "| ends | edges | proved | the rule | plain Rust |"
 echo "|---|---|---|---|---|"
@@ -76,7 +77,7 @@ awk '
     END {
         for (i = 1; i <= count; i++) {
             key = order[i]
-            rule = 8 * (ends[key] == 3 ? 1.23 : 2.09) + 4 * ends[key] + 9.125
+            rule = 8 * (ends[key] == 3 ? 1.23 : 2.09) + 4 * ends[key] + 5.125
             printf "| %s | %.2f | %.2f | %.2f |\n", key, each("proved", key), rule, each("plain", key)
         }
     }' "$out/peel.times"

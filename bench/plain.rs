@@ -273,7 +273,7 @@ fn build<F: Function<K>, const K: usize>(path: &str, seed: u32, timed: bool) -> 
     tell(timed, "hash", &mut start);
     let linked = link(&edges);
     tell(timed, "link", &mut start);
-    let peeled = peel::peel(&edges, linked, false);
+    let peeled = peel::peel(&edges, linked);
     assert_eq!(peeled.order.len(), m as usize, "the graph has a 2-core");
     tell(timed, "peel", &mut start);
     let function = F::assign(&edges, &peeled);

@@ -1,4 +1,5 @@
-//! Measures peeling: fills a list of edges that look random, and peels it over the incidence of 8 bytes a vertex.
+//! Measures peeling as a build does it: fills a list of edges that look random, and peels it over the incidence of 8 bytes a
+//! vertex, without levels.
 //!
 //! With no argument it works on small graphs and prints check sums. With the number of ends, 2 or 3, and a number of edges
 //! it works on one graph of so many, and prints also how many microseconds each work took.
@@ -76,36 +77,29 @@ fn check(numbers: &[u32]) -> u32 {
     sum
 }
 
-// Tells what peeling gave.
+// Tells what peeling gave: the pivots are those of the removed edges in their order.
 fn tell_sums<const K: usize>(
     rt: &impl Print,
     edges: &Edges<K>,
     peeled: &Peeled<K>,
 ) -> io::Result<()>
-    requires levels { length peeled.now.levels ≡ length edges.now.edges }
-    requires pivots { length peeled.now.pivots ≡ length edges.now.edges }
+    requires { length peeled.now.pivots ≡ length edges.now.edges }
 {
-    let mut rounds = 0;
-    let mut levels = 0;
-    let mut pivots = 0;
-    for e in 0..edges.len() {
-        let level = peeled.level(e);
-        rounds = level.max(rounds);
-        levels = more(levels, level);
-        if level > 0 {
-            pivots = more(pivots, peeled.pivot(e));
-        }
-    }
     let order = peeled.order();
     let rest = peeled.rest();
+    let m = edges.len();
+    let mut pivots = 0;
+    for e in order {
+        if *e < m {
+            pivots = more(pivots, peeled.pivot(*e));
+        }
+    }
     println!(rt;
-        "{} edges with {K} ends over {} vertices",
-        edges.len(),
+        "{m} edges with {K} ends over {} vertices",
         edges.vertices()
     )?;
-    println!(rt; "  rounds {rounds} levels {levels} pivots {pivots}")?;
     println!(rt;
-        "  removed {} order {} left {} rest {}",
+        "  removed {} order {} pivots {pivots} left {} rest {}",
         order.len(),
         check(order),
         rest.len(),

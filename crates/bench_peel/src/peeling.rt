@@ -1,8 +1,8 @@
-// Peeling over the incidence of 8 bytes a vertex, with steps that nobody reads.
+// Peeling as a build does it: over the incidence of 8 bytes a vertex, without levels, and with steps that nobody reads.
 ghost use Rattle.std.specs.Prelude.{◌≡◌, ◌<◌, length, IfOk};
 
 use cm_graph::{Edges, Steps, Xored};
-use cm_peel::{Peeled, peel};
+use cm_peel::{Peeled, peel_without_levels};
 use std::alloc::{AllocError, Global};
 use std::marker::Brand;
 use std::sync::ledger::{Blank, Ledger};
@@ -15,18 +15,16 @@ fn triples_by<L: Ledger>(
     requires name { blank.name ≡ L.name }
     requires parts { blank.parts ≡ L.parts }
     requires some { 0 < blank.parts }
-    ensures levels { IfOk result (λ p. length p.levels ≡ length edges.now.edges) }
-    ensures pivots { IfOk result (λ p. length p.pivots ≡ length edges.now.edges) }
+    ensures { IfOk result (λ p. length p.pivots ≡ length edges.now.edges) }
 {
     let mut steps = Steps::<L>::new(blank);
-    peel::<3, Xored<3>, L>(alloc, edges, &mut steps)
+    peel_without_levels::<3, Xored<3>, L>(alloc, edges, &mut steps)
 }
 
 /// Peels edges with three ends.
 #[inline(never)]
 pub fn triples(alloc: Global, edges: &Edges<3>) -> Result<Peeled<3>, AllocError>
-    ensures levels { IfOk result (λ p. length p.levels ≡ length edges.now.edges) }
-    ensures pivots { IfOk result (λ p. length p.pivots ≡ length edges.now.edges) }
+    ensures { IfOk result (λ p. length p.pivots ≡ length edges.now.edges) }
 {
     triples_by::<Brand>(alloc, edges, Blank::new(1))
 }
@@ -39,18 +37,16 @@ fn pairs_by<L: Ledger>(
     requires name { blank.name ≡ L.name }
     requires parts { blank.parts ≡ L.parts }
     requires some { 0 < blank.parts }
-    ensures levels { IfOk result (λ p. length p.levels ≡ length edges.now.edges) }
-    ensures pivots { IfOk result (λ p. length p.pivots ≡ length edges.now.edges) }
+    ensures { IfOk result (λ p. length p.pivots ≡ length edges.now.edges) }
 {
     let mut steps = Steps::<L>::new(blank);
-    peel::<2, Xored<2>, L>(alloc, edges, &mut steps)
+    peel_without_levels::<2, Xored<2>, L>(alloc, edges, &mut steps)
 }
 
 /// Peels edges with two ends.
 #[inline(never)]
 pub fn pairs(alloc: Global, edges: &Edges<2>) -> Result<Peeled<2>, AllocError>
-    ensures levels { IfOk result (λ p. length p.levels ≡ length edges.now.edges) }
-    ensures pivots { IfOk result (λ p. length p.pivots ≡ length edges.now.edges) }
+    ensures { IfOk result (λ p. length p.pivots ≡ length edges.now.edges) }
 {
     pairs_by::<Brand>(alloc, edges, Blank::new(1))
 }
