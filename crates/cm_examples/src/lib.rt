@@ -10,8 +10,6 @@ mod graph;
 #[cfg(test)]
 mod lookup2;
 #[cfg(test)]
-mod passes;
-#[cfg(test)]
 mod peeling;
 #[cfg(test)]
 mod ranks;

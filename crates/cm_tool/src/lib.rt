@@ -22,6 +22,8 @@ mod build_tests;
 #[cfg(test)]
 mod command_tests;
 #[cfg(test)]
+mod pass_tests;
+#[cfg(test)]
 mod query_tests;
 #[cfg(test)]
 mod tests;
