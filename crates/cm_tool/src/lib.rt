@@ -15,6 +15,7 @@ mod storing;
 mod top;
 
 pub use crate::printing::{print_help, print_version};
+pub use crate::report::report_no_memory;
 pub use crate::top::run;
 
 #[cfg(test)]

@@ -29,6 +29,14 @@ pub(crate) fn report_usage<E: Sink>(fault: UsageFault, err: &mut E) -> u8
     usage_status(fault)
 }
 
+/// Says that memory ran out before the arguments were read, and answers the status of that.
+pub fn report_no_memory<E: Sink>(err: &mut E) -> u8
+    ensures status { result ≡ 6 }
+    ensures says { Says out_of_memory (E.written err.old) (E.written err.new) (E.faults err.old) (E.faults err.new) }
+{
+    report_usage(UsageFault::Memory, err)
+}
+
 /// Says why words ask for no job.
 fn explain_usage<E: Sink>(fault: UsageFault, err: &mut E)
     ensures says { Says (usage_message fault) (E.written err.old) (E.written err.new) (E.faults err.old) (E.faults err.new) }

@@ -2,7 +2,7 @@
 #![tactic(auto)]
 
 use cm_real::{FileDisk, StdSink};
-use cm_tool::run;
+use cm_tool::{report_no_memory, run};
 use std::alloc::{Alloc, AllocError, Global};
 use std::env;
 use std::env::Env;
@@ -35,7 +35,7 @@ fn main(rt: HostRuntime) -> ExitCode {
     let mut disk = FileDisk::new(&rt);
     match words_of(&rt) {
         Ok(words) => ExitCode::from(run(rt.alloc(), &words, &mut disk, &mut out, &mut err)),
-        Err(_) => ExitCode::from(6),
+        Err(_) => ExitCode::from(report_no_memory(&mut err)),
     }
 }
 
