@@ -1,7 +1,7 @@
 -- From one round to the next.
-use Rattle.std.proofs.Common.{◌≡◌, ◌⊎◌, ℕ, zero, suc, ◌+◌, ◌-◌, ◌<◌, ◌≤◌, Bool, true, false, cond, not, eqb, ◌&&◌, List, [], ◌∷◌, length, sym, refl, ap, ◌∙◌, inl, inr, arith}
+use Rattle.std.proofs.Common.{◌≡◌, ◌⊎◌, ℕ, suc, ◌+◌, ◌-◌, ◌<◌, ◌≤◌, Bool, true, false, cond, not, eqb, ◌&&◌, List, [], ◌∷◌, length, sym, refl, ap, ◌∙◌, inl, inr, arith}
 use Rattle.std.specs.List.{position_or_len}
-use Rattle.std.proofs.lemmas.Bool.{cases_Bool, and_from, and_left, and_right, cond-true, cond-false, false≢true, not_from_true, not_from_false}
+use Rattle.std.proofs.lemmas.Bool.{cases_Bool, and_from, and_left, and_right, cond-true, cond-false, not_from_true, not_from_false}
 use Rattle.cm_spec.specs.Lists.{has}
 use Rattle.cm_spec.specs.Graph.{ends_at, degree_in}
 use Rattle.cm_spec.specs.Rounds.{is_left, is_held, left_after, removed_after, level_of, pivot_of}
@@ -22,18 +22,6 @@ pivot_is graph t l e a at =
     let s : level_of graph.edges e - 1 ≡ t = omega (arith, at) in
     place_agree (is_free l) (λ v. eqb (degree_in graph.edges (left_after graph.edges (level_of graph.edges e - 1)) v) 1) (ends_at graph.edges e)
     (λ v. ap (λ d. eqb d 1) (degree_left graph t l v a ∙ ap (λ k. degree_in graph.edges (left_after graph.edges k) v) (sym s)))
-
-pub fall : (edges : List (List ℕ)) (t e : ℕ) → is_left edges t e ≡ false → (s : ℕ) × (s < t) × (is_left edges s e ≡ true) × (is_left edges (suc s) e ≡ false)
-fall edges zero e h = absurd (false≢true (sym h))
-fall edges (suc t) e h = go (cases_Bool (is_left edges t e)) (fall edges t e) where
-  go : (is_left edges t e ≡ true) ⊎ (is_left edges t e ≡ false) → (is_left edges t e ≡ false → (s : ℕ) × (s < t) × (is_left edges s e ≡ true) × (is_left edges (suc s) e ≡ false)) → (s : ℕ) × (s < suc t) × (is_left edges s e ≡ true) × (is_left edges (suc s) e ≡ false)
-  go (inl here) ih = (t, omega arith, here, h)
-  go (inr gone) ih = let r = ih gone in (r.0, omega (arith, r.1), r.2, r.3)
-
-pub level_above : (edges : List (List ℕ)) (e : ℕ) → e < length edges → is_left edges (length edges) e ≡ false → 0 < level_of edges e
-level_above edges e h gone =
-    let r = fall edges (length edges) e gone in
-    omega (arith, level_is edges r.0 e h r.1 r.2 r.3)
 
 -- levels after a round
 pub levels_next : (edges : List (List ℕ)) (t e : ℕ) → e < length edges → (is_left edges t e ≡ true → t < length edges) → cond (has (removed_after edges t) e) (suc t) (cond (is_left edges t e) 0 (level_of edges e)) ≡ cond (is_left edges (suc t) e) 0 (level_of edges e)

@@ -1,11 +1,11 @@
 -- The linked edges as a test over the places.
-use Rattle.std.proofs.Common.{◌≡◌, ◌≢◌, ◌⊎◌, ℕ, zero, suc, ◌+◌, ◌<◌, ◌≤◌, Bool, true, false, cond, not, eqb, ltb, ◌&&◌, ◌||◌, List, [], ◌∷◌, ◌++◌, length, get_or, set, take, map, replicate, Option, Some, None, sym, refl, ap, ◌∙◌, inl, inr, arith, append-nil}
+use Rattle.std.proofs.Common.{◌≡◌, ◌≢◌, ◌⊎◌, ℕ, zero, suc, ◌+◌, ◌<◌, ◌≤◌, Bool, true, false, cond, not, eqb, ltb, ◌&&◌, ◌||◌, List, [], ◌∷◌, ◌++◌, length, get_or, set, take, map, Option, Some, None, sym, refl, ap, ◌∙◌, inl, inr, arith, append-nil}
 use Rattle.std.specs.List.{All, concat, count_by, filter, list_any, slice_get, position_or_len}
 use Rattle.std.specs.List.Sorted.{IsStrictlyIncreasing}
 use Rattle.std.proofs.lemmas.Bool.{cases_eq, cases_lt, eq-eqb, ne_eqb, lt-ltb, le-ltb, cond-true, or_parts, eqb-false, eqb-true, false≢true}
 use Rattle.std.proofs.lemmas.Option.{get_or_from_slice_get, same_Some}
 use Rattle.std.proofs.Math.ListN.{length-set}
-use Rattle.std.proofs.lemmas.List.{length-replicate, map-append, take_more}
+use Rattle.std.proofs.lemmas.List.{map-append, take_more}
 use Rattle.std.proofs.lemmas.List.Elements.{All-append, All-filter, filter-append, filter_passes}
 use Rattle.std.proofs.lemmas.List.Folds.{concat-append}
 use Rattle.cm_spec.specs.Lists.{numbers_from, has}
@@ -26,11 +26,6 @@ slice_get-set_other (x ∷ xs) zero zero y h = absurd (h refl)
 slice_get-set_other (x ∷ xs) zero (suc k) y h = refl
 slice_get-set_other (x ∷ xs) (suc i) zero y h = refl
 slice_get-set_other (x ∷ xs) (suc i) (suc k) y h = slice_get-set_other xs i k y (λ e. h (ap suc e))
-
-pub slice_get-replicate : {X : Type 0} (n k : ℕ) (x : X) → k < n → slice_get (replicate n x) k ≡ Some x
-slice_get-replicate zero k x h = absurd (omega arith)
-slice_get-replicate (suc n) zero x h = refl
-slice_get-replicate (suc n) (suc k) x h = slice_get-replicate n k x (omega arith)
 
 -- the slot of an edge, by a test
 abbrev pub slot_by : Graph → (ℕ → Bool) → ℕ → Option (List ℕ)
@@ -57,14 +52,6 @@ AreLinked-agree graph p q l a agree = record {
   many = a.many;
   each = λ k h. a.each k h ∙ ap (λ b. Some (cond b (Some (ends_at graph.edges k)) None)) (sym (agree k h));
 }
-
--- as the edges are linked one after another
-pub linked_none : (graph : Graph) (l : Links) → l ≡ record { vertices = graph.vertices; slots = replicate (length graph.edges) None } → AreLinked graph (λ k. ltb k 0) l
-linked_none graph l is = rw is (record {
-  vertices = refl;
-  many = length-replicate _ _;
-  each = λ k h. slice_get-replicate (length graph.edges) k None h ∙ ap (λ b. Some (cond b (Some (ends_at graph.edges k)) None)) (sym (le-ltb k 0 (omega arith)));
-})
 
 pub linked_more : (graph : Graph) (l : Links) (e : ℕ) → AreLinked graph (λ k. ltb k e) l → AreLinked graph (λ k. ltb k (e + 1)) (linked l e (ends_at graph.edges e))
 linked_more graph l e a = AreLinked-set graph (λ k. ltb k e) (λ k. ltb k (e + 1)) l e (Some (ends_at graph.edges e)) a
@@ -146,9 +133,6 @@ linked_step graph l m e ends a read is =
     let same : ends_at graph.edges e ≡ ends = get_or_from_slice_get graph.edges e ends [] read in
     let step : AreLinked graph (λ k. ltb k (e + 1)) (linked l e (ends_at graph.edges e)) = linked_more graph l e a in
     rw (is, ← same) step
-
-pub all_linked : (graph : Graph) (l : Links) (n : ℕ) → AreLinked graph (λ k. ltb k n) l → n ≡ length graph.edges → AreLinked graph (λ _. true) l
-all_linked graph l n a is = AreLinked-agree graph (λ k. ltb k n) (λ _. true) l a (λ k h. sym (lt-ltb k n (omega arith)))
 
 pub vertices_below : (l : Links) (n : ℕ) (ends : List ℕ) → l.vertices ≡ n → All (λ v. v < n) ends → All (λ v. v < l.vertices) ends
 vertices_below l n ends is h k d m = omega (arith, h k d m)

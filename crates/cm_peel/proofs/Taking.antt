@@ -1,11 +1,10 @@
 -- Taking those of some edges whose position is past their ends, one after another.
-use Rattle.std.proofs.Common.{◌≡◌, ◌≢◌, ◌⊎◌, ℕ, ◌<◌, ◌≤◌, Bool, true, false, cond, eqb, ltb, not, ◌&&◌, ◌||◌, List, [], ◌∷◌, ◌++◌, length, get_or, set, sym, refl, ap, ◌∙◌, inl, inr, arith, append-nil, append_assoc, get_or-set_other}
+use Rattle.std.proofs.Common.{◌≡◌, ◌≢◌, ◌⊎◌, ℕ, ◌<◌, ◌≤◌, Bool, true, false, cond, eqb, ltb, not, ◌&&◌, ◌||◌, List, [], ◌∷◌, ◌++◌, length, get_or, set, sym, refl, ap, ◌∙◌, inl, inr, arith, append_assoc, get_or-set_other}
 use Rattle.std.specs.List.{IsDistinct, AllByRecursion}
-use Rattle.std.specs.List.Sorted.{IsStrictlyIncreasing, IsNonDecreasing}
 use Rattle.std.proofs.lemmas.Bool.{cases_Bool, cases_eq, eq-eqb, ne_eqb, lt-ltb, le-ltb, and_parts, and_from, and_right, or_parts, or_left, or_right, cond-true, cond-false, false≢true}
 use Rattle.std.proofs.lemmas.Grind.{get_or-set_at}
 use Rattle.std.proofs.lemmas.List.Folds.{list_any-append}
-use Rattle.std.proofs.lemmas.Map.Keys.{IsDistinct-cons, IsStrictlyIncreasing-from_distinct}
+use Rattle.std.proofs.lemmas.Map.Keys.{IsDistinct-cons}
 use Rattle.std.proofs.Math.ListN.{length-set}
 use Rattle.cm_spec.specs.Lists.{has}
 use Rattle.cm_peel.specs.AtRound.{AreApart, AreTaken}
@@ -51,23 +50,8 @@ unfolding IsDistinct
 distinct [] a = tt
 distinct (x ∷ xs) a = IsDistinct-cons eqb x xs (differ x xs a.0) (distinct xs a.1)
 
--- such a list rises where it does not fall
-pub rising_apart : (xs : List ℕ) → IsNonDecreasing xs → IsDistinct eqb xs → IsStrictlyIncreasing xs
-rising_apart xs up a = IsStrictlyIncreasing-from_distinct xs up a
-
 pub are_distinct : (xs : List ℕ) → AreApart xs → IsDistinct eqb xs
 are_distinct = distinct
-
--- no edge yet
-pub taken_none : (k : ℕ) (pivots order : List ℕ) → AreTaken k [] pivots pivots order order
-taken_none k pivots order = record {
-  fresh = [];
-  order_is = sym (append-nil order);
-  apart = tt;
-  members = λ e. refl;
-  pivots_long = refl;
-  pivot = λ e h. refl;
-}
 
 -- an edge whose position is among its ends, before all or by now
 pub taken_skip : (k : ℕ) (es : List ℕ) (e : ℕ) (pivots pivots' order order' : List ℕ) → AreTaken k es pivots pivots' order order' → e < length pivots → (get_or pivots e 0 < k) ⊎ (get_or pivots' e 0 < k) → AreTaken k (es ++ e ∷ []) pivots pivots' order order'
