@@ -1,7 +1,7 @@
 //! The keys of a source: its lines, as a pass that can be repeated.
 #![tactic(auto)]
 
-ghost use Rattle.std.specs.Prelude.{ℕ, List, Option};
+ghost use Rattle.std.specs.Prelude.{◌≡◌, ℕ, List, Option};
 ghost use Rattle.cm_keys.specs.Lines.{lines_of, pieces};
 ghost use Rattle.cm_keys.specs.LinesLaws.{CarriageReturn, EmptyKeys, NoLines, LongestKeys, LongLine, ManyLines, FirstLines};
 ghost use Rattle.cm_keys.specs.NumberingLaws.{AreNumbered};
@@ -9,10 +9,13 @@ ghost use Rattle.cm_keys.specs.SplittingLaws.{AreLines};
 
 mod buffered;
 mod keys;
-#[cfg(test)]
-mod tests;
 
 pub use keys::{Keys, LINE_END};
+
+/// A line feed ends a line.
+pub fn line_end()
+    ensures { LINE_END ≡ 10 }
+{}
 
 /// Worked rows of the definition of lines.
 #[tactic(auto, unfolding(crate::specs::Lines::lines_of))]
