@@ -8,6 +8,8 @@ mod divisor;
 #[cfg(test)]
 mod graph;
 #[cfg(test)]
+mod keys;
+#[cfg(test)]
 mod lookup2;
 #[cfg(test)]
 mod peeling;

@@ -1,0 +1,232 @@
+//! Passes over the lines of a file, by public calls alone.
+use cm_keys::Keys;
+use cm_outer::{KeyBuf, KeyPass, MAX_KEY_LEN, MAX_KEYS, MemSource};
+use std::alloc::{AllocError, Global};
+use std::test::Fail;
+
+/// The bytes of a key, or how many they are if there are many.
+fn key_text(alloc: Global, key: &[u8]) -> Result<String, AllocError> {
+    if key.len() > 9 {
+        return format!(in alloc; "{} bytes", key.len());
+    }
+    let mut text = String::new(alloc);
+    for byte in key {
+        text.push(*byte as char)?;
+    }
+    Ok(text)
+}
+
+/// The next key with its line, the end, or the fault.
+fn next<P: KeyPass>(alloc: Global, keys: &mut P, key: &mut KeyBuf) -> Result<String, AllocError> {
+    if !keys.usable() {
+        return String::from_str(alloc, "unusable");
+    }
+    match keys.next(key) {
+        Ok(true) => format!(in alloc; "{}={}", keys.line(), key_text(alloc, key.as_slice())?),
+        Ok(false) => String::from_str(alloc, "end"),
+        Err(fault) => format!(in alloc; "{fault}"),
+    }
+}
+
+/// The line of the last key, and how the keys end. Lines that are whole in the buffer are skipped.
+fn pass_all<P: KeyPass>(
+    alloc: Global,
+    keys: &mut P,
+    key: &mut KeyBuf,
+) -> Result<String, AllocError> {
+    let mut last = 0;
+    for _ in 0..MAX_KEYS {
+        if !keys.usable() {
+            break;
+        }
+        if keys.skip() > 0 {
+            last = keys.line();
+        }
+        match keys.next(key) {
+            Ok(true) => last = keys.line(),
+            Ok(false) => return format!(in alloc; "{last} keys"),
+            Err(fault) => return format!(in alloc; "{last} keys, {fault}"),
+        }
+    }
+    String::from_str(alloc, "unusable")
+}
+
+/// Whether a key is at hand. It is put into the buffer and passed.
+fn pass<P: KeyPass>(keys: &mut P, key: &mut KeyBuf) -> bool {
+    if !keys.usable() {
+        return false;
+    }
+    let Some((_, bytes)) = keys.peek() else {
+        return false;
+    };
+    key.clear();
+    let len = bytes.len();
+    let fits = key.try_extend_from_slice(bytes).is_ok();
+    keys.pass(len);
+    fits
+}
+
+/// The key at hand.
+fn at_hand<P: KeyPass>(
+    alloc: Global,
+    keys: &mut P,
+    key: &mut KeyBuf,
+) -> Result<String, AllocError> {
+    if pass(keys, key) {
+        key_text(alloc, key.as_slice())
+    } else {
+        String::from_str(alloc, "none")
+    }
+}
+
+/// How many keys are at hand, one after another.
+fn count_at_hand<P: KeyPass>(
+    alloc: Global,
+    keys: &mut P,
+    key: &mut KeyBuf,
+) -> Result<String, AllocError> {
+    for count in 0..MAX_KEYS {
+        if !pass(keys, key) {
+            return format!(in alloc; "{count} at hand");
+        }
+    }
+    String::from_str(alloc, "all at hand")
+}
+
+fn skip<P: KeyPass>(alloc: Global, keys: &mut P) -> Result<String, AllocError> {
+    let count = if keys.usable() { keys.skip() } else { 0 };
+    format!(in alloc; "{count} skipped")
+}
+
+fn rewind<P: KeyPass>(alloc: Global, keys: &mut P) -> Result<String, AllocError> {
+    match keys.rewind() {
+        Ok(()) => String::from_str(alloc, "start"),
+        Err(fault) => format!(in alloc; "{fault}"),
+    }
+}
+
+/// What the calls show, one after another: n(ext), p(ass all), a(t hand), h: count those at hand, s(kip), r(ewind).
+fn shown<P: KeyPass>(alloc: Global, keys: &mut P, calls: &str) -> Result<String, AllocError> {
+    let mut key = KeyBuf::new();
+    let mut text = String::new(alloc);
+    for call in calls.as_bytes() {
+        let piece = match *call {
+            b'n' => next(alloc, keys, &mut key)?,
+            b'p' => pass_all(alloc, keys, &mut key)?,
+            b'a' => at_hand(alloc, keys, &mut key)?,
+            b'h' => count_at_hand(alloc, keys, &mut key)?,
+            b's' => skip(alloc, keys)?,
+            _ => rewind(alloc, keys)?,
+        };
+        text.push_str(piece.as_str())?;
+        text.push_str("; ")?;
+    }
+    Ok(text)
+}
+
+/// What the calls show of a file whose listed reads and rewinds fail.
+fn shown_of(
+    alloc: Global,
+    bytes: Vec<u8>,
+    reads: &[u64],
+    rewinds: &[u64],
+    first: Option<u32>,
+    calls: &str,
+) -> Result<String, AllocError> {
+    let source = MemSource::new(bytes, reads.to_vec(alloc)?, rewinds.to_vec(alloc)?);
+    let mut keys = Keys::new(source, first);
+    let text = shown(alloc, &mut keys, calls);
+    let _source = keys.into_source();
+    text
+}
+
+#[test]
+fn lines_of_small_files(rt: HostRuntime) -> Result<(), Fail> {
+    let alloc = rt.alloc();
+    for (bytes, first, calls, text) in [
+        // Lines are keys. A carriage return belongs to its key, and a last line needs no end.
+        ("a\r\nb", None, "nnnn", "1=a\r; 2=b; end; end; "),
+        ("\n\n", None, "nnn", "1=; 2=; end; "),
+        ("", None, "n", "end; "),
+        // The first lines alone.
+        ("a\nb\nc\n", Some(2), "nnn", "1=a; 2=b; end; "),
+        ("a\nb\nc\n", Some(9), "prn", "3 keys; start; 1=a; "),
+        ("a\n", Some(0), "n", "end; "),
+        // Lines that are whole in the buffer are at hand, but for those past the first.
+        (
+            "a\nbc\n\nd",
+            None,
+            "anaaana",
+            "none; 1=a; bc; ; none; 4=d; none; ",
+        ),
+        ("a\nb\nc\n", Some(2), "naan", "1=a; b; none; end; "),
+        // The same lines may be skipped, but not near the last line that is looked at.
+        (
+            "a\nbc\n\nd",
+            None,
+            "snssnsnrp",
+            "0 skipped; 1=a; 2 skipped; 0 skipped; 4=d; 0 skipped; end; start; 4 keys; ",
+        ),
+        ("a\nb\nc\n", Some(65_536), "nsn", "1=a; 0 skipped; 2=b; "),
+        ("a\nb\nc\n", Some(65_537), "nsn", "1=a; 2 skipped; end; "),
+    ] {
+        let shown = shown_of(
+            alloc,
+            bytes.as_bytes().to_vec(alloc)?,
+            &[],
+            &[],
+            first,
+            calls,
+        )?;
+        assert_eq!(rt; shown.as_str(), text, "{calls}");
+    }
+    Ok(())
+}
+
+#[test]
+fn the_longest_key(rt: HostRuntime) -> Result<(), Fail> {
+    let alloc = rt.alloc();
+    let mut bytes = vec![in alloc; b'a'; MAX_KEY_LEN + 2]?;
+    bytes[1] = b'\n';
+    let shown = shown_of(alloc, bytes, &[], &[], None, "nnn")?;
+    assert_eq!(rt; shown.as_str(), "1=a; 2=65535 bytes; end; ");
+    let mut bytes = vec![in alloc; b'a'; MAX_KEY_LEN + 4]?;
+    bytes[1] = b'\n';
+    bytes[MAX_KEY_LEN + 3] = b'\n';
+    let shown = shown_of(alloc, bytes, &[], &[], None, "nnnrp")?;
+    assert_eq!(rt;
+        shown.as_str(),
+        "1=a; line 2 is too long; unusable; start; 1 keys, line 2 is too long; "
+    );
+    Ok(())
+}
+
+#[test]
+fn the_most_keys(rt: HostRuntime) -> Result<(), Fail> {
+    let alloc = rt.alloc();
+    let bytes = vec![in alloc; b'\n'; MAX_KEYS as usize + 1]?;
+    let shown = shown_of(alloc, bytes, &[], &[], None, "pn")?;
+    assert_eq!(rt;
+        shown.as_str(),
+        "16777216 keys, there are too many keys; unusable; "
+    );
+    Ok(())
+}
+
+#[test]
+fn a_fault_in_mid_stream(rt: HostRuntime) -> Result<(), Fail> {
+    let alloc = rt.alloc();
+    // The second read comes after 65,536 bytes, and fails. So does the first rewind.
+    for (calls, text) in [
+        ("nhn", "1=; 65535 at hand; the keys cannot be read; "),
+        (
+            "pnrnrp",
+            "65536 keys, the keys cannot be read; unusable; the keys cannot be read; unusable; start; 65537 keys; ",
+        ),
+    ] {
+        let bytes = vec![in alloc; b'\n'; 65_537]?;
+        let shown = shown_of(alloc, bytes, &[1], &[0], None, calls)?;
+        assert_eq!(rt; shown.as_str(), text);
+    }
+    Ok(())
+}
