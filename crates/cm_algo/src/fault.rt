@@ -5,7 +5,7 @@ ghost use Rattle.cm_algo.specs.declared.fault.PassFault.TheVariants as pass_faul
 ghost use Rattle.cm_algo.specs.Fails.{build_fault_of};
 
 use cm_outer::KeyFault;
-use std::alloc::{AllocError, AllocFailed};
+use std::alloc::AllocError;
 
 /// Why there is no function.
 #[derive(Clone, Copy, Debug, PartialEq, Eq)]

@@ -1,5 +1,5 @@
 -- The text of some keys is a prefix of the text of more.
-use Rattle.std.proofs.Common.{◌≡◌, ◌∙◌, ℕ, ◌+◌, ◌-◌, ◌≤◌, min, List, [], ◌∷◌, ◌++◌, length, take, drop, Option, None, Some, ap, sym, subst, arith, append-nil, take-append-drop, refl}
+use Rattle.std.proofs.Common.{◌≡◌, ◌∙◌, ℕ, ◌+◌, ◌-◌, ◌≤◌, min, List, [], ◌∷◌, ◌++◌, length, take, drop, Option, ap, sym, arith, append-nil, take-append-drop, refl}
 use Rattle.std.proofs.lemmas.Grind.{flat_map-append}
 use Rattle.std.proofs.lemmas.List.{take_at, take_min, take-append-le}
 use Rattle.std.proofs.Math.Seq.{take-append-add}

@@ -1,5 +1,5 @@
 //! Functions of the algorithms, built over a pass of keys.
-ghost use Rattle.std.specs.Prelude.{◌≡◌, ◌<◌, ◌≤◌, ℕ, List, length, count_by, IfOk, IfErr};
+ghost use Rattle.std.specs.Prelude.{◌≡◌, ◌<◌, ◌≤◌, length, count_by, IfOk, IfErr};
 ghost use Rattle.std.specs.Option.{ForSome};
 ghost use Rattle.cm_algo.specs.Fails.{FailsBuild, HasBuildCause, HasNumbers};
 ghost use Rattle.cm_dump.specs.Functions.{IsFunction};

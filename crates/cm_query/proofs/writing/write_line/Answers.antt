@@ -1,4 +1,4 @@
-use Rattle.std.proofs.Common.{◌≡◌, [], ◌++◌, List, ℕ, Option, Result, append-nil, subst}
+use Rattle.std.proofs.Common.{◌≡◌, [], List, ℕ, Option, Result, append-nil, subst}
 use Rattle.cm_outer.specs.declared.fault.Failed.{Failed}
 use Rattle.cm_outer.specs.Writing.{Writes, then_bytes}
 use Rattle.cm_outer.specs.WritingLaws.{writes_then}
