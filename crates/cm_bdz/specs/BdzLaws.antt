@@ -91,7 +91,7 @@ bdz_ends w n t =
     (refl, subst (λ (k : ℕ). IsEdge k (bdz_edge w n)) (sym t.is) (triple_is_edge (n / 3) _ _ _ a b c))
 
 -- a rule of such edges whose cells are below a bound of at least 3; an untouched one counts as 0, modulo 3
-abbrev triple_rule : ℕ → ℕ → Rule
+abbrev pub triple_rule : ℕ → ℕ → Rule
 triple_rule bound idle = record { size = bdz_size; edge = bdz_edge; tag = λ _. 0; modulus = λ _. 3; bound = λ _. bound; idle = idle; target = λ i p t. p }
 
 is_rule : (bound idle : ℕ) → 3 ≤ bound → idle < bound → idle % 3 ≡ 0 → IsRule 3 (triple_rule bound idle)

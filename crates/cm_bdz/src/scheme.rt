@@ -1,13 +1,15 @@
 //! BDZ and BDZ_PH as schemes.
 ghost use Rattle.std.specs.Prelude.{◌≡◌, ℕ, ◌+◌, ◌-◌, ◌*◌, ◌/◌, ◌%◌, ◌^◌, ◌<◌, ◌≤◌, false, refl, List, length};
 ghost use Rattle.cm_algorithm.specs.declared.algorithm.Algorithm.TheVariants as algorithm;
-ghost use Rattle.cm_bdz.specs.BdzLaws.{bdz_is_rule, bdz_ph_is_rule};
+ghost use Rattle.cm_algorithm.specs.declared.algorithm.Algorithm.{Algorithm};
+ghost use Rattle.cm_scheme.specs.Kinds.{HasEnds};
+ghost use Rattle.cm_bdz.specs.BdzLaws.{bdz_is_rule, bdz_ph_is_rule, triple_rule};
 ghost use Rattle.cm_bdz.specs.Places.{bdz_place};
 ghost use Rattle.cm_spec.specs.Bdz.{bdz_edge, bdz_rule, bdz_ph_rule, bdz_size};
-ghost use Rattle.cm_spec.specs.Rule.{IsCount, IsRatio, IsSize};
+ghost use Rattle.cm_spec.specs.Rule.{IsRule, IsCount, IsRatio, IsSize};
 
 use cm_algorithm::Algorithm;
-use cm_bits::{Crumbs, Trits};
+use cm_bits::{Cells, Crumbs, Trits};
 use cm_scheme::{Divisor, Place, Scheme};
 
 /// The number of vertices for `m` keys and the ratio `c` in millionths: three thirds, each an odd number of at least 3 for one
@@ -45,96 +47,130 @@ pub(crate) fn place_in(words: [u32; 3], third: &Divisor) -> Place
     [ends[0], ends[1], ends[2], 0]
 }
 
-/// Edges of three ends, and cells of two bits, in which 3 is an untouched one. The others add up to the position of the key's
-/// own vertex, modulo 3.
-#[derive(Clone, Copy, Drop)]
-pub struct BdzScheme {}
+/// What BDZ and BDZ_PH differ in: the table of their cells, and the value of an untouched one.
+pub trait Variant {
+    /// Where the cells are kept.
+    type Table: Cells + Drop;
 
-impl Scheme<3> for BdzScheme {
+    ghost named: { Algorithm };
+
+    ghost bound: { ℕ };
+
+    ghost idle: { ℕ };
+
+    /// The algorithm.
+    fn algorithm() -> Algorithm
+        ensures algorithm { result ≡ named };
+
+    /// What cells are below.
+    fn bound() -> u32
+        ensures bound { result ≡ bound };
+
+    /// The value of an untouched cell.
+    fn idle() -> u32
+        ensures idle { result ≡ idle };
+
+    ghost lawful: { IsRule 3 (triple_rule bound idle) };
+
+    ghost fits: { Self.Table.fits bound };
+
+    ghost ends: { HasEnds 3 named };
+}
+
+/// Edges of three ends, whose cells add up to the position of the key's own vertex, modulo 3: BDZ where they are `RANKED`, else BDZ_PH.
+#[derive(Clone, Copy, Drop)]
+pub struct TripleScheme<const RANKED: bool> {}
+
+/// Cells of two bits, in which 3 is an untouched one.
+impl Variant for TripleScheme<true> {
     type Table = Crumbs;
 
-    ghost rule = { λ _. bdz_rule };
+    ghost named = { algorithm.Bdz };
 
-    ghost divisor_of = { λ _ n. n / 3 };
+    ghost bound = { 4 };
 
-    ghost algorithm_of = { λ _. algorithm.Bdz };
+    ghost idle = { 3 };
 
-    ghost KEEPS_TAGS = { false };
+    ghost lawful = { bdz_is_rule };
 
-    ghost laws = { λ _. bdz_is_rule };
+    ghost fits = { refl };
 
-    ghost ends = { λ _. refl };
+    ghost ends = { refl };
 
-    ghost untagged = { λ _ _ _. refl };
-
-    ghost bound_fits = { λ _ m many. refl };
-
-    const KEEPS_TAGS: bool = false;
-
-    fn algorithm(&self) -> Algorithm {
+    fn algorithm() -> Algorithm {
         Algorithm::Bdz
     }
 
-    fn size(&self, m: u32, c: u32) -> u32 {
-        vertices(m, c)
-    }
-
-    fn divisor(&self, n: u32) -> Divisor {
-        Divisor::new(n / 3)
-    }
-
-    fn edge(&self, words: [u32; 3], _n: u32, divisor: &Divisor) -> [u32; 3] {
-        triple(words, divisor)
-    }
-
-    fn tag(&self, _words: [u32; 3]) -> u32 {
-        0
-    }
-
-    fn modulus(&self, _m: u32) -> u32 {
-        3
-    }
-
-    fn bound(&self, _m: u32) -> u32 {
+    fn bound() -> u32 {
         4
     }
 
-    fn idle(&self) -> u32 {
+    fn idle() -> u32 {
         3
-    }
-
-    fn target(&self, _number: u32, position: u32, _tag: u32) -> u32 {
-        position
     }
 }
 
-/// The same without ranks: an untouched cell is 0, and cells are digits in base 3.
-#[derive(Clone, Copy, Drop)]
-pub struct BdzPhScheme {}
-
-impl Scheme<3> for BdzPhScheme {
+/// Cells that are digits in base 3, in which 0 is an untouched one.
+impl Variant for TripleScheme<false> {
     type Table = Trits;
 
-    ghost rule = { λ _. bdz_ph_rule };
+    ghost named = { algorithm.BdzPh };
+
+    ghost bound = { 3 };
+
+    ghost idle = { 0 };
+
+    ghost lawful = { bdz_ph_is_rule };
+
+    ghost fits = { refl };
+
+    ghost ends = { refl };
+
+    fn algorithm() -> Algorithm {
+        Algorithm::BdzPh
+    }
+
+    fn bound() -> u32 {
+        3
+    }
+
+    fn idle() -> u32 {
+        0
+    }
+}
+
+/// BDZ.
+pub type BdzScheme = TripleScheme<true>;
+
+/// BDZ_PH.
+pub type BdzPhScheme = TripleScheme<false>;
+
+impl<const RANKED: bool> Scheme<3> for TripleScheme<RANKED>
+where
+    TripleScheme<RANKED>: Variant,
+{
+    type Table = <TripleScheme<RANKED> as Variant>::Table;
+
+    ghost rule = { λ _. triple_rule bound-1.bound bound-1.idle };
 
     ghost divisor_of = { λ _ n. n / 3 };
 
-    ghost algorithm_of = { λ _. algorithm.BdzPh };
+    ghost algorithm_of = { λ _. bound-1.named };
 
     ghost KEEPS_TAGS = { false };
 
-    ghost laws = { λ _. bdz_ph_is_rule };
+    ghost laws = { λ _. bound-1.lawful };
 
-    ghost ends = { λ _. refl };
+    ghost ends = { λ _. bound-1.ends };
 
     ghost untagged = { λ _ _ _. refl };
 
-    ghost bound_fits = { λ _ m many. refl };
+    ghost bound_fits = { λ _ m many. bound-1.fits };
 
     const KEEPS_TAGS: bool = false;
 
     fn algorithm(&self) -> Algorithm {
-        Algorithm::BdzPh
+        <TripleScheme<RANKED> as Variant>::algorithm()
     }
 
     fn size(&self, m: u32, c: u32) -> u32 {
@@ -158,11 +194,11 @@ impl Scheme<3> for BdzPhScheme {
     }
 
     fn bound(&self, _m: u32) -> u32 {
-        3
+        <TripleScheme<RANKED> as Variant>::bound()
     }
 
     fn idle(&self) -> u32 {
-        0
+        <TripleScheme<RANKED> as Variant>::idle()
     }
 
     fn target(&self, _number: u32, position: u32, _tag: u32) -> u32 {

@@ -1,5 +1,10 @@
-use Rattle.std.proofs.Common.{◌∙◌, rules, lit<, lit≤}
+use Rattle.std.proofs.Common.{◌≡◌, ◌∙◌, Result, Ok, Err, sym, subst, rules, lit<, lit≤}
+use Rattle.std.specs.Prelude.{IfErr}
+use Rattle.std.specs.Option.{ForSome}
+use Rattle.std.specs.Result.{IsErrAnd}
+use Rattle.cm_algo.specs.Fails.{FailsBuild}
 use Rattle.cm_bits.specs.PackedLaws.{AllBelow-packed_cells}
+use Rattle.cm_spec.specs.Bdz.{bdz_rule, bdz_ph_rule}
 use Rattle.cm_tool.proofs.Builds.{bdz_from, bdz_ph_from, chm_from}
 use Rattle.cm_tool.proofs.functions.func_of.Goals as goal
 
@@ -48,3 +53,14 @@ returns-in_ok-built-in-BdzPh-clause-valid g c =
       size = rw (f.cells, f.keys, f.ratio, built.many.2) built.cells.1;
       below = rw f.cells (AllBelow-packed_cells 3 5 t.n t.bytes.items (lit< tt));
     }
+
+-- a fault that is returned as it came
+same_fault : {T E : Type 0} (result : Result T E) (fault : E) (P : E → Type 0) → IsErrAnd result (λ e. e ≡ fault) → P fault → IfErr result P
+same_fault (Ok x) fault P is holds = tt
+same_fault (Err e) fault P is holds = subst P (sym is) holds
+
+pub returns-in_err-built-in-Bdz-clause-fault : goal.returns-in_err-built-in-Bdz-clause-fault
+returns-in_err-built-in-Bdz-clause-fault g c = rw c.in-Bdz.is (same_fault _ c.in_err-built-in-Bdz.field-0.0 (λ e. ForSome (g.P.KeyPass.told c.args.keys.now) (λ told. FailsBuild bdz_rule told c.args.job.now.c c.args.seeds.now e)) c.from_residual-in_err-built-in-Bdz.ensures.1 c.in_err-built-in-Bdz.ensures.fault)
+
+pub returns-in_err-built-in-BdzPh-clause-fault : goal.returns-in_err-built-in-BdzPh-clause-fault
+returns-in_err-built-in-BdzPh-clause-fault g c = rw c.in-BdzPh.is (same_fault _ c.in_err-built-in-BdzPh.field-0.0 (λ e. ForSome (g.P.KeyPass.told c.args.keys.now) (λ told. FailsBuild bdz_ph_rule told c.args.job.now.c c.args.seeds.now e)) c.from_residual-in_err-built-in-BdzPh.ensures.1 c.in_err-built-in-BdzPh.ensures.fault)
