@@ -1,4 +1,6 @@
-ghost use Rattle.std.specs.Prelude.{◌<◌, ◌≤◌, length};
+ghost use Rattle.std.specs.Prelude.{◌≡◌, ◌<◌, ◌≤◌, length, IfOk, IfErr};
+ghost use Rattle.cm_bits.specs.declared.fault.ImageFault.TheVariants.{Memory};
+ghost use Rattle.cm_spec.specs.Lists.{list_of};
 
 use cm_bits::{
     Bits, Cells, Crumbs, Fields, ImageFault, MAX_CELLS, MAX_FIELD_BOUND, Plain, Trits, filled,
@@ -8,13 +10,30 @@ use std::process::Abort;
 use std::test::Fail;
 
 /// The image of a table, byte by byte.
-fn image_of<C: Cells>(alloc: Global, table: &C) -> Result<Vec<u8>, AllocError> {
+fn image_of<C: Cells>(alloc: Global, table: &C) -> Result<Vec<u8>, AllocError>
+    ensures { IfOk result (λ v. v.items ≡ list_of (C.image_byte (C.bound_of table.now) (C.cells table.now)) (C.image_size (length (C.cells table.now)) (C.bound_of table.now))) }
+{
     let len = C::image_len(table.len(), table.bound());
     let mut image = Vec::new(alloc);
     for i in 0..len {
         image.push(table.byte(i))?;
     }
     Ok(image)
+}
+
+/// The table again, from its image: the laws of every table say that nothing is lost.
+fn copied<C: Cells>(alloc: Global, table: &C) -> Result<C, ImageFault>
+    ensures same { IfOk result (λ t. C.cells t ≡ C.cells table.now) }
+    ensures bound { IfOk result (λ t. C.bound_of t ≡ C.bound_of table.now) }
+    ensures memory_only { IfErr result (λ e. e ≡ Memory) }
+{
+    let Ok(image) = image_of(alloc, table) else {
+        return Err(ImageFault::Memory);
+    };
+    match C::from_image(alloc, table.len(), table.bound(), &image) {
+        Ok(again) => Ok(again),
+        Err(fault) => Err(fault),
+    }
 }
 
 /// A table has its cells, and the image has its bytes, on the way there and back.
@@ -36,7 +55,7 @@ fn has_image<C: Cells + Drop>(
     }
     assert_eq!(rt; image_of(alloc, &table)?.as_slice(), bytes);
     assert_eq!(rt; C::image_len(n, bound), bytes.len() as u64);
-    let again = C::from_image(alloc, n, bound, bytes)?;
+    let again = copied(alloc, &table)?;
     assert_eq!(rt; (again.len(), again.bound()), (n, bound));
     for i in 0..again.len() {
         assert!(rt; i < n);

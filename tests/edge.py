@@ -1,0 +1,563 @@
+#!/usr/bin/env python3
+"""Runs the built program on real files, pipes and devices, and compares status, outputs and files with what they must be.
+
+    tests/edge.py [PROGRAM]        PROGRAM is crates/cmph/out/cmph if it is left out
+    tests/edge.py --list           lists the cases, as docs/reliability.md has them
+
+Each case runs in a folder of its own, as nobody where this runs as root. The last line is 'N passed, M failed'.
+"""
+import os
+import resource
+import shutil
+import signal
+import subprocess
+import sys
+import tempfile
+
+HERE = os.path.dirname(os.path.abspath(__file__))
+NOBODY = 65534
+AS_ROOT = os.geteuid() == 0
+HELP = b"""usage: cmph [-v] [-h] [-V] [-k nkeys] [-f hash] [-g [-c c] [-s seed] [-r seeds]] [-a algorithm] [-M MB] [-b b] [-d dir] [-m file.mph] keysfile
+       cmph -T nkeys [-s seed] [-r seeds] [-M MB] [-d dir]
+algorithms: chm bdz bdz_ph brz
+hash functions: jenkins
+"""
+# The functions of the keys "" and "a" by CHM, of "" by BDZ, and of both by BDZ_PH, under seed 0.
+CHM_TWO = bytes.fromhex("434d5048444d5031" "01000000" "02000000" "10e41f00" "00000000" "04")
+CHM_ONE = bytes.fromhex("434d5048444d5031" "01000000" "01000000" "10e41f00" "00000000" "00")
+BDZ_ONE = bytes.fromhex("434d5048444d5031" "02070000" "01000000" "b0c41200" "00000000" "f3ff03" "00000000")
+BDZ_PH_TWO = bytes.fromhex("434d5048444d5031" "03000000" "02000000" "b0c41200" "00000000" "0000")
+TWO = b"\na\n"
+TWO_ANSWERS = b" -> 0\na -> 1\n"
+
+CASES = []
+
+
+def case(name):
+    """Lists a function as a case."""
+    return lambda body: CASES.append((name, body)) or body
+
+
+class Left:
+    """What a run left: its status, and what it wrote to both outputs."""
+
+    def __init__(self, status, out, err):
+        self.status, self.out, self.err = status, out, err
+
+
+class Room:
+    """A folder of its own, in which the program runs."""
+
+    def __init__(self, folder, program, shim):
+        self.folder, self.program, self.shim = folder, program, shim
+
+    def path(self, name):
+        return os.path.join(self.folder, name)
+
+    def put(self, name, content, mode=0o644):
+        with open(self.path(name), "wb") as file:
+            file.write(content)
+        os.chmod(self.path(name), mode)
+        if AS_ROOT:
+            os.chown(self.path(name), NOBODY, NOBODY)
+
+    def get(self, name):
+        with open(self.path(name), "rb") as file:
+            return file.read()
+
+    def has(self, name):
+        return os.path.lexists(self.path(name))
+
+    def run(self, *words, out=subprocess.PIPE, err=subprocess.PIPE, before=None, bend=None):
+        """Runs the program. `before` is called in its process first; `bend` is the environment of the shim."""
+        env = {"PATH": os.environ.get("PATH", "")}
+        if bend is not None:
+            env.update(bend, LD_PRELOAD=self.shim, EDGE_COUNTS=self.path("counts"))
+        who = {"user": NOBODY, "group": NOBODY, "extra_groups": []} if AS_ROOT else {}
+        ended = subprocess.run([self.program, *words], cwd=self.folder, env=env, stdin=subprocess.DEVNULL,
+                               stdout=out, stderr=err, preexec_fn=before, timeout=60, **who)
+        return Left(ended.returncode, ended.stdout or b"", ended.stderr or b"")
+
+    def counts(self):
+        """The reads, writes, seeks and opens of the last run under the shim, and whether a call was bent."""
+        return [int(word) for word in self.get("counts").split()]
+
+
+class Wrong(Exception):
+    """What a case found."""
+
+
+def same(what, found, wanted):
+    if found != wanted:
+        raise Wrong(f"{what} is {shown(found)}, and must be {shown(wanted)}")
+
+
+def shown(value):
+    text = repr(value)
+    return text if len(text) < 200 else f"{text[:90]} .. {text[-90:]} ({len(value)} bytes)"
+
+
+def ends(left, status, out=b"", err=b""):
+    same("the status", left.status, status)
+    same("standard output", left.out, out)
+    same("standard error", left.err, err)
+
+
+def said(text):
+    return f"cmph: {text}\n".encode()
+
+
+def closed(number):
+    """Closes a descriptor before the program starts."""
+    return lambda: os.close(number)
+
+
+def limited(what, most):
+    def set_limit():
+        resource.setrlimit(what, (most, most))
+        signal.signal(signal.SIGXFSZ, signal.SIG_IGN)
+    return set_limit
+
+
+def lines(count):
+    """Numbered keys, one a line."""
+    return b"".join(b"key number %d\n" % number for number in range(count))
+
+
+def answered(count):
+    """What a query by the CHM function of these keys writes."""
+    return b"".join(b"key number %d -> %d\n" % (number, number) for number in range(count))
+
+
+# Statuses
+
+
+@case("status 0: a build and a query by each algorithm")
+def _(room):
+    for name, content, dump in [("chm", TWO, CHM_TWO), ("bdz", b"\n", BDZ_ONE), ("bdz_ph", TWO, BDZ_PH_TWO)]:
+        room.put("keys", content)
+        ends(room.run("-g", "-a", name, "-s", "0", "keys"), 0)
+        same("the function file", room.get("keys.mph"), dump)
+    ends(room.run("keys"), 0, b" -> 1\na -> 2\n")
+
+
+@case("status 0: a note of a function that was built, and another function file")
+def _(room):
+    room.put("keys", TWO)
+    ends(room.run("-v", "-g", "-f", "jenkins", "-s", "0", "-m", "f", "keys"), 0, b"", said("chm keys 2 cells 5 seed 0"))
+    same("the function file", room.get("f"), CHM_TWO)
+    same("another function file", room.has("keys.mph"), False)
+
+
+@case("status 1: equal keys leave the older function file as it was")
+def _(room):
+    room.put("keys", b"\n\n")
+    room.put("keys.mph", b"older")
+    left = room.run("-g", "-s", "0", "-r", "1", "keys")
+    same("the status", left.status, 1)
+    same("standard error", left.err, said("no seed of the list gives an empty core"))
+    same("the function file", room.get("keys.mph"), b"older")
+
+
+@case("status 1: a query notes a repeated number and an unknown key")
+def _(room):
+    room.put("keys", b"\n\n")
+    room.put("keys.mph", BDZ_ONE)
+    ends(room.run("keys"), 1, b" -> 0\n -> 0\n", said("line 2: value 0 is repeated"))
+    room.put("keys", b"a\n")
+    ends(room.run("keys"), 1, b"", said("line 1: key is unknown"))
+
+
+@case("status 2: arguments")
+def _(room):
+    bad = said("bad arguments; cmph -h shows the usage")
+    for words, message in [([], said("no keys file")), (["-t", "2", "keys"], bad), ([b"\xff"], bad), (["-f", "md5", "keys"], said("bad value of -f"))]:
+        ends(room.run(*words), 2, b"", message)
+
+
+@case("status 3: a damaged function file")
+def _(room):
+    room.put("keys", b"\n")
+    for dump, text in [(BDZ_ONE[:30], "truncated at 30"), (BDZ_ONE + b"x", "trailing bytes"), (b"", "truncated at 0"), (b"x" * 24, "bad magic")]:
+        room.put("keys.mph", dump)
+        ends(room.run("keys"), 3, b"", said(f"keys.mph: bad dump: {text}"))
+
+
+@case("status 4: files that cannot be read")
+def _(room):
+    ends(room.run("-g", "keys"), 4, b"", said("keys: cannot read"))
+    ends(room.run("keys"), 4, b"", said("keys.mph: cannot read"))
+    room.put("keys.mph", CHM_TWO)
+    ends(room.run("keys"), 4, b"", said("keys: cannot read"))
+    os.mkdir(room.path("folder"))
+    ends(room.run("-g", "folder"), 4, b"", said("folder: cannot read"))
+    ends(room.run(""), 4, b"", said(".mph: cannot read"))
+    same("other files", sorted(os.listdir(room.folder)), ["folder", "keys.mph"])
+
+
+@case("status 4: a keys file without permission to read")
+def _(room):
+    room.put("keys", TWO, mode=0)
+    ends(room.run("-g", "keys"), 4, b"", said("keys: cannot read"))
+
+
+@case("status 4: a pipe cannot be rewound")
+def _(room):
+    os.mkfifo(room.path("keys"))
+    os.chmod(room.path("keys"), 0o666)
+    # Open for both, so that neither side waits for the other.
+    pipe = os.open(room.path("keys"), os.O_RDWR)
+    os.write(pipe, TWO)
+    left = room.run("-g", "keys")
+    os.close(pipe)
+    ends(left, 4, b"", said("keys: cannot read"))
+
+
+@case("status 5: a function file that cannot be created")
+def _(room):
+    room.put("keys", TWO)
+    ends(room.run("-g", "-m", "none/f", "keys"), 5, b"", said("none/f: cannot write"))
+    room.put("f", b"older", mode=0o444)
+    ends(room.run("-g", "-m", "f", "keys"), 5, b"", said("f: cannot write"))
+    same("the function file", room.get("f"), b"older")
+
+
+@case("status 6: little memory")
+def _(room):
+    room.put("keys", lines(1000000))
+    ends(room.run("-g", "keys", before=limited(resource.RLIMIT_AS, 24 << 20)), 6, b"", said("out of memory"))
+    same("the function file", room.has("keys.mph"), False)
+
+
+@case("status 6: a header that claims more than there is memory for")
+def _(room):
+    room.put("keys", TWO)
+    room.put("keys.mph", CHM_TWO[:12] + (16777216).to_bytes(4, "little") + (10000000).to_bytes(4, "little") + bytes(4))
+    ends(room.run("keys", before=limited(resource.RLIMIT_AS, 24 << 20)), 3, b"", said("keys.mph: bad dump: truncated at 24"))
+
+
+@case("status 6: arguments that there is no memory for")
+def _(room):
+    many = ["-m" + "x" * 120000] * 15
+    for most in range(3 << 20, 12 << 20, 1 << 18):
+        left = room.run(*many, before=limited(resource.RLIMIT_AS, most))
+        if left.status == 6:
+            ends(left, 6, b"", said("out of memory"))
+            return
+    raise Wrong("no limit of memory gives status 6")
+
+
+@case("status 7: a keys file that grows between two passes")
+def _(room):
+    room.put("keys", TWO)
+    ends(room.run("-g", "keys", bend={"EDGE_GROW": "keys"}), 7, b"", said("keys: keys changed: 2, then 3"))
+    same("the function file", room.has("keys.mph"), False)
+
+
+@case("status 8: no keys, and a line that is too long")
+def _(room):
+    room.put("keys", b"")
+    ends(room.run("-g", "keys"), 8, b"", said("keys: no keys"))
+    room.put("keys", b"a\n" + b"b" * 65536 + b"\n")
+    ends(room.run("-g", "keys"), 8, b"", said("keys: line 2 is too long"))
+
+
+# Ends of ranges
+
+
+@case("the first and the last seed, b, c and count of keys")
+def _(room):
+    room.put("keys", TWO)
+    for words in [["-s", "0"], ["-s", "1"], ["-s", "4294967295"], ["-c", "1.5"], ["-c", "10"], ["-k", "4294967295"], ["-r", "1000"]]:
+        ends(room.run("-g", *words, "keys"), 0)
+        ends(room.run("keys"), 0, TWO_ANSWERS)
+    for b in ["3", "10"]:
+        ends(room.run("-g", "-a", "bdz", "-b", b, "-s", "0", "keys"), 0)
+        ends(room.run("keys"), 0, TWO_ANSWERS)
+    ends(room.run("-g", "-k", "1", "-s", "0", "keys"), 0)
+    same("the function file", room.get("keys.mph"), CHM_ONE)
+
+
+@case("a function with more cells than there may be keys")
+def _(room):
+    # By BDZ_PH over the most keys with the greatest ratio, all cells 0: the first end of a key is chosen, its first hash value modulo
+    # a third of the vertices. That of the empty key under seed 0 is 9b2ec03d.
+    third = 55924055
+    room.put("keys.mph", BDZ_PH_TWO[:12] + (16777216).to_bytes(4, "little") + (10000000).to_bytes(4, "little") + bytes(4 + (3 * third + 4) // 5))
+    room.put("keys", b"\n")
+    ends(room.run("keys"), 0, b" -> %d\n" % (0x9B2EC03D % third))
+
+
+# Outputs
+
+
+@case("help and version into a pipe, a file, a closed pipe, a full disk, and nothing")
+def _(room):
+    full = said("cannot write standard output")
+    for word, text in [("-h", HELP), ("-V", b"cmph 1\n")]:
+        ends(room.run(word), 0, text)
+        with open(room.path("out"), "wb") as file:
+            ends(room.run(word, out=file), 0)
+        same("the file", room.get("out"), text)
+        with open("/dev/full", "wb") as file:
+            ends(room.run(word, out=file), 5, b"", full)
+        ends(room.run(word, before=closed(1)), 5, b"", full)
+        reading, writing = os.pipe()
+        os.close(reading)
+        ends(room.run(word, out=writing), 5, b"", full)
+        os.close(writing)
+
+
+@case("a query into a full disk and a closed pipe says so, and err is whole")
+def _(room):
+    room.put("keys", lines(5000))
+    ends(room.run("-g", "keys"), 0)
+    for words in [["-k", "3", "keys"], ["keys"]]:
+        with open("/dev/full", "wb") as file:
+            ends(room.run(*words, out=file), 5, b"", said("cannot write standard output"))
+        reading, writing = os.pipe()
+        os.close(reading)
+        ends(room.run(*words, out=writing), 5, b"", said("cannot write standard output"))
+        os.close(writing)
+
+
+@case("a failing standard error changes no status and no answer")
+def _(room):
+    room.put("keys", b"\n\n")
+    room.put("keys.mph", BDZ_ONE)
+    ends(room.run("keys", before=closed(2)), 1, b" -> 0\n -> 0\n")
+    with open("/dev/full", "wb") as file:
+        ends(room.run("keys", err=file), 1, b" -> 0\n -> 0\n")
+        ends(room.run("-f", "md5", "keys", err=file), 2)
+
+
+@case("each message has reached err when the program ends, into a file too")
+def _(room):
+    with open(room.path("err"), "wb") as file:
+        ends(room.run("-g", "keys", err=file), 4)
+    same("the file", room.get("err"), said("keys: cannot read"))
+
+
+# Files
+
+
+@case("a build over a longer file, through a symbolic link")
+def _(room):
+    room.put("keys", TWO)
+    room.put("target", b"x" * 100000)
+    os.symlink("target", room.path("keys.mph"))
+    ends(room.run("-g", "-s", "0", "keys"), 0)
+    same("the link", os.readlink(room.path("keys.mph")), "target")
+    same("the function file", room.get("target"), CHM_TWO)
+
+
+@case("a keys file that is read-only, and one byte larger than a buffer")
+def _(room):
+    room.put("keys", b"a" * 65535 + b"\n" + b"b", mode=0o444)
+    ends(room.run("-g", "keys"), 0)
+    ends(room.run("keys"), 0, b"a" * 65535 + b" -> 0\nb -> 1\n")
+    same("the keys file", room.get("keys"), b"a" * 65535 + b"\n" + b"b")
+
+
+@case("a device takes the function: it knows no sync")
+def _(room):
+    room.put("keys", TWO)
+    ends(room.run("-g", "-m", "/dev/null", "keys"), 0)
+
+
+@case("long paths and many flags")
+def _(room):
+    room.put("keys", TWO)
+    ends(room.run("-g", "-s", "0", *["-v"] * 40, "keys"), 0, b"", said("chm keys 2 cells 5 seed 0"))
+    long = "p" * 5000
+    ends(room.run("-m", long, "keys"), 4, b"", said(f"{long}: cannot read"))
+
+
+@case("a limit of file size at ten places of a dump leaves a prefix of it")
+def _(room):
+    room.put("keys", lines(60000))
+    ends(room.run("-g", "-s", "0", "keys"), 0)
+    whole = room.get("keys.mph")
+    for place in range(10):
+        most = len(whole) * place // 10 + place
+        os.remove(room.path("keys.mph"))
+        ends(room.run("-g", "-s", "0", "keys", before=limited(resource.RLIMIT_FSIZE, most)), 5, b"", said("keys.mph: cannot write"))
+        same("the function file", room.get("keys.mph"), whole[:most])
+
+
+# Calls of the system that are bent, one after another
+
+
+def bent_runs(room, words, call, how, on=None):
+    """Runs with the n-th such call bent, for n from 1 until no call is; gives n and what each run left."""
+    number = 0
+    while True:
+        number += 1
+        bend = {"EDGE_CALL": call, "EDGE_NUMBER": str(number), "EDGE_DO": how}
+        if on:
+            bend["EDGE_FD"] = on
+        left = room.run(*words, bend=bend)
+        if not room.counts()[4]:
+            return
+        yield number, left
+
+
+@case("reads and writes that come short or are interrupted change nothing")
+def _(room):
+    room.put("keys", lines(12000))
+    ends(room.run("-g", "-s", "3", "keys"), 0)
+    whole = room.get("keys.mph")
+    for call in ["read", "write"]:
+        for how in ["short", "interrupt"]:
+            for number, left in bent_runs(room, ["-g", "-s", "3", "keys"], call, how):
+                ends(left, 0)
+                same(f"the function file after {call} {number} {how}", room.get("keys.mph"), whole)
+            for number, left in bent_runs(room, ["keys"], call, how):
+                ends(left, 0, answered(12000))
+
+
+@case("a read of a build that fails: status 4, and the older function file")
+def _(room):
+    room.put("keys", lines(12000))
+    room.put("keys.mph", b"older")
+    for number, left in bent_runs(room, ["-g", "-s", "3", "keys"], "read", "fail"):
+        ends(left, 4, b"", said("keys: cannot read"))
+        same("the function file", room.get("keys.mph"), b"older")
+
+
+@case("a write of a function file that fails: status 5, and a prefix of the dump")
+def _(room):
+    room.put("keys", lines(60000))
+    ends(room.run("-g", "-s", "0", "keys"), 0)
+    whole, before = room.get("keys.mph"), -1
+    for number, left in bent_runs(room, ["-g", "-s", "0", "keys"], "write", "fail", "file"):
+        ends(left, 5, b"", said("keys.mph: cannot write"))
+        found = room.get("keys.mph")
+        same(f"the function file after write {number} failed", found, whole[:len(found)])
+        same("whether each write before it reached the file", before < len(found) < len(whole), True)
+        before = len(found)
+
+
+@case("a short write and then a failing one leave a prefix of the dump")
+def _(room):
+    room.put("keys", lines(60000))
+    ends(room.run("-g", "-s", "0", "keys"), 0)
+    whole = room.get("keys.mph")
+    most = 20000
+    ends(room.run("-g", "-s", "0", "keys", before=limited(resource.RLIMIT_FSIZE, most)), 5, b"", said("keys.mph: cannot write"))
+    same("the function file", room.get("keys.mph"), whole[:most])
+
+
+@case("a read of the keys in a query that fails: the text of all keys before it is out")
+def _(room):
+    keys = lines(30000)
+    room.put("keys", keys)
+    ends(room.run("-g", "keys"), 0)
+    room.put("function", room.get("keys.mph"))
+    first = None
+    for number, left in bent_runs(room, ["-m", "function", "keys"], "read", "fail"):
+        same("the status", left.status, 4)
+        if left.err == said("function: cannot read"):
+            same("standard output", left.out, b"")
+            continue
+        first = first or number
+        got = keys[:65536 * (number - first)]
+        ends(left, 4, answered(got.count(b"\n")), said("keys: cannot read"))
+    same("reads of the keys file", first is not None, True)
+
+
+@case("a write of a query that fails: status 5, a prefix of the text, and a whole message")
+def _(room):
+    room.put("keys", lines(12000))
+    ends(room.run("-g", "keys"), 0)
+    text = answered(12000)
+    for number, left in bent_runs(room, ["keys"], "write", "fail", "1"):
+        same("the status", left.status, 5)
+        same("standard error", left.err, said("cannot write standard output"))
+        same("what out begins with", left.out, text[:len(left.out)])
+
+
+@case("a write to standard error that fails changes nothing else")
+def _(room):
+    room.put("keys", b"\n\n")
+    room.put("keys.mph", BDZ_ONE)
+    for number, left in bent_runs(room, ["keys"], "write", "fail", "2"):
+        same("the status", left.status, 1)
+        same("standard output", left.out, b" -> 0\n -> 0\n")
+
+
+@case("how often a build and a query call the system")
+def _(room):
+    keys = lines(100000)
+    room.put("keys", keys)
+    ends(room.run("-g", "-s", "1", "-v", "keys", bend={}, err=subprocess.DEVNULL), 0)
+    reads, writes, seeks, opens, _ = room.counts()
+    passes = seeks
+    dump = room.get("keys.mph")
+    pieces = len(keys) // 65536 + 2
+    if passes < 2 or reads > passes * pieces or writes > len(dump) // 16384 + 4 or opens != 2:
+        raise Wrong(f"a build of {len(keys)} bytes: {reads} reads, {writes} writes, {seeks} seeks, {opens} opens")
+    left = room.run("keys", bend={})
+    same("the status", left.status, 0)
+    reads, writes, seeks, opens, _ = room.counts()
+    if reads > pieces + len(dump) // 4096 + 16 or writes > len(left.out) // 16384 + pieces + 4 or opens != 2 or seeks != 0:
+        raise Wrong(f"a query of {len(keys)} bytes: {reads} reads, {writes} writes, {seeks} seeks, {opens} opens")
+
+
+def made_shim(folder):
+    """Compiles the shim, where there is a compiler."""
+    to = os.path.join(folder, "shim.so")
+    for compiler in ["cc", "gcc", "clang"]:
+        if shutil.which(compiler):
+            subprocess.run([compiler, "-shared", "-fPIC", "-O1", "-o", to, os.path.join(HERE, "shim.c"), "-ldl"], check=True)
+            os.chmod(to, 0o755)
+            return to
+    return None
+
+
+def needs_shim(body):
+    return any(name in body.__code__.co_names for name in ["bent_runs", "counts"]) or "EDGE_GROW" in str(body.__code__.co_consts)
+
+
+def run_case(name, body, top, number, program, shim):
+    folder = os.path.join(top, str(number))
+    os.mkdir(folder)
+    if AS_ROOT:
+        os.chown(folder, NOBODY, NOBODY)
+    try:
+        body(Room(folder, program, shim))
+        return True
+    except (Wrong, OSError, subprocess.SubprocessError) as wrong:
+        print(f"FAILED {name}: {wrong}")
+        return False
+    finally:
+        shutil.rmtree(folder, ignore_errors=True)
+
+
+def main():
+    if sys.argv[1:] == ["--list"]:
+        for name, _ in CASES:
+            print(f"- {name}")
+        return 0
+    given = sys.argv[1] if len(sys.argv) > 1 else os.path.join(HERE, "..", "crates", "cmph", "out", "cmph")
+    passed = failed = 0
+    with tempfile.TemporaryDirectory(prefix="cmph-edge-") as top:
+        os.chmod(top, 0o755)
+        program = os.path.join(top, "cmph")
+        shutil.copyfile(given, program)
+        os.chmod(program, 0o755)
+        shim = made_shim(top)
+        for number, (name, body) in enumerate(CASES):
+            if shim is None and needs_shim(body):
+                print(f"skipped, for want of a C compiler: {name}")
+                continue
+            if run_case(name, body, top, number, program, shim):
+                passed += 1
+            else:
+                failed += 1
+    print(f"{passed} passed, {failed} failed")
+    return 1 if failed or not passed else 0
+
+
+if __name__ == "__main__":
+    sys.exit(main())
