@@ -170,8 +170,8 @@ impl<'a, R: Files> Disk for FileDisk<'a, R> {
         let mut writer = writer;
         // After a failed write nothing more is sent: a part of what waits may be in the file already.
         let sent = writer.faults() == 0 && writer.write(&[]).is_ok();
-        let (file, faults) = writer.into_parts();
-        if sent && faults == 0 && is_synced(&file) {
+        let (file, _) = writer.into_parts();
+        if sent && is_synced(&file) {
             Ok(())
         } else {
             self.write_faults = self.write_faults.saturating_add(1);
