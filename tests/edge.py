@@ -229,7 +229,7 @@ def _(room):
     same("the function file", room.has("keys.mph"), False)
 
 
-@case("status 6: a header that claims more than there is memory for")
+@case("status 3: a header that claims more than there is memory for")
 def _(room):
     room.put("keys", TWO)
     room.put("keys.mph", CHM_TWO[:12] + (16777216).to_bytes(4, "little") + (10000000).to_bytes(4, "little") + bytes(4))
