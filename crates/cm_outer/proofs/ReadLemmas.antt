@@ -1,7 +1,7 @@
 -- What a read of bytes in memory gives.
 use Rattle.std.proofs.Common.{◌≡◌, ℕ, ◌+◌, ◌-◌, ◌≤◌, min, List, ◌++◌, length, take, drop, refl, sym, ◌∙◌, ap, arith, length-drop, length-take, take-append-drop}
 use Rattle.std.proofs.lemmas.List.{drop-drop, take_at, take_rest}
-use Rattle.cm_outer.specs.Reading.{Gives}
+use Rattle.cm_outer.specs.Reading.{Gives, GivesAt}
 
 pub given : (bytes copied more : List ℕ) (place n : ℕ) → copied ≡ take n (drop place bytes) → n ≤ length (drop place bytes) → drop place bytes ≡ take n (copied ++ more) ++ drop (place + n) bytes
 given bytes copied more place n is inside =
@@ -22,4 +22,14 @@ read_gives bytes xs copied more place n room value within copies count =
       moved = refl;
       inside = omega (arith, is, within);
       some = λ open_room before_end. omega (arith, is, open_room, before_end);
+    }
+
+-- the same from an offset, which may be past the end
+pub read_gives_at : (bytes copied more : List ℕ) (offset n room : ℕ) → copied ≡ take n (drop offset bytes) → n ≡ min (length (drop offset bytes)) room → GivesAt bytes offset room n (copied ++ more)
+read_gives_at bytes copied more offset n room copies count =
+    let left : length (drop offset bytes) ≡ length bytes - offset = length-drop offset bytes in
+    record {
+      given = given bytes copied more offset n copies (omega (arith, count));
+      inside = omega (arith, count, left);
+      some = λ open_room before_end. omega (arith, count, left, open_room, before_end);
     }

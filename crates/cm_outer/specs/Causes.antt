@@ -1,5 +1,5 @@
 -- What a call does to the count of faults of the object that it was handed.
-use Rattle.std.specs.Prelude.{◌≡◌, ◌<◌, ◌≤◌, ◌^◌, ℕ, Result, Ok, Err, OnOk, OnErr}
+use Rattle.std.specs.Prelude.{◌≡◌, ◌⊎◌, ◌<◌, ◌≤◌, ◌^◌, ℕ, Result, Ok, Err, OnOk, OnErr}
 use Rattle.cm_outer.specs.declared.fault.Failed.{Failed}
 use Rattle.cm_outer.specs.declared.fault.DiskFault.{DiskFault}
 use Rattle.cm_outer.specs.declared.fault.DiskFault.TheVariants as disk_fault
@@ -32,3 +32,7 @@ pub record HasCloseCause (count before now : ℕ) (result : Result (Unit {0}) Fa
   pub fine : OnOk result (count ≡ 0 → now ≡ before)
   pub counted : 0 < count → Rose before now
   pub failed : OnErr result (Rose before now)
+
+-- Nothing waits in a sink any more, or its count rose.
+abbrev pub IsSent : ℕ → ℕ → ℕ → Type 0
+IsSent waits before now = before < 2 ^ 63 → (waits ≡ 0) ⊎ (before < now)

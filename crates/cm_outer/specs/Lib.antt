@@ -10,5 +10,7 @@ pub mod NotingLaws
 pub mod Passes
 pub mod MemSources
 pub mod MemSinks
+pub mod MemSpills
+pub mod DiskCalls
 pub mod MemDisks
 pub mod MemFiles

@@ -1,10 +1,11 @@
 -- Laws of notes to one sink, one after another.
-use Rattle.std.proofs.Common.{◌≡◌, ℕ, ◌+◌, ◌<◌, ◌≤◌, ◌^◌, min, List, ◌++◌, length, take, Bool, true, false, Option, refl, sym, ◌∙◌, ap, arith}
+use Rattle.std.proofs.Common.{◌≡◌, ℕ, ◌+◌, ◌<◌, ◌≤◌, ◌^◌, min, List, [], ◌++◌, length, take, Bool, true, false, Option, inl, inr, refl, sym, ◌∙◌, ap, arith}
+use Rattle.std.proofs.lemmas.Bool.{false≢true}
 use Rattle.std.proofs.lemmas.List.{take_min, take_all, take-append-le}
 use Rattle.std.proofs.Math.Seq.{take-append-add}
 use Rattle.cm_outer.specs.Writing.{then_bytes}
-use Rattle.cm_outer.specs.Causes.{Rose}
-use Rattle.cm_outer.specs.WritingLaws.{then_twice}
+use Rattle.cm_outer.specs.Causes.{IsSent, Rose}
+use Rattle.cm_outer.specs.WritingLaws.{then_nothing, then_twice}
 use Rattle.cm_outer.specs.Noting.{HasNoted, Noted}
 
 -- the first note
@@ -40,6 +41,26 @@ after_part a b c i j k text piece g so_far next = record {
 pub noted_next : {f g : Bool} {a b c : Option (List ℕ)} {i j k : ℕ} {text piece : List ℕ} → HasNoted f a b i j text → Noted f g b c j k piece → HasNoted g a c i k (text ++ piece)
 noted_next {f = false} {g = g} so_far next = after_all _ _ _ _ _ _ _ _ g (so_far.all refl) (next.wrote refl)
 noted_next {f = true} {g = g} so_far next = after_part _ _ _ _ _ _ _ _ g (so_far.part refl) (next.silent refl)
+
+-- notes, and then further ones
+pub noted_more : {f g h : Bool} {a b c : Option (List ℕ)} {i j k : ℕ} {text piece : List ℕ} → Noted f g a b i j text → Noted g h b c j k piece → Noted f h a c i k (text ++ piece)
+noted_more {f = false} first next = record { wrote = λ fine. noted_next (first.wrote refl) next; silent = λ bad. absurd (false≢true bad) }
+noted_more {f = true} first next = record {
+  wrote = λ fine. absurd (false≢true (sym fine));
+  silent = λ bad. let s = first.silent refl in let t = next.silent s.0 in (t.0, t.1 ∙ s.1, t.2 ∙ s.2);
+}
+
+-- no note
+pub noted_nothing : (failed : Bool) (err : Option (List ℕ)) (faults : ℕ) → Noted failed failed err err faults faults []
+noted_nothing failed err faults = record {
+  wrote = λ fine. record { all = λ _. (then_nothing err, refl); part = λ bad. absurd (false≢true (sym fine ∙ bad)) };
+  silent = λ bad. (bad, refl, refl);
+}
+
+-- Where nothing waits unless a note has failed, all is sent on or the count rose.
+pub noted_sent : {f : Bool} {a b : Option (List ℕ)} {i j waits : ℕ} {text : List ℕ} → HasNoted f a b i j text → (f ≡ false → waits ≡ 0) → IsSent waits i j
+noted_sent {f = false} noted sent = λ small. inl (sent refl)
+noted_sent {f = true} noted sent = λ small. inr ((noted.part refl).2 small)
 
 -- a prefix of what was noted
 pub noted_front : {f : Bool} {a b : Option (List ℕ)} {i j : ℕ} {text : List ℕ} → HasNoted f a b i j text → (n : ℕ) × (b ≡ then_bytes a (take n text))

@@ -1,5 +1,5 @@
 -- What a read gives.
-use Rattle.std.specs.Prelude.{◌≡◌, ◌<◌, ◌≤◌, ◌+◌, ℕ, List, ◌++◌, length, take, drop}
+use Rattle.std.specs.Prelude.{◌≡◌, ◌<◌, ◌≤◌, ◌+◌, ◌-◌, ℕ, List, ◌++◌, length, take, drop}
 
 -- A read at a place gave n of the bytes that a source tells, at least one unless it has come to their end.
 pub record Gives (bytes : List ℕ) (before now room n : ℕ) (buf : List ℕ) : Type 0 where
@@ -7,3 +7,9 @@ pub record Gives (bytes : List ℕ) (before now room n : ℕ) (buf : List ℕ) :
   pub moved : now ≡ before + n
   pub inside : now ≤ length bytes
   pub some : 0 < room → before < length bytes → 0 < n
+
+-- A read from an offset gave n of the bytes there, at least one unless the offset is at their end or past it.
+pub record GivesAt (bytes : List ℕ) (offset room n : ℕ) (buf : List ℕ) : Type 0 where
+  pub given : drop offset bytes ≡ take n buf ++ drop (offset + n) bytes
+  pub inside : n ≤ length bytes - offset
+  pub some : 0 < room → offset < length bytes → 0 < n

@@ -1,11 +1,16 @@
 -- Laws of writes one after another.
 use Rattle.std.specs.Prelude.{◌≡◌, ℕ, ◌+◌, ◌≤◌, min, List, [], ◌∷◌, ◌++◌, length, take, Option, None, Some, Result, Ok, Err, IsErr, refl}
-use Rattle.std.proofs.Common.{◌∙◌, ap, sym, arith, append_assoc}
+use Rattle.std.proofs.Common.{◌∙◌, ap, sym, subst, arith, append_assoc, append-nil}
 use Rattle.std.proofs.lemmas.Bool.{false≢true}
 use Rattle.std.proofs.lemmas.List.{take-append-le, take_min}
 use Rattle.std.proofs.Math.Seq.{take-append-add}
 use Rattle.cm_outer.specs.declared.fault.Failed.{Failed}
 use Rattle.cm_outer.specs.Writing.{Writes, joined, then_bytes}
+
+-- no byte more
+pub then_nothing : (known : Option (List ℕ)) → known ≡ then_bytes known []
+then_nothing None = refl
+then_nothing (Some w) = ap (λ (l : List ℕ). let o : Option (List ℕ) = Some l in o) (sym (append-nil w))
 
 pub then_twice : (known : Option (List ℕ)) (xs ys : List ℕ) → then_bytes (then_bytes known xs) ys ≡ then_bytes known (xs ++ ys)
 then_twice None xs ys = refl
@@ -19,6 +24,10 @@ later_front a b c xs ys n first next = next ∙ ap (λ (w : Option (List ℕ)). 
 pub writes_then : (a b c : Option (List ℕ)) (xs ys : List ℕ) (result : Result (Unit {0}) Failed) → b ≡ then_bytes a xs → Writes b c ys result → Writes a c (xs ++ ys) result
 writes_then a b c xs ys (Ok _) first next = next ∙ ap (λ (w : Option (List ℕ)). then_bytes w ys) first ∙ then_twice a xs ys
 writes_then a b c xs ys (Err _) first next = (length xs + next.0, later_front a b c xs ys next.0 first next.1)
+
+-- a piece, and then an empty one
+pub writes_nothing : (a b c : Option (List ℕ)) (text : List ℕ) (result : Result (Unit {0}) Failed) → b ≡ then_bytes a text → Writes b c [] result → Writes a c text result
+writes_nothing a b c text result first next = subst (λ (t : List ℕ). Writes a c t result) (append-nil text) (writes_then a b c text [] result first next)
 
 -- A first piece that failed: what was taken of it is a prefix of the whole.
 pub front_of_first : (a b : Option (List ℕ)) (xs ys : List ℕ) (n : ℕ) → b ≡ then_bytes a (take n xs) → (m : ℕ) × (b ≡ then_bytes a (take m (xs ++ ys)))

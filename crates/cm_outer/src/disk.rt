@@ -1,9 +1,9 @@
-ghost use Rattle.std.specs.Prelude.{◌≡◌, ℕ, [], Option, Some, IfOk};
+ghost use Rattle.std.specs.Prelude.{◌≡◌, ℕ, List, [], Option, Some, IfOk};
 ghost use Rattle.std.specs.Option.{ForSome};
 ghost use Rattle.cm_outer.specs.Causes.{HasDiskCause, Collects, HasCloseCause};
 ghost use Rattle.cm_outer.specs.Files.{Files, IsThere, Opens, Creates, Closes};
 
-use crate::{DiskFault, Failed, Sink, Source};
+use crate::{DiskFault, Failed, Sink, Source, Spill};
 
 /// Files by their paths.
 pub trait Disk {
@@ -13,8 +13,14 @@ pub trait Disk {
     /// A file that is written.
     type Writer: Sink;
 
+    /// A file for a while, which is none of the files.
+    type Spill: Spill;
+
     /// The files, where it tells them.
     ghost files: { Self → Option Files };
+
+    /// The bytes of the spill that was last given back, where one was and the disk tells its files.
+    ghost spilled: { Self → Option (List ℕ) };
 
     /// How often opening or reading has failed.
     ghost read_faults: { Self → ℕ };
@@ -26,6 +32,7 @@ pub trait Disk {
     /// answers a reader where the path isn't among told files.
     fn open(&mut self, path: &str) -> Result<Self::Reader, DiskFault>
         ensures files { files self.new ≡ files self.old }
+        ensures spilled { spilled self.new ≡ spilled self.old }
         ensures write_faults { write_faults self.new ≡ write_faults self.old }
         ensures cause { HasDiskCause (read_faults self.old) (read_faults self.new) result }
         ensures fresh { IfOk result (λ reader. Self.Reader.faults reader ≡ 0) }
@@ -36,12 +43,14 @@ pub trait Disk {
     /// Takes a reader back. The count of read faults rises exactly where the reader has failed.
     fn shut(&mut self, reader: Self::Reader)
         ensures files { files self.new ≡ files self.old }
+        ensures spilled { spilled self.new ≡ spilled self.old }
         ensures write_faults { write_faults self.new ≡ write_faults self.old }
         ensures cause { Collects (Self.Reader.faults reader) (read_faults self.old) (read_faults self.new) };
 
     /// Makes the path hold no bytes, and gives a writer for it. Fails exactly where the count of write faults rises.
     fn create(&mut self, path: &str) -> Result<Self::Writer, DiskFault>
         ensures files { Creates path.now (files self.old) (files self.new) result }
+        ensures spilled { spilled self.new ≡ spilled self.old }
         ensures read_faults { read_faults self.new ≡ read_faults self.old }
         ensures cause { HasDiskCause (write_faults self.old) (write_faults self.new) result }
         ensures fresh { IfOk result (λ writer. Self.Writer.faults writer ≡ 0) }
@@ -53,7 +62,25 @@ pub trait Disk {
     fn close(&mut self, path: &str, writer: Self::Writer) -> Result<(), Failed>
         requires there { IsThere path.now (files self.old) }
         ensures files { Closes path.now (Self.Writer.written writer) (files self.old) (files self.new) result }
+        ensures spilled { spilled self.new ≡ spilled self.old }
         ensures read_faults { read_faults self.new ≡ read_faults self.old }
         ensures cause { HasCloseCause (Self.Writer.faults writer) (write_faults self.old) (write_faults self.new)
             result };
+
+    /// An empty spill in a directory. Fails exactly where the count of write faults rises.
+    fn spill(&mut self, dir: &str) -> Result<Self::Spill, DiskFault>
+        ensures files { files self.new ≡ files self.old }
+        ensures spilled { spilled self.new ≡ spilled self.old }
+        ensures read_faults { read_faults self.new ≡ read_faults self.old }
+        ensures cause { HasDiskCause (write_faults self.old) (write_faults self.new) result }
+        ensures fresh { IfOk result (λ spill. Self.Spill.faults spill ≡ 0) }
+        ensures empty { IfOk result (λ spill. ForSome (Self.Spill.told spill) (λ bytes. bytes ≡ [])) }
+        ensures told { IfOk result (λ spill. ForSome (files self.old) (λ _. Self.Spill.told spill ≡ Some [])) };
+
+    /// Takes a spill back. The count of write faults rises exactly where the spill has failed.
+    fn give_back(&mut self, spill: Self::Spill)
+        ensures files { files self.new ≡ files self.old }
+        ensures spilled { ForSome (files self.old) (λ _. spilled self.new ≡ Self.Spill.told spill) }
+        ensures read_faults { read_faults self.new ≡ read_faults self.old }
+        ensures cause { Collects (Self.Spill.faults spill) (write_faults self.old) (write_faults self.new) };
 }

@@ -1,4 +1,4 @@
-ghost use Rattle.std.specs.Prelude.{◌≡◌, ◌<◌, ◌≤◌, ◌+◌, ℕ, List, length, Option, Ok, Bool, true, false, OnOk, OnErr, IfOk, IfSome, IsTrue, IsOkUnless, if◌then◌else◌};
+ghost use Rattle.std.specs.Prelude.{◌≡◌, ◌<◌, ◌≤◌, ◌+◌, ℕ, List, length, Option, Ok, Bool, true, false, OnOk, OnErr, IfOk, IfSome, IfNone, IsTrue, IsOkUnless, if◌then◌else◌};
 ghost use Rattle.std.specs.Option.{ForSome};
 ghost use Rattle.cm_outer.specs.Passes.{Told, HasKeyCause, GivesKey, PassesKeys};
 
@@ -72,16 +72,15 @@ pub trait KeyPass {
         ensures usable { OnOk result (usable self.new ≡ true) }
         ensures unusable { OnErr result (usable self.new ≡ false) };
 
-    /// The next key with its line, where it is at hand. None says nothing of what comes.
+    /// The next key with its line, where it is at hand: no read can fail before it. None says that it isn't, and nothing of what
+    /// comes.
     fn peek(&self) -> Option<(u32, &[u8])>
         requires usable { IsTrue (usable self.now) }
         ensures gives { IfSome result (λ key. ForSome (told self.now) (λ told.
             GivesKey told (place self.now) (place self.now + 1) key.0 key.1.now (Ok true))) }
         ensures short { IfSome result (λ key. length key.1.now ≤ MAX_KEY_LEN) }
         ensures stands { IfSome result (λ key. stands self.now key.1.now) }
-    {
-        None
-    }
+        ensures none_stands { IfNone result ((key : List ℕ) → stands self.now key → ⊥) };
 
     /// Passes the next key without giving it, where it is at hand, as `peek` tells, and has so many bytes. No read can fail then,
     /// and it does what `next` does that answers true.

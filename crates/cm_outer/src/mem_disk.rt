@@ -1,31 +1,44 @@
 // A disk in memory.
-ghost use Rattle.std.specs.Prelude.{◌≡◌, ◌≢◌, ◌<◌, ◌↔◌, [], None, Some, Ok, IfOk, OnOk, OnErr, IsTrue, IsOkUnless, nat_lt, is_none, option_copied};
+ghost use Rattle.std.specs.Prelude.{◌≡◌, ◌≢◌, ◌<◌, ◌↔◌, ◌⊎◌, ◌++◌, ◌∷◌, ◌||◌, [], None, Some, IfOk, OnOk, OnErr, IsTrue, IsErr, Contains, is_err, nat_lt, option_copied};
 ghost use Rattle.std.specs.FinMap as maps;
 ghost use Rattle.std.specs.Option.{ForSome};
 ghost use Rattle.cm_outer.specs.Causes.{HasDiskCause, Collects, HasCloseCause};
 ghost use Rattle.cm_outer.specs.Files.{IsThere, Opens, Creates, Closes, file_at};
-ghost use Rattle.cm_outer.specs.Counts.{counted_if};
+ghost use Rattle.cm_outer.specs.Counts.{counted, counted_if};
+ghost use Rattle.cm_outer.specs.DiskCalls.{no_calls, numbers};
+ghost use Rattle.cm_outer.specs.MemDisks.{is_failed};
 ghost use Rattle.cm_outer.specs.MemSources.{new_source};
 ghost use Rattle.cm_outer.specs.MemSinks.{new_sink};
+ghost use Rattle.cm_outer.specs.MemSpills.{new_spill};
 
+use crate::listed_calls::{next_is_listed, numbers_of};
 use crate::mem_file::{MemFile, bytes_at, set_bytes};
-use crate::{Disk, DiskFault, Failed, MemSink, MemSource};
+use crate::{Disk, DiskCall, DiskFault, Failed, MemSink, MemSource, MemSpill};
 use std::alloc::{AllocError, Global};
 use std::marker::Model;
 
-/// Files in memory. Each writer has room for so many bytes, and no call fails but an `open` of a path that isn't there.
+/// Files in memory. Each writer and each spill has room for so many bytes. An `open` of a path that isn't there fails, and so
+/// does each listed call. A call is listed by its kind and its number among the calls of that kind, from 0; one that fails, or
+/// that has too little memory, counts too.
 #[derive(Drop)]
 pub struct MemDisk {
     alloc: Global,
     room: usize,
     files: Vec<MemFile>,
+    spilled: Option<Vec<u8>>,
     read_faults: u64,
     write_faults: u64,
+    listed: Vec<(DiskCall, u64)>,
+    opens: u64,
+    creates: u64,
+    closes: u64,
+    spills: u64,
 }
 
 impl Model for MemDisk {
     ghost use Rattle.cm_outer.specs.MemDisks.{DiskInMemory, disk_code};
     ghost use Rattle.cm_outer.specs.MemFiles.{files_of};
+    ghost use Rattle.std.specs.Option.{option_map};
 
     ghost Value = { DiskInMemory };
 
@@ -34,23 +47,58 @@ impl Model for MemDisk {
     ghost view = { λ d. record {
       files = files_of d.files.items;
       room = d.room;
+      spilled = option_map (λ v. v.items) d.spilled;
       read_faults = d.read_faults;
       write_faults = d.write_faults;
+      calls = record { listed = d.listed.items; opens = d.opens; creates = d.creates; closes = d.closes; spills = d.spills };
     } };
 }
 
 impl MemDisk {
-    /// A disk with no files, whose writers have room for `room` bytes.
+    /// A disk with no files, whose writers and spills have room for `room` bytes, and that lists no calls.
     pub fn new(alloc: Global, room: usize) -> MemDisk
-        ensures state { result ≡ record { files = maps.empty; room = room; read_faults = 0; write_faults = 0 } }
+        ensures state { result ≡ record { files = maps.empty; room = room; spilled = None; read_faults = 0; write_faults = 0; calls = no_calls } }
     {
         MemDisk {
             alloc,
             room,
             files: Vec::new(alloc),
+            spilled: None,
             read_faults: 0,
             write_faults: 0,
+            listed: Vec::new(alloc),
+            opens: 0,
+            creates: 0,
+            closes: 0,
+            spills: 0,
         }
+    }
+
+    /// Lists one more call that fails: the call with this number, from 0, among the calls of its kind. `Open`, `Create`,
+    /// `Close` and `Spill` are the disk's own calls. The other kinds are counted for each reader, writer or spill by itself,
+    /// and fail in each that is made from now on. Too little memory leaves the list as before.
+    pub fn fail(&mut self, call: DiskCall, number: u64) -> Result<(), AllocError>
+        ensures ok { OnOk result (self.new ≡ record self.old {
+          calls = record self.old.calls { listed = self.old.calls.listed ++ (call, number) ∷ [] };
+        }) }
+        ensures err { OnErr result (self.new ≡ self.old) }
+    {
+        self.listed.push((call, number))?;
+        Ok(())
+    }
+
+    /// How often opening or reading has failed.
+    pub fn read_faults(&self) -> u64
+        ensures { result ≡ self.now.read_faults }
+    {
+        self.read_faults
+    }
+
+    /// How often creating or writing has failed.
+    pub fn write_faults(&self) -> u64
+        ensures { result ≡ self.now.write_faults }
+    {
+        self.write_faults
     }
 
     /// Makes the path hold these bytes, whatever the room. Too little memory leaves the files as before.
@@ -77,7 +125,11 @@ impl Disk for MemDisk {
 
     type Writer = MemSink;
 
+    type Spill = MemSpill;
+
     ghost files = { λ d. Some d.files };
+
+    ghost spilled = { λ d. d.spilled };
 
     ghost read_faults = { λ d. d.read_faults };
 
@@ -85,6 +137,7 @@ impl Disk for MemDisk {
 
     fn open(&mut self, path: &str) -> Result<MemSource, DiskFault>
         ensures files { Some self.new.files ≡ Some self.old.files }
+        ensures spilled { self.new.spilled ≡ self.old.spilled }
         ensures write_faults { self.new.write_faults ≡ self.old.write_faults }
         ensures cause { HasDiskCause self.old.read_faults self.new.read_faults result }
         ensures fresh { IfOk result (λ reader. reader.faults ≡ 0) }
@@ -92,23 +145,32 @@ impl Disk for MemDisk {
         ensures reader { IfOk result (λ reader. ForSome (Some self.old.files) (λ files.
             Opens files path.now (Some reader.bytes) reader.place)) }
 
-        // It fails exactly where the path isn't there. No read or rewind of the reader fails.
-        ensures missing { (result ≡ Err DiskFault.Failed) ↔ (file_at self.old.files path.now ≡ None) }
-        ensures faultless { IfOk result (λ reader. reader ≡ new_source reader.bytes [] []) }
+        // It fails exactly where it is listed or the path isn't there. The reader fails in its listed calls.
+        ensures fails { (result ≡ Err DiskFault.Failed) ↔ (Contains self.old.calls.listed (DiskCall.Open, self.old.calls.opens)
+            ⊎ (file_at self.old.files path.now ≡ None)) }
+        ensures listed { IfOk result (λ reader. reader ≡ new_source reader.bytes
+            (numbers DiskCall.Read self.old.calls.listed) (numbers DiskCall.Rewind self.old.calls.listed)) }
         ensures state { self.new ≡ record self.old {
-          read_faults = counted_if (is_none (file_at self.old.files path.now)) self.old.read_faults;
+          read_faults = counted_if (is_failed result) self.old.read_faults;
+          calls = record self.old.calls { opens = counted self.old.calls.opens };
         } }
     {
-        let Some(bytes) = bytes_at(&self.files, path) else {
-            self.read_faults = self.read_faults.saturating_add(1);
-            return Err(DiskFault::Failed);
+        let listed = next_is_listed(&self.listed, DiskCall::Open, &mut self.opens);
+        let bytes = match bytes_at(&self.files, path) {
+            Some(bytes) if !listed => bytes.to_vec(self.alloc)?,
+            _ => {
+                self.read_faults = self.read_faults.saturating_add(1);
+                return Err(DiskFault::Failed);
+            }
         };
-        let bytes = bytes.to_vec(self.alloc)?;
-        Ok(MemSource::new(bytes, Vec::new(self.alloc), Vec::new(self.alloc)))
+        let read_fails = numbers_of(self.alloc, &self.listed, DiskCall::Read)?;
+        let rewind_fails = numbers_of(self.alloc, &self.listed, DiskCall::Rewind)?;
+        Ok(MemSource::new(bytes, read_fails, rewind_fails))
     }
 
     fn shut(&mut self, reader: MemSource)
         ensures files { Some self.new.files ≡ Some self.old.files }
+        ensures spilled { self.new.spilled ≡ self.old.spilled }
         ensures write_faults { self.new.write_faults ≡ self.old.write_faults }
         ensures cause { Collects reader.faults self.old.read_faults self.new.read_faults }
 
@@ -124,19 +186,31 @@ impl Disk for MemDisk {
 
     fn create(&mut self, path: &str) -> Result<MemSink, DiskFault>
         ensures files { Creates path.now (Some self.old.files) (Some self.new.files) result }
+        ensures spilled { self.new.spilled ≡ self.old.spilled }
         ensures read_faults { self.new.read_faults ≡ self.old.read_faults }
         ensures cause { HasDiskCause self.old.write_faults self.new.write_faults result }
         ensures fresh { IfOk result (λ writer. writer.faults ≡ 0) }
         ensures empty { IfOk result (λ writer. ForSome (Some writer.bytes) (λ bytes. bytes ≡ [])) }
         ensures writer { IfOk result (λ writer. ForSome (Some self.old.files) (λ _. Some writer.bytes ≡ Some [])) }
 
-        // It never fails, and neither does a write within the room.
-        ensures memory { IsOkUnless result DiskFault.Memory }
-        ensures faultless { IfOk result (λ writer. writer ≡ new_sink self.old.room []) }
-        ensures ok { OnOk result (self.new ≡ record self.old { files = maps.insert self.old.files path.now [] }) }
-        ensures err { OnErr result (self.new ≡ self.old) }
+        // It fails exactly where it is listed, and then the files stay. The writer has the room, and fails in its listed calls.
+        ensures fails { (result ≡ Err DiskFault.Failed) ↔ Contains self.old.calls.listed (DiskCall.Create, self.old.calls.creates) }
+        ensures listed { IfOk result (λ writer. writer ≡ new_sink self.old.room (numbers DiskCall.Write self.old.calls.listed)) }
+        ensures ok { OnOk result (self.new ≡ record self.old {
+          files = maps.insert self.old.files path.now [];
+          calls = record self.old.calls { creates = counted self.old.calls.creates };
+        }) }
+        ensures err { OnErr result (self.new ≡ record self.old {
+          write_faults = counted_if (is_failed result) self.old.write_faults;
+          calls = record self.old.calls { creates = counted self.old.calls.creates };
+        }) }
     {
-        let sink = MemSink::new(self.alloc, self.room, Vec::new(self.alloc))?;
+        if next_is_listed(&self.listed, DiskCall::Create, &mut self.creates) {
+            self.write_faults = self.write_faults.saturating_add(1);
+            return Err(DiskFault::Failed);
+        }
+        let write_fails = numbers_of(self.alloc, &self.listed, DiskCall::Write)?;
+        let sink = MemSink::new(self.alloc, self.room, write_fails)?;
         set_bytes(self.alloc, &mut self.files, path, Vec::new(self.alloc))?;
         Ok(sink)
     }
@@ -144,20 +218,71 @@ impl Disk for MemDisk {
     fn close(&mut self, path: &str, writer: MemSink) -> Result<(), Failed>
         requires there { IsThere path.now (Some self.old.files) }
         ensures files { Closes path.now (Some writer.bytes) (Some self.old.files) (Some self.new.files) result }
+        ensures spilled { self.new.spilled ≡ self.old.spilled }
         ensures read_faults { self.new.read_faults ≡ self.old.read_faults }
         ensures cause { HasCloseCause writer.faults self.old.write_faults self.new.write_faults result }
 
-        // It never fails, and keeps what was written.
-        ensures ok { result ≡ Ok tt }
+        // It fails exactly where it is listed, and keeps what was written all the same.
+        ensures fails { IsErr result ↔ Contains self.old.calls.listed (DiskCall.Close, self.old.calls.closes) }
         ensures state { self.new ≡ record self.old {
           files = maps.insert self.old.files path.now writer.bytes;
-          write_faults = counted_if (nat_lt 0 writer.faults) self.old.write_faults;
+          write_faults = counted_if (is_err result || nat_lt 0 writer.faults) self.old.write_faults;
+          calls = record self.old.calls { closes = counted self.old.calls.closes };
         } }
     {
-        if writer.has_failed() {
+        let listed = next_is_listed(&self.listed, DiskCall::Close, &mut self.closes);
+        if listed || writer.has_failed() {
             self.write_faults = self.write_faults.saturating_add(1);
         }
         set_bytes(self.alloc, &mut self.files, path, writer.into_bytes()).unwrap();
+        if listed {
+            return Err(Failed);
+        }
         Ok(())
+    }
+
+    fn spill(&mut self, _dir: &str) -> Result<MemSpill, DiskFault>
+        ensures files { Some self.new.files ≡ Some self.old.files }
+        ensures spilled { self.new.spilled ≡ self.old.spilled }
+        ensures read_faults { self.new.read_faults ≡ self.old.read_faults }
+        ensures cause { HasDiskCause self.old.write_faults self.new.write_faults result }
+        ensures fresh { IfOk result (λ spill. spill.appended.faults ≡ 0) }
+        ensures empty { IfOk result (λ spill. ForSome (Some spill.appended.bytes) (λ bytes. bytes ≡ [])) }
+        ensures told { IfOk result (λ spill. ForSome (Some self.old.files) (λ _. Some spill.appended.bytes ≡ Some [])) }
+
+        // It fails exactly where it is listed. The spill has the room, and fails in its listed calls.
+        ensures fails { (result ≡ Err DiskFault.Failed) ↔ Contains self.old.calls.listed (DiskCall.Spill, self.old.calls.spills) }
+        ensures listed { IfOk result (λ spill. spill ≡ new_spill self.old.room
+            (numbers DiskCall.Append self.old.calls.listed) (numbers DiskCall.ReadAt self.old.calls.listed)) }
+        ensures state { self.new ≡ record self.old {
+          write_faults = counted_if (is_failed result) self.old.write_faults;
+          calls = record self.old.calls { spills = counted self.old.calls.spills };
+        } }
+    {
+        if next_is_listed(&self.listed, DiskCall::Spill, &mut self.spills) {
+            self.write_faults = self.write_faults.saturating_add(1);
+            return Err(DiskFault::Failed);
+        }
+        let append_fails = numbers_of(self.alloc, &self.listed, DiskCall::Append)?;
+        let read_fails = numbers_of(self.alloc, &self.listed, DiskCall::ReadAt)?;
+        Ok(MemSpill::new(self.alloc, self.room, append_fails, read_fails)?)
+    }
+
+    fn give_back(&mut self, spill: MemSpill)
+        ensures files { Some self.new.files ≡ Some self.old.files }
+        ensures spilled { ForSome (Some self.old.files) (λ _. self.new.spilled ≡ Some spill.appended.bytes) }
+        ensures read_faults { self.new.read_faults ≡ self.old.read_faults }
+        ensures cause { Collects spill.appended.faults self.old.write_faults self.new.write_faults }
+
+        // It keeps what was appended.
+        ensures state { self.new ≡ record self.old {
+          spilled = Some spill.appended.bytes;
+          write_faults = counted_if (nat_lt 0 spill.appended.faults) self.old.write_faults;
+        } }
+    {
+        if spill.has_failed() {
+            self.write_faults = self.write_faults.saturating_add(1);
+        }
+        self.spilled = Some(spill.into_bytes());
     }
 }

@@ -1,6 +1,6 @@
-// A sink in memory.
+// A sink in memory: nothing waits there.
 ghost use Rattle.std.specs.Prelude.{◌≡◌, ◌≤◌, ◌<◌, ◌+◌, ◌-◌, ◌++◌, ◌↔◌, ◌⊎◌, IsTrue, IsErr, IfOk, OnOk, OnErr, Contains, Some, length, take};
-ghost use Rattle.cm_outer.specs.Causes.{HasCause};
+ghost use Rattle.cm_outer.specs.Causes.{HasCause, Rose};
 ghost use Rattle.cm_outer.specs.Writing.{Writes};
 ghost use Rattle.cm_outer.specs.Counts.{counted};
 ghost use Rattle.cm_outer.specs.MemSinks.{new_sink};
@@ -64,8 +64,17 @@ impl MemSink {
         self.faults > 0
     }
 
+    /// One fault more.
+    pub(crate) fn count_fault(&mut self)
+        ensures state { self.new ≡ record self.old { faults = counted self.old.faults } }
+        ensures later { self.old.faults ≤ self.new.faults }
+        ensures rose { Rose self.old.faults self.new.faults }
+    {
+        self.faults = self.faults.saturating_add(1);
+    }
+
     /// The bytes that were written.
-    pub(crate) fn into_bytes(self) -> Vec<u8>
+    pub fn into_bytes(self) -> Vec<u8>
         ensures bytes { result.items ≡ self.bytes }
     {
         self.bytes
@@ -74,6 +83,8 @@ impl MemSink {
 
 impl Sink for MemSink {
     ghost written = { λ s. Some s.bytes };
+
+    ghost waits = { λ _. 0 };
 
     ghost faults = { λ s. s.faults };
 
@@ -101,14 +112,14 @@ impl Sink for MemSink {
         let call = self.writes;
         self.writes = self.writes.saturating_add(1);
         if self.fails.contains(&call) {
-            self.faults = self.faults.saturating_add(1);
+            self.count_fault();
             return Err(Failed);
         }
         let room = self.room - self.bytes.len();
         let fits = piece.len().min(room);
         self.bytes.extend_from_slice(&piece[..fits]).unwrap();
         if fits < piece.len() {
-            self.faults = self.faults.saturating_add(1);
+            self.count_fault();
             return Err(Failed);
         }
         Ok(())

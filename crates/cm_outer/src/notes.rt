@@ -1,8 +1,9 @@
-ghost use Rattle.std.specs.Prelude.{◌≡◌, false, map};
+ghost use Rattle.std.specs.Prelude.{◌≡◌, OnOk, false, map};
+ghost use Rattle.cm_outer.specs.Causes.{HasCause};
 ghost use Rattle.cm_outer.specs.Noting.{Noted};
-ghost use Rattle.cm_outer.specs.Writing.{joined};
+ghost use Rattle.cm_outer.specs.Writing.{Writes, joined};
 
-use crate::{Sink, write_pieces};
+use crate::{Failed, Sink, write_pieces};
 use std::marker::Model;
 
 /// Messages to a sink that may fail: from the first that failed on, nothing is written.
@@ -37,13 +38,24 @@ impl Notes {
         }
     }
 
-    /// Writes the pieces of one message, unless a note has failed before. Where the sink fails, this one has.
+    /// Writes the pieces of one message and sends them on, unless a note has failed before. Where the sink fails, this one has.
     pub fn note_pieces<E: Sink>(&mut self, sink: &mut E, pieces: &[&[u8]])
         ensures noted { Noted self.old self.new (E.written sink.old) (E.written sink.new) (E.faults sink.old) (E.faults sink.new)
             (joined (map (λ piece. piece.now) pieces.now)) }
+        ensures sent { self.new ≡ false → E.waits sink.new ≡ 0 }
     {
-        if !self.failed && write_pieces(sink, pieces).is_err() {
+        if !self.failed && write_message(sink, pieces).is_err() {
             self.failed = true;
         }
     }
+}
+
+/// Writes the pieces and sends them on. Fails exactly where the sink does, which has then taken a prefix of them all.
+fn write_message<E: Sink>(sink: &mut E, pieces: &[&[u8]]) -> Result<(), Failed>
+    ensures bytes { Writes (E.written sink.old) (E.written sink.new) (joined (map (λ piece. piece.now) pieces.now)) result }
+    ensures sent { OnOk result (E.waits sink.new ≡ 0) }
+    ensures cause { HasCause (E.faults sink.old) (E.faults sink.new) result }
+{
+    write_pieces(sink, pieces)?;
+    sink.write(&[])
 }

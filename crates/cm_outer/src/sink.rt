@@ -1,4 +1,4 @@
-ghost use Rattle.std.specs.Prelude.{ℕ, List, Option, map};
+ghost use Rattle.std.specs.Prelude.{◌≡◌, [], ℕ, List, Option, OnOk, map};
 ghost use Rattle.cm_outer.specs.Causes.{HasCause};
 ghost use Rattle.cm_outer.specs.Writing.{Writes, joined};
 
@@ -9,12 +9,17 @@ pub trait Sink {
     /// All that was written, where it tells it.
     ghost written: { Self → Option (List ℕ) };
 
+    /// How many of the bytes that were written wait: they have not been sent on to what is behind the sink.
+    ghost waits: { Self → ℕ };
+
     /// How often it has failed.
     ghost faults: { Self → ℕ };
 
-    /// Appends the piece, or a prefix of it where it fails, which is exactly where the count of faults rises.
+    /// Appends the piece, or a prefix of it where it fails, which is exactly where the count of faults rises. An empty piece sends
+    /// on all that waits.
     fn write(&mut self, piece: &[u8]) -> Result<(), Failed>
         ensures bytes { Writes (written self.old) (written self.new) piece.now result }
+        ensures sent { OnOk result (piece.now ≡ [] → waits self.new ≡ 0) }
         ensures cause { HasCause (faults self.old) (faults self.new) result };
 }
 

@@ -4,10 +4,10 @@ ghost use Rattle.cm_outer.specs.Noting.{Noted};
 ghost use Rattle.cm_outer.specs.Writing.{Writes};
 
 use crate::{
-    Disk, DiskFault, Failed, KeyBuf, KeyFault, MAX_KEY_LEN, MAX_KEYS, MemDisk, MemSink, MemSource,
-    Notes, Sink, Source, write_pieces,
+    Disk, DiskCall, DiskFault, Failed, KeyBuf, KeyFault, MAX_KEY_LEN, MAX_KEYS, MemDisk, MemSink,
+    MemSource, MemSpill, Notes, Sink, Source, Spill, write_pieces,
 };
-use std::alloc::Global;
+use std::alloc::{AllocError, Global};
 use std::test::Fail;
 
 // Each of these goes through the bounds alone.
@@ -59,6 +59,78 @@ fn holds(disk: &MemDisk, path: &str, bytes: &[u8]) -> bool {
     }
 }
 
+/// The calls that failed, each by its kind and its number among those that were made of one object.
+#[derive(Drop)]
+struct FailedCalls {
+    calls: Vec<(DiskCall, u64)>,
+}
+
+impl FailedCalls {
+    fn note(&mut self, kind: DiskCall, number: u64, failed: bool) -> Result<(), AllocError> {
+        if failed {
+            self.calls.push((kind, number))?;
+        }
+        Ok(())
+    }
+
+    /// Three reads and three rewinds.
+    fn note_reads<S: Source>(&mut self, source: &mut S) -> Result<(), AllocError> {
+        for number in 0..3 {
+            self.note(DiskCall::Read, number, source.read(&mut [0]).is_err())?;
+            self.note(DiskCall::Rewind, number, source.rewind().is_err())?;
+        }
+        Ok(())
+    }
+
+    /// Three writes.
+    fn note_writes<S: Sink>(&mut self, sink: &mut S) -> Result<(), AllocError> {
+        for number in 0..3 {
+            self.note(DiskCall::Write, number, sink.write(b"x").is_err())?;
+        }
+        Ok(())
+    }
+
+    /// Three appends and three reads.
+    fn note_spill<S: Spill>(&mut self, spill: &mut S) -> Result<(), AllocError> {
+        for number in 0..3 {
+            self.note(DiskCall::Append, number, spill.append(b"x").is_err())?;
+            self.note(
+                DiskCall::ReadAt,
+                number,
+                spill.read_at(0, &mut [0]).is_err(),
+            )?;
+        }
+        Ok(())
+    }
+
+    /// One of each of the disk's own calls, and three of each call of what it makes.
+    fn note_round(&mut self, disk: &mut MemDisk, number: u64) -> Result<(), AllocError> {
+        match disk.open("keys") {
+            Ok(mut reader) => {
+                self.note_reads(&mut reader)?;
+                disk.shut(reader);
+            }
+            Err(fault) => self.note(DiskCall::Open, number, fault == DiskFault::Failed)?,
+        }
+        match disk.create("out") {
+            Ok(mut writer) => {
+                self.note_writes(&mut writer)?;
+                let closed = disk.close("out", writer);
+                self.note(DiskCall::Close, number, closed.is_err())?;
+            }
+            Err(fault) => self.note(DiskCall::Create, number, fault == DiskFault::Failed)?,
+        }
+        match disk.spill("tmp") {
+            Ok(mut spill) => {
+                self.note_spill(&mut spill)?;
+                disk.give_back(spill);
+            }
+            Err(fault) => self.note(DiskCall::Spill, number, fault == DiskFault::Failed)?,
+        }
+        Ok(())
+    }
+}
+
 fn one_byte(alloc: Global) -> Result<Vec<u8>, DiskFault> {
     let mut bytes = Vec::new(alloc);
     bytes.push(7)?;
@@ -104,6 +176,26 @@ fn a_room_ends_inside_a_piece(rt: HostRuntime) -> Result<(), Fail> {
 }
 
 #[test]
+fn a_spill_is_read_from_any_place(rt: HostRuntime) -> Result<(), Fail> {
+    let alloc = rt.alloc();
+    let mut spill = MemSpill::new(alloc, 5, [1].to_vec(alloc)?, [2].to_vec(alloc)?)?;
+    assert_eq!(rt; spill.append(b"abc"), Ok(()));
+    assert_eq!(rt; spill.append(b"x"), Err(Failed));
+    assert_eq!(rt; spill.append(b"def"), Err(Failed));
+    let mut buf = [0u8; 2];
+    assert_eq!(rt; spill.read_at(3, &mut buf), Ok(2));
+    assert_eq!(rt; buf.as_slice(), b"de".as_slice());
+    assert_eq!(rt; spill.read_at(4, &mut buf), Ok(1));
+    assert_eq!(rt; buf.as_slice(), b"ee".as_slice());
+    assert_eq!(rt; spill.read_at(0, &mut buf), Err(Failed));
+    assert_eq!(rt; spill.read_at(5, &mut buf), Ok(0));
+    assert_eq!(rt; spill.read_at(u64::MAX, &mut buf), Ok(0));
+    assert_eq!(rt; spill.read_at(0, &mut []), Ok(0));
+    assert_eq!(rt; spill.into_bytes().as_slice(), b"abcde".as_slice());
+    Ok(())
+}
+
+#[test]
 fn pieces_are_written_in_order(rt: HostRuntime) -> Result<(), Fail> {
     let alloc = rt.alloc();
     let mut sink = MemSink::new(alloc, 9, Vec::new(alloc))?;
@@ -117,7 +209,7 @@ fn pieces_are_written_in_order(rt: HostRuntime) -> Result<(), Fail> {
 #[test]
 fn notes_end_with_the_first_that_failed(rt: HostRuntime) -> Result<(), Fail> {
     let alloc = rt.alloc();
-    let mut sink = MemSink::new(alloc, 100, [4].to_vec(alloc)?)?;
+    let mut sink = MemSink::new(alloc, 100, [5].to_vec(alloc)?)?;
     let mut notes = Notes::new();
     complain(&mut notes, &mut sink, "keys");
     notes.note(&mut sink, b"\n");
@@ -147,6 +239,54 @@ fn files_are_kept(rt: HostRuntime) -> Result<(), Fail> {
     assert_eq!(rt; store(&mut disk, "out", b"56789"), Err(DiskFault::Failed));
     assert!(rt; holds(&disk, "out", b"5678"));
     assert!(rt; holds(&disk, "keys", b"a\nb\n"));
+    Ok(())
+}
+
+#[test]
+fn listed_calls_fail(rt: HostRuntime) -> Result<(), Fail> {
+    let alloc = rt.alloc();
+    // The kind whose second call fails, how often it does, and how often reading and writing fail.
+    let cases = [
+        (DiskCall::Open, 1, 1, 0),
+        (DiskCall::Create, 1, 0, 1),
+        (DiskCall::Close, 1, 0, 1),
+        (DiskCall::Spill, 1, 0, 1),
+        (DiskCall::Read, 3, 3, 0),
+        (DiskCall::Rewind, 3, 3, 0),
+        (DiskCall::Write, 3, 0, 3),
+        (DiskCall::Append, 3, 0, 3),
+        (DiskCall::ReadAt, 3, 0, 3),
+    ];
+    for (kind, times, read_faults, write_faults) in cases {
+        let mut disk = MemDisk::new(alloc, 9);
+        disk.put("keys", b"abc")?;
+        disk.fail(kind, 1)?;
+        let mut failed = FailedCalls {
+            calls: Vec::new(alloc),
+        };
+        for number in 0..3 {
+            failed.note_round(&mut disk, number)?;
+        }
+        assert_eq!(rt; failed.calls.len(), times);
+        assert!(rt; failed.calls.iter().all(|call| *call == (kind, 1)));
+        assert_eq!(rt; disk.read_faults(), read_faults);
+        assert_eq!(rt; disk.write_faults(), write_faults);
+    }
+    Ok(())
+}
+
+#[test]
+fn failed_calls_keep_the_files(rt: HostRuntime) -> Result<(), Fail> {
+    let mut disk = MemDisk::new(rt.alloc(), 4);
+    disk.fail(DiskCall::Close, 0)?;
+    disk.fail(DiskCall::Create, 1)?;
+    assert_eq!(rt; store(&mut disk, "out", b"1234"), Err(DiskFault::Failed));
+    assert!(rt; holds(&disk, "out", b"1234"));
+    assert_eq!(rt; store(&mut disk, "out", b"5"), Err(DiskFault::Failed));
+    assert!(rt; holds(&disk, "out", b"1234"));
+    assert_eq!(rt; store(&mut disk, "out", b"5"), Ok(()));
+    assert!(rt; holds(&disk, "out", b"5"));
+    assert_eq!(rt; disk.write_faults(), 2);
     Ok(())
 }
 

@@ -1,0 +1,24 @@
+// The kinds of calls that a disk in memory can let fail.
+
+/// A kind of call. The first four are a disk's own; the others are those of each reader, writer and spill that it makes.
+#[derive(Clone, Copy, Debug, PartialEq, Eq)]
+pub enum DiskCall {
+    /// `open` of the disk.
+    Open,
+    /// `create` of the disk.
+    Create,
+    /// `close` of the disk.
+    Close,
+    /// `spill` of the disk.
+    Spill,
+    /// `read` of a reader.
+    Read,
+    /// `rewind` of a reader.
+    Rewind,
+    /// `write` of a writer.
+    Write,
+    /// `append` of a spill.
+    Append,
+    /// `read_at` of a spill.
+    ReadAt,
+}
