@@ -1,15 +1,15 @@
 -- What a call of `next` gives.
-use Rattle.std.proofs.Common.{◌≡◌, ◌∙◌, ℕ, ◌+◌, ◌-◌, ◌<◌, ◌≤◌, List, [], ◌∷◌, ◌++◌, length, drop, ap, sym, arith, refl, subst, length-append, length-take, length-drop, Option, Some, None, Bool, true, false, if◌then◌else◌}
+use Rattle.std.proofs.Common.{◌≡◌, inl, inr, ◌∙◌, ℕ, ◌+◌, ◌-◌, ◌<◌, ◌≤◌, List, [], ◌∷◌, ◌++◌, length, drop, ap, sym, arith, refl, subst, length-append, length-take, length-drop, Option, Some, None, Bool, true, false, if◌then◌else◌}
 use Rattle.std.specs.Option.{option_map, ForSome}
 use Rattle.cm_outer.specs.declared.key_pass.KeyFault.TheVariants.{TooLong, TooMany}
 use Rattle.cm_outer.specs.Passes.{Told, Ends, PassesKeys}
 use Rattle.cm_keys.specs.Lines.{push_first, pieces, with_key, lines_of}
-use Rattle.cm_keys.specs.LinePass.{IsOpen}
+use Rattle.cm_keys.specs.LinePass.{IsAtHand, IsFull, IsOpen, LinePass, NoneAtHand}
 use Rattle.cm_keys.specs.Leaving.{keys_after, IsLeft, Leaves}
 use Rattle.cm_keys.specs.Buffering.{IsLong, TakesLines, left_bytes, ready_in}
 use Rattle.cm_keys.specs.NumberingLaws.{IsWithin}
 use Rattle.cm_keys.proofs.NumberingLemmas.{lines_are_numbered}
-use Rattle.cm_keys.proofs.PieceLemmas.{none_some, some_same}
+use Rattle.cm_keys.proofs.PieceLemmas.{no_line, none_some, some_same}
 use Rattle.cm_keys.proofs.LeaveLemmas.{left_first, left_key, left_long, left_many, left_none, leaves_key, leaves_lines, leaves_none}
 
 -- What holds of the keys of told bytes.
@@ -139,3 +139,13 @@ none_gives max longest end first given told told' place place' ready ready' inv 
     let e : ready' ++ drop place' x ≡ ready ++ drop place x = some_same (rw is at (rw t at same)) in
     let none : ready ++ drop place x ≡ [] = sym e ∙ rw none_ready (none_left x (t ∙ is)) in
     leaves_none whole given None (subst (IsLeft whole given) (ap (λ (bytes : List ℕ). keys_after max longest first given (pieces end bytes)) none ∙ left_none max longest first given) (inv x is)))
+
+not_open : (given : ℕ) (first : Option ℕ) → IsFull first given → IsOpen first given → ⊥
+not_open given None full looked = full
+not_open given (Some n) full looked = omega (arith, full, looked)
+
+-- Where no key is at hand, none of these bytes is one.
+pub none_at_hand : (max longest end : ℕ) (pass : LinePass) (key : List ℕ) → NoneAtHand max end pass → IsAtHand max longest end pass key → ⊥
+none_at_hand max longest end pass key (inl full) (looked, few, left, takes) = not_open pass.given pass.first full looked
+none_at_hand max longest end pass key (inr (inl many)) (looked, few, left, takes) = omega (arith, many, few)
+none_at_hand max longest end pass key (inr (inr none)) (looked, few, left, takes) = no_line longest end pass.waiting left key none takes

@@ -140,6 +140,14 @@ line_taken end longest buf start until n inside before at room =
       omega (arith, inside, room, length-take n hay, length-take (until - start) (drop start buf)),
     )
 
+-- Bytes that have no end of a line don't begin with a line and its end.
+pub no_line : (longest end : ℕ) (ready left key : List ℕ) → HasNoEnd end ready → TakesPart longest end ready left [] key Whole → ⊥
+no_line longest end ready left key none takes =
+    let part = takes.0 in
+    let first : with_front ready (pieces end []) ≡ part ∷ pieces end (left ++ []) =
+    sym (none []) ∙ ap (λ (bytes : List ℕ). pieces end (bytes ++ [])) takes.3 ∙ front_whole end [] part left [] takes.1 in
+    omega (arith, front_len ready (pieces end []), ap first_len first, ap length takes.3, length-append part (end ∷ left))
+
 drop_front : (end : ℕ) (part left : List ℕ) → drop (suc (length part)) (part ++ end ∷ left) ≡ left
 drop_front end [] left = refl
 drop_front end (b ∷ bs) left = drop_front end bs left

@@ -198,6 +198,7 @@ impl<S: Source> KeyPass for Keys<S> {
             GivesKey told self.now.given (self.now.given + 1) key.0 key.1.now (Ok true))) }
         ensures short { IfSome result (λ key. length key.1.now ≤ MAX_KEY_LEN) }
         ensures stands { IfSome result (λ key. IsAtHand MAX_KEYS MAX_KEY_LEN LINE_END self.now key.1.now) }
+        ensures none_stands { IfNone result ((key : List ℕ) → IsAtHand MAX_KEYS MAX_KEY_LEN LINE_END self.now key → ⊥) }
 
         // A line that waits whole is at hand.
         ensures none { IfNone result (NoneAtHand MAX_KEYS LINE_END self.now) }

@@ -1,5 +1,5 @@
 -- Keys that are taken together, and those of them that wait.
-use Rattle.std.proofs.Common.{◌≡◌, ◌∙◌, ℕ, ◌+◌, ◌-◌, ◌<◌, ◌≤◌, List, [], ◌∷◌, ◌++◌, length, map, take, drop, get_or, Option, None, refl, ap, sym, subst, arith, append_assoc, length-append, length-drop, add-zero}
+use Rattle.std.proofs.Common.{◌≡◌, ◌∙◌, ℕ, ◌+◌, ◌-◌, ◌<◌, ◌≤◌, List, [], ◌∷◌, ◌++◌, length, map, take, drop, get_or, Option, None, refl, ap, sym, subst, arith, append_assoc, length-append, length-drop, add-zero, Bool, true, false, ◌⊎◌, inl, inr, ⊎_elim}
 use Rattle.std.specs.Prelude.{All, IfSome}
 use Rattle.std.proofs.lemmas.List.{drop-append-le, drop-drop, get_or-drop, drop-map, get_or-map, length-map, map-append, take_all, take_more, take-append-le}
 use Rattle.std.proofs.lemmas.List.Elements.{All-drop, All-head, All-nil, All-same, All-tail}
@@ -126,3 +126,8 @@ none_waits f span w keys answers = record {
 pub same_line : (keys : List (ℕ × List ℕ)) → 0 < length keys → (none d : ℕ × List ℕ) → (get_or keys 0 none).0 ≡ (get_or keys 0 d).0
 same_line [] some none d = absurd (omega (arith, some))
 same_line (k ∷ ks) some none d = refl
+
+-- After the line of a key, a further one waits or is at hand, or all was sent on.
+pub sent_next : (sends : Bool) (now next left : ℕ) (at_hand : Type 0) → now ≡ 1 + next → (sends ≡ true → left ≡ 0) → (sends ≡ false → (1 < now) ⊎ at_hand) → (0 < next) ⊎ (at_hand ⊎ (left ≡ 0))
+sent_next true now next left at_hand one sent more = inr (inr (sent refl))
+sent_next false now next left at_hand one sent more = ⊎_elim (λ some. inl (omega (arith, one, some))) (λ there. inr (inl there)) (more refl)

@@ -1,23 +1,12 @@
--- Notes after notes, and where there are any.
-use Rattle.std.proofs.Common.{◌≡◌, ◌∙◌, ◌↔◌, ℕ, ◌+◌, cond, List, [], ◌∷◌, ◌++◌, Option, None, Some, Bool, true, false, refl, ap, sym, arith}
+-- Where there are notes.
+use Rattle.std.proofs.Common.{◌≡◌, ◌∙◌, ◌↔◌, ℕ, ◌+◌, cond, List, [], ◌∷◌, ◌++◌, Option, None, Some, Bool, true, false, refl, ap, arith}
 use Rattle.std.specs.Prelude.{is_none}
 use Rattle.std.specs.List.{count_by}
-use Rattle.std.proofs.lemmas.Bool.{false≢true}
 use Rattle.std.proofs.lemmas.List.Sums.{sum_by-cons}
-use Rattle.cm_outer.specs.NotingLaws.{noted_next}
-use Rattle.cm_outer.specs.Noting.{Noted}
 use Rattle.cm_outer.specs.Writing.{joined}
 use Rattle.cm_query.specs.Repeats.{is_repeated, with_earlier}
 use Rattle.cm_query.specs.Tallies.{tally_of}
 use Rattle.cm_query.specs.Texts.{note_of, notes_of}
-
--- one note more
-pub noted_more : {f g h : Bool} {a b c : Option (List ℕ)} {i j k : ℕ} {text piece : List ℕ} → Noted f g a b i j text → Noted g h b c j k piece → Noted f h a c i k (text ++ piece)
-noted_more {f = false} first next = record { wrote = λ fine. noted_next (first.wrote refl) next; silent = λ bad. absurd (false≢true bad) }
-noted_more {f = true} first next = record {
-  wrote = λ fine. absurd (false≢true (sym fine));
-  silent = λ bad. let s = first.silent refl in let t = next.silent s.0 in (t.0, t.1 ∙ s.1, t.2 ∙ s.2);
-}
 
 both_nil : (xs ys : List ℕ) → xs ++ ys ≡ [] → (xs ≡ []) × (ys ≡ [])
 both_nil [] ys none = (refl, none)

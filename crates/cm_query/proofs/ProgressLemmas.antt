@@ -11,9 +11,10 @@ use Rattle.cm_outer.specs.declared.key_pass.KeyFault.{KeyFault}
 use Rattle.cm_outer.specs.declared.key_pass.KeyFault.TheVariants.{Read, TooLong, TooMany}
 use Rattle.cm_query.proofs.EarlierLemmas.{notes_of-more, tally_of-more}
 use Rattle.cm_query.proofs.MarkLemmas.{AreMarks, is_marked-same, marks_more, none_marked}
-use Rattle.cm_query.proofs.NotedLemmas.{noted_more}
+use Rattle.cm_outer.specs.NotingLaws.{noted_more}
 use Rattle.cm_query.proofs.TextLemmas.{text_of-more, text_of-one}
-use Rattle.cm_query.specs.QueryLaws.{noted_nothing, then_nothing}
+use Rattle.cm_outer.specs.NotingLaws.{noted_nothing}
+use Rattle.cm_outer.specs.WritingLaws.{then_nothing}
 use Rattle.cm_query.specs.Marks.{is_marked, marked}
 use Rattle.cm_query.specs.Repeats.{is_repeated}
 use Rattle.cm_query.specs.Stops.{StopsAt, TextAfter}

@@ -1,6 +1,7 @@
 //! The answers of a function to the keys of a pass.
-ghost use Rattle.std.specs.Prelude.{◌≡◌, ◌<◌, ◌≤◌, ◌+◌, ℕ, List, length, Err, IsTrue, IfOk, IfErr, OnOk, None};
+ghost use Rattle.std.specs.Prelude.{◌≡◌, ◌⊎◌, ◌<◌, ◌≤◌, ◌+◌, ℕ, List, length, Err, IsTrue, IfOk, IfErr, OnOk, None, true, false};
 ghost use Rattle.std.specs.Option.{ForSome};
+ghost use Rattle.cm_outer.specs.Causes.{IsSent};
 ghost use Rattle.cm_outer.specs.Noting.{Noted};
 ghost use Rattle.cm_outer.specs.Writing.{then_bytes};
 ghost use Rattle.cm_query.specs.Stops.{HasQueryCause, IsReached, is_usable_after, StopsAt, TextAfter, noted_keys};
@@ -20,7 +21,8 @@ use std::alloc::Global;
 
 /// Answers each key of a pass that stands at its start: its line goes to out and then, where it has no answer or one that an
 /// earlier key has, a note to err. One bit for each number of the span is taken first, and no other memory. Keys at hand are taken
-/// some at a time, with all lines of those before written, and sent on by an empty piece.
+/// some at a time, with all lines of those before written. The lines so far are sent on before a key is read that is not at hand,
+/// so none waits at the end or where a read fails.
 pub fn query<A: Answers, P: KeyPass, O: Sink, E: Sink>(
     alloc: Global,
     function: &A,
@@ -43,6 +45,10 @@ pub fn query<A: Answers, P: KeyPass, O: Sink, E: Sink>(
 
     // Want of memory comes before all else.
     ensures memory { result ≡ Err QueryFault.Memory → (keys.new ≡ keys.old) × (out.new ≡ out.old) × (err.new ≡ err.old) × (notes.new ≡ notes.old) }
+
+    // What was written has been sent on, unless out failed, and what was noted, unless a note failed.
+    ensures sent { O.waits out.old ≡ 0 → IsSent (O.waits out.new) (O.faults out.old) (O.faults out.new) }
+    ensures notes_sent { (notes.old ≡ false → E.waits err.old ≡ 0) → notes.new ≡ false → E.waits err.new ≡ 0 }
 
     // The end of told keys.
     ensures end { OnOk result (ForSome (P.told keys.old) (λ told. told.fault ≡ None)) }
@@ -91,6 +97,8 @@ pub fn query<A: Answers, P: KeyPass, O: Sink, E: Sink>(
 fn reads_next<P: KeyPass>(batch: &Batch, keys: &P) -> bool
     requires usable { IsTrue (P.usable keys.now) }
     requires waits { 0 < length batch.now.keys }
+    ensures reads { result ≡ true → (length batch.now.keys ≡ 1) × ((key : List ℕ) → P.stands keys.now key → ⊥) }
+    ensures waits { result ≡ false → (1 < length batch.now.keys) ⊎ ((key : List ℕ) × P.stands keys.now key) }
 {
     batch.is_last() && keys.peek().is_none()
 }

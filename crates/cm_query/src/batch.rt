@@ -1,5 +1,5 @@
 //! Keys that wait for their lines.
-ghost use Rattle.std.specs.Prelude.{◌≡◌, ◌<◌, ◌≤◌, ℕ, List, [], length, drop, slice_index_or, Option, Bool, true, false, IsTrue, ◌↔◌, OnOk, OnErr};
+ghost use Rattle.std.specs.Prelude.{◌≡◌, ◌<◌, ◌≤◌, ℕ, List, [], length, drop, slice_index_or, Option, Ok, Bool, true, false, IsTrue, ◌↔◌, OnOk, OnErr};
 ghost use Rattle.std.specs.Option.{ForSome};
 ghost use Rattle.cm_outer.specs.Passes.{HasKeyCause};
 ghost use Rattle.cm_query.specs.Waiting.{AreAnswers, Refills, RefillsBy, WaitingKeys};
@@ -48,8 +48,9 @@ impl Batch {
         }
     }
 
-    /// Answers true where a key waits. Where none does, the next of a pass are taken and answered: the one that `next` gives, and
-    /// those that are at hand then. False says that there is no further key; a refusal is that of the pass.
+    /// Answers true where a key waits. Where none does, the next of a pass are taken and answered: one that is at hand, or else the
+    /// one that `next` gives, and those that are at hand then. False says that there is no further key; a refusal is that of the
+    /// pass. Neither comes where a key waits or is at hand.
     #[inline]
     pub(crate) fn refill<A: Answers, P: KeyPass>(
         &mut self,
@@ -68,6 +69,8 @@ impl Batch {
         ensures answers { AreAnswers (A.answer_of function.now) (A.span_of function.now) self.new }
         ensures counts { RefillsBy (P.place keys.old) (P.place keys.new) (length self.old.keys) (length self.new.keys) result }
         ensures refills { ForSome (P.told keys.old) (λ told. Refills told (P.place keys.old) (P.place keys.new) self.old.keys self.new.keys result) }
+        ensures waits { 0 < length self.old.keys → result ≡ Ok true }
+        ensures at_hand { (key : List ℕ) → P.stands keys.old key → result ≡ Ok true }
     {
         if self.next < self.taken.len() {
             return Ok(true);
@@ -92,15 +95,14 @@ impl Batch {
         ensures answers { AreAnswers (A.answer_of function.now) (A.span_of function.now) self.new }
         ensures counts { RefillsBy (P.place keys.old) (P.place keys.new) 0 (length self.new.keys) result }
         ensures refills { ForSome (P.told keys.old) (λ told. Refills told (P.place keys.old) (P.place keys.new) [] self.new.keys result) }
+        ensures at_hand { (key : List ℕ) → P.stands keys.old key → result ≡ Ok true }
     {
         self.next = 0;
         self.taken.clear();
         self.answers.clear();
-        if !keys.next(key)? {
+        if !self.taken.take_first(function, keys, key)? {
             return Ok(false);
         }
-        let place = function.place(key);
-        self.taken.add(keys.line(), key, place);
         self.taken.gather(function, keys);
         self.taken.answer_all(function, &mut self.answers);
         Ok(true)

@@ -1,10 +1,11 @@
 //! Keys that are taken together, each with its line and its place.
-ghost use Rattle.std.specs.Prelude.{◌≡◌, ◌⊎◌, ◌<◌, ◌≤◌, ◌+◌, ◌-◌, ◌++◌, ℕ, List, [], ◌∷◌, length, map, take, slice_index_or, All, Option, IfSome, Bool, true, false, IsTrue};
+ghost use Rattle.std.specs.Prelude.{◌≡◌, ◌⊎◌, ◌<◌, ◌≤◌, ◌+◌, ◌-◌, ◌++◌, ℕ, List, [], ◌∷◌, length, map, take, slice_index_or, All, Option, IfSome, Ok, IfOk, OnOk, OnErr, Bool, true, false, IsTrue};
 ghost use Rattle.std.specs.Option.{ForSome};
-ghost use Rattle.cm_query.specs.Waiting.{ArePlaces, Spotted, Takes, TakenKeys, keys_of};
+ghost use Rattle.cm_outer.specs.Passes.{HasKeyCause};
+ghost use Rattle.cm_query.specs.Waiting.{ArePlaces, Refills, RefillsBy, Spotted, Takes, TakenKeys, keys_of};
 
 use arrayvec::ArrayVec;
-use cm_outer::{KeyPass, MAX_KEY_LEN, MAX_KEYS};
+use cm_outer::{KeyBuf, KeyFault, KeyPass, MAX_KEY_LEN, MAX_KEYS};
 use cm_scheme::{Answers, Place};
 use std::marker::Model;
 
@@ -104,7 +105,8 @@ impl Taken {
         ensures places { ArePlaces (A.place_of function.now) self.new.spots }
         ensures one { result ≡ true → (length self.new.spots ≡ length self.old.spots + 1) × (P.place keys.new ≡ P.place keys.old + 1) }
         ensures takes { ForSome (P.told keys.old) (λ told. Takes told (P.place keys.old) (P.place keys.new) (keys_of self.old.spots) (keys_of self.new.spots)) }
-        ensures unchanged { result ≡ false → (self.new.spots ≡ self.old.spots) × (keys.new ≡ keys.old) }
+        ensures unchanged { result ≡ false → (self.new ≡ self.old) × (keys.new ≡ keys.old) }
+        ensures at_hand { (key : List ℕ) → P.stands keys.old key → result ≡ true }
     {
         let (line, key) = match keys.peek() {
             Some(next) => next,
@@ -114,6 +116,40 @@ impl Taken {
         self.add(line, key, function.place(key));
         keys.pass(len);
         true
+    }
+
+    /// Takes the first key where none was taken: the next of a pass that is at hand, or else the one that `next` gives. False says
+    /// that there is none; a refusal is that of the pass. Neither comes where a key is at hand.
+    pub(crate) fn take_first<A: Answers, P: KeyPass>(
+        &mut self,
+        function: &A,
+        keys: &mut P,
+        key: &mut KeyBuf,
+    ) -> Result<bool, KeyFault>
+        requires usable { IsTrue (P.usable keys.old) }
+        requires none { self.old.spots ≡ [] }
+        requires room { self.old.bytes ≡ 0 }
+        ensures told { P.told keys.new ≡ P.told keys.old }
+        ensures cause { HasKeyCause (P.faults keys.old) (P.faults keys.new) result }
+        ensures usable { OnOk result (P.usable keys.new ≡ true) }
+        ensures unusable { OnErr result (P.usable keys.new ≡ false) }
+        ensures few { P.place keys.new ≤ MAX_KEYS }
+        ensures places { ArePlaces (A.place_of function.now) self.new.spots }
+        ensures counts { RefillsBy (P.place keys.old) (P.place keys.new) 0 (length self.new.spots) result }
+        ensures refills { ForSome (P.told keys.old) (λ told. Refills told (P.place keys.old) (P.place keys.new) [] (keys_of self.new.spots) result) }
+        ensures at_hand { (key : List ℕ) → P.stands keys.old key → result ≡ Ok true }
+        ensures ended { IfOk result (λ more. more ≡ false → self.new.spots ≡ []) }
+        ensures refused { OnErr result (self.new.spots ≡ []) }
+    {
+        if self.take_next(function, keys) {
+            return Ok(true);
+        }
+        if !keys.next(key)? {
+            return Ok(false);
+        }
+        let place = function.place(key);
+        self.add(keys.line(), key, place);
+        Ok(true)
     }
 
     /// Takes the further keys of a pass that are at hand, as long as there is room.

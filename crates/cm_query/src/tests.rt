@@ -1,4 +1,4 @@
-ghost use Rattle.std.specs.Prelude.{◌<◌, ◌≤◌, None};
+ghost use Rattle.std.specs.Prelude.{◌<◌, ◌≤◌, None, length};
 
 use crate::{QueryFault, Tally, front_of_text, noted_exactly, query, worked_rows};
 use cm_outer::{KeyBuf, KeyFault, KeyPass, MAX_KEY_LEN, MAX_KEYS, MemSink, Notes};
@@ -60,7 +60,7 @@ impl KeyPass for Listed<'_> {
 
     ghost faults = { λ p. p.faults };
 
-    ghost stands = { λ p _. p.given < 16777216 };
+    ghost stands = { λ p _. (0 < p.ready) × (p.given < length p.keys.now) × (p.given < 16777216) };
 
     fn usable(&self) -> bool {
         self.usable
@@ -93,10 +93,7 @@ impl KeyPass for Listed<'_> {
             return None;
         }
         let key = self.keys[place];
-        if key.len() > MAX_KEY_LEN {
-            return None;
-        }
-        Some((self.given + 1, key))
+        Some((self.given + 1, &key[..key.len().min(MAX_KEY_LEN)]))
     }
 
     fn pass(&mut self, _len: usize) {

@@ -1,5 +1,5 @@
 //! What a query writes of one key.
-ghost use Rattle.std.specs.Prelude.{◌≡◌, ◌+◌, ◌++◌, ◌≤◌, ◌∷◌, [], ℕ, List, Option, Some, codes, decimal, length};
+ghost use Rattle.std.specs.Prelude.{◌≡◌, ◌+◌, ◌++◌, ◌≤◌, ◌∷◌, [], ℕ, List, Option, Some, OnOk, false, true, codes, decimal, length};
 ghost use Rattle.cm_outer.specs.Causes.{HasCause};
 ghost use Rattle.cm_outer.specs.Noting.{Noted};
 ghost use Rattle.cm_outer.specs.Writing.{Writes, joined};
@@ -67,6 +67,7 @@ pub(crate) fn write_line<O: Sink>(
     buffer: &mut Buffer,
 ) -> Result<(), Failed>
     ensures line { Writes (O.written out.old) (O.written out.new) (line_of LINE_END key.now answer) result }
+    ensures sent { OnOk result (sends ≡ true → O.waits out.new ≡ 0) }
     ensures cause { HasCause (O.faults out.old) (O.faults out.new) result }
 {
     put_line(out, key, answer, buffer)?;
@@ -106,6 +107,7 @@ pub(crate) fn note_key<E: Sink>(
     repeated: bool,
 )
     ensures noted { Noted notes.old notes.new (E.written err.old) (E.written err.new) (E.faults err.old) (E.faults err.new) (note_of line answer repeated) }
+    ensures sent { (notes.old ≡ false → E.waits err.old ≡ 0) → notes.new ≡ false → E.waits err.new ≡ 0 }
 {
     match answer {
         None => note_unknown(err, notes, line),
@@ -120,6 +122,7 @@ pub(crate) fn note_key<E: Sink>(
 /// Notes that the key of a line has no answer.
 fn note_unknown<E: Sink>(err: &mut E, notes: &mut Notes, line: u32)
     ensures noted { Noted notes.old notes.new (E.written err.old) (E.written err.new) (E.faults err.old) (E.faults err.new) (unknown_note line) }
+    ensures sent { notes.new ≡ false → E.waits err.new ≡ 0 }
 {
     let mut buffer = Buffer::new();
     let line_digits = buffer.format(line).as_bytes();
@@ -129,6 +132,7 @@ fn note_unknown<E: Sink>(err: &mut E, notes: &mut Notes, line: u32)
 /// Notes that the answer of the key of a line is repeated.
 fn note_repeated<E: Sink>(err: &mut E, notes: &mut Notes, line: u32, number: u32)
     ensures noted { Noted notes.old notes.new (E.written err.old) (E.written err.new) (E.faults err.old) (E.faults err.new) (repeated_note line number) }
+    ensures sent { notes.new ≡ false → E.waits err.new ≡ 0 }
 {
     let mut line_buffer = Buffer::new();
     let line_digits = line_buffer.format(line).as_bytes();

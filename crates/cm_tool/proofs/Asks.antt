@@ -1,5 +1,5 @@
 -- From the parts of a query to what it promises.
-use Rattle.std.proofs.Common.{◌≡◌, ◌≢◌, ◌∙◌, ◌⊎◌, ◌↔◌, ℕ, ◌+◌, ◌-◌, ◌≤◌, List, [], ◌∷◌, ◌++◌, length, take, Option, None, Some, Result, Ok, Err, inl, inr, refl, ap, sym, subst, arith, append-nil, Bool, true}
+use Rattle.std.proofs.Common.{◌≡◌, ◌≢◌, ◌∙◌, ◌⊎◌, ◌↔◌, ℕ, ◌+◌, ◌-◌, ◌≤◌, List, [], ◌∷◌, ◌++◌, length, take, Option, None, Some, Result, Ok, Err, inl, inr, refl, ap, sym, subst, arith, append-nil, Bool}
 use Rattle.std.specs.Option.{option_map}
 use Rattle.std.proofs.lemmas.List.{take_all}
 use Rattle.cm_dump.specs.Functions.{answer_by}
@@ -14,14 +14,14 @@ use Rattle.cm_outer.specs.Noting.{HasNoted}
 use Rattle.cm_outer.specs.Writing.{then_bytes}
 use Rattle.cm_outer.specs.declared.key_pass.KeyFault.{KeyFault}
 use Rattle.cm_outer.specs.declared.key_pass.KeyFault.TheVariants as key_fault
-use Rattle.cm_query.specs.QueryLaws.{then_nothing}
+use Rattle.cm_outer.specs.WritingLaws.{then_nothing}
 use Rattle.cm_query.specs.Stops.{StopsAt, TextAfter, noted_keys}
 use Rattle.cm_query.specs.Tallies.{tally_of}
 use Rattle.cm_query.specs.Texts.{notes_of, text_of}
 use Rattle.cm_query.specs.declared.fault.QueryFault.{QueryFault}
 use Rattle.cm_query.specs.declared.fault.QueryFault.TheVariants as query_fault
 use Rattle.cm_query.specs.declared.tally.Tally.{Tally}
-use Rattle.cm_tool.specs.Asked.{AskedAll, EndsKeys, EndsQuery, IsBadDump, RefusesDump, Spells, asked_all, keys_at, keys_or_none, stop_from_load, stop_from_query}
+use Rattle.cm_tool.specs.Asked.{AskedAll, EndsKeys, EndsQuery, IsBadDump, RefusesDump, Spells, keys_at, keys_or_none, stop_from_load, stop_from_query}
 use Rattle.cm_tool.specs.Ends.{Says, query_message_of, query_status_of}
 use Rattle.cm_words.specs.declared.jobs.QueryJob.{QueryJob}
 use Rattle.cm_words.specs.declared.jobs.Job.TheVariants.{Query}
@@ -56,25 +56,6 @@ asked_until f files job bytes old new given query_fault.Write there stops text =
 -- a keys file that can't be opened
 pub asked_none : (f : List ℕ → Option ℕ) (files : Files) (job : QueryJob) (old : Option (List ℕ)) → EndsKeys f files job old old [] (Err Read)
 asked_none f files job old = (0, record { out = then_nothing old; notes_are = refl })
-
--- a write that sends on what all keys gave, and fails
-cut_after_all : (f : List ℕ → Option ℕ) (files : Files) (job : QueryJob) (old new : Option (List ℕ)) (notes : List ℕ) (fault : Option KeyFault) → AskedAll f files job old new notes fault → EndsKeys f files job old new notes (Err Write)
-cut_after_all f files job old new notes fault all =
-    let keys = (keys_in job.first all.bytes).keys in
-    let here : keys_at files job ≡ keys = ap (keys_or_none job.first) all.there in
-    let whole : take (length keys) keys ≡ keys = take_all (length keys) keys (omega arith) in
-    let out : new ≡ then_bytes old (text_of 10 f (take (length keys) keys) ++ []) = all.out ∙ ap (λ (ks : List (ℕ × List ℕ)). then_bytes old (text_of 10 f ks)) (sym whole) ∙ ap (then_bytes old) (sym (append-nil _)) in
-    (all.bytes, length keys, 0, all.there, rw here (record { out = out; notes_are = all.notes_are ∙ ap (notes_of f) (sym whole) }))
-
-pub cut_after : (f : List ℕ → Option ℕ) (files : Files) (job : QueryJob) (old new : Option (List ℕ)) (notes : List ℕ) (asked : Result Tally QueryStop) → asked_all asked ≡ true → EndsKeys f files job old new notes asked → EndsKeys f files job old new notes (Err Write)
-cut_after f files job old new notes (Ok tally) whole ends = cut_after_all f files job old new notes _ ends.0
-cut_after f files job old new notes (Err Memory) whole ends = absurd (cc)
-cut_after f files job old new notes (Err NoFunction) whole ends = absurd (cc)
-cut_after f files job old new notes (Err (BadDump fault)) whole ends = absurd (cc)
-cut_after f files job old new notes (Err Read) whole ends = absurd (cc)
-cut_after f files job old new notes (Err Write) whole ends = absurd (cc)
-cut_after f files job old new notes (Err (TooLong line)) whole ends = cut_after_all f files job old new notes _ ends
-cut_after f files job old new notes (Err TooMany) whole ends = cut_after_all f files job old new notes _ ends
 
 -- a query with its function
 pub with_function : (function : Func) (files : Files) (job : QueryJob) (old new : Option (List ℕ)) (notes : List ℕ) (asked : Result Tally QueryStop) → Spells files job.function function → EndsKeys (answer_by function) files job old new notes asked → EndsQuery files job old new notes asked

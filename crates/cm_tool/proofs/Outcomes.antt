@@ -7,7 +7,7 @@ use Rattle.std.specs.FinMap as map
 use Rattle.cm_outer.specs.Files.{Files, file_at, with_file}
 use Rattle.cm_outer.specs.declared.key_pass.KeyFault.{KeyFault}
 use Rattle.cm_outer.specs.declared.key_pass.KeyFault.TheVariants as key_fault
-use Rattle.cm_query.specs.QueryLaws.{then_nothing}
+use Rattle.cm_outer.specs.WritingLaws.{then_nothing}
 use Rattle.cm_spec.specs.Built.{first_seed}
 use Rattle.cm_tool.specs.Ends.{Says, message_of, status_of}
 use Rattle.cm_tool.specs.Jobs.{rule_by, seeds_tried}

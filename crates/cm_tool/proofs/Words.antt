@@ -1,11 +1,10 @@
 -- From what the words ask for to what the top call promises.
 use Rattle.std.proofs.Common.{◌≡◌, ◌≢◌, ◌∙◌, ◌⊎◌, ℕ, List, [], length, take, Option, Some, Result, Ok, Err, inl, inr, refl, ap, sym, subst, arith}
-use Rattle.std.proofs.Math.Seq.{take-nil}
 use Rattle.std.proofs.lemmas.List.{take_all}
 use Rattle.cm_outer.specs.Files.{Files}
 use Rattle.cm_outer.specs.Writing.{Writes, then_bytes}
 use Rattle.cm_outer.specs.declared.fault.Failed.{Failed}
-use Rattle.cm_query.specs.QueryLaws.{then_nothing}
+use Rattle.cm_outer.specs.WritingLaws.{then_nothing}
 use Rattle.cm_tool.specs.Ends.{Says, usage_status_of}
 use Rattle.cm_tool.specs.Messages.{out_of_memory, usage_message}
 use Rattle.cm_tool.specs.Outcome.{Outcome, job_outcome, printing, refusal}
@@ -47,11 +46,6 @@ early_message (Ok (Query job)) = query_message_is job query_stop.Memory
 pub front_of : (r : Result (Unit {0}) Failed) (old new : Option (List ℕ)) (text : List ℕ) → Writes old new text r → (n : ℕ) × (new ≡ then_bytes old (take n text))
 front_of (Ok _) old new text wrote = (length text, wrote ∙ ap (then_bytes old) (sym (take_all (length text) text (omega arith))))
 front_of (Err _) old new text wrote = wrote
-
--- nothing more was written
-pub sent_on : (r : Result (Unit {0}) Failed) (old mid new : Option (List ℕ)) (text : List ℕ) → mid ≡ then_bytes old text → Writes mid new [] r → Writes old new text r
-sent_on (Ok _) old mid new text wrote sent = sent ∙ (sym (then_nothing mid) ∙ wrote)
-sent_on (Err _) old mid new text wrote sent = (length text, sent.1 ∙ ap (then_bytes mid) (take-nil sent.0) ∙ sym (then_nothing mid) ∙ wrote ∙ ap (then_bytes old) (sym (take_all (length text) text (omega arith))))
 
 -- words that ask for no job
 misused : (fault : UsageFault) (files : Files) (old : Option Files) (out err err_new : Option (List ℕ)) (before now : ℕ) → Says (usage_message fault) err err_new before now → old ≡ Some files → Reaches (job_outcome files (Err fault)) 2 out out err err_new before now old

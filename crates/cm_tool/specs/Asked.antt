@@ -1,5 +1,5 @@
 -- How a query ends.
-use Rattle.std.specs.Prelude.{◌≡◌, ◌≤◌, ℕ, List, [], ◌++◌, take, drop, Bool, true, false, Option, None, Some, Result, Ok, Err}
+use Rattle.std.specs.Prelude.{◌≡◌, ◌≤◌, ℕ, List, [], ◌++◌, take, drop, Option, None, Some, Result, Ok, Err}
 use Rattle.cm_dump.specs.Functions.{answer_by}
 use Rattle.cm_dump.specs.Spelling.{spelling_of}
 use Rattle.cm_dump.specs.declared.fault.LoadFault.{LoadFault}
@@ -40,17 +40,6 @@ abbrev pub stop_from_load : LoadFault → QueryStop
 stop_from_load faults.Memory = Memory
 stop_from_load faults.Read = NoFunction
 stop_from_load fault = BadDump fault
-
--- whether a query has come to the end of its keys, or to a fault of the line there
-abbrev pub asked_all : Result Tally QueryStop → Bool
-asked_all (Ok tally) = true
-asked_all (Err Memory) = false
-asked_all (Err NoFunction) = false
-asked_all (Err (BadDump fault)) = false
-asked_all (Err Read) = false
-asked_all (Err Write) = false
-asked_all (Err (TooLong line)) = true
-asked_all (Err TooMany) = true
 
 -- why a refused query of a pass stops a job
 abbrev pub stop_from_query : QueryFault → QueryStop

@@ -4,7 +4,7 @@ use cm_algo::{BuildFault, Built, assign, build};
 use cm_bits::{Cells, Fields};
 use cm_chm::ChmScheme;
 use cm_graph::{Edges, Steps, Xored};
-use cm_outer::{KeyBuf, KeyFault, KeyPass, MAX_KEYS};
+use cm_outer::{KeyBuf, KeyFault, KeyPass, MAX_KEY_LEN, MAX_KEYS};
 use cm_peel::peel;
 use std::alloc::{AllocError, Global};
 use std::marker::Brand;
@@ -12,13 +12,14 @@ use std::sync::ledger::{Blank, Ledger};
 use std::test::Fail;
 
 /// Keys that change from pass to pass, after a number of rewinds that are refused. It tells nothing of them. After its last
-/// pass it gives none.
+/// pass it gives none. So many of the next keys are at hand.
 #[derive(Drop)]
 struct Changing<'a> {
     refusals: usize,
     passes: &'a [&'a [&'a [u8]]],
     pass: usize,
     given: u32,
+    ready: u32,
     usable: bool,
     faults: u64,
     ghost few: { given ≤ 16777216 },
@@ -30,6 +31,7 @@ fn keys_of<'a>(refusals: usize, passes: &'a [&'a [&'a [u8]]]) -> Changing<'a> {
         passes,
         pass: 0,
         given: 0,
+        ready: 0,
         usable: false,
         faults: 0,
     }
@@ -51,7 +53,7 @@ impl KeyPass for Changing<'_> {
 
     ghost faults = { λ p. p.faults };
 
-    ghost stands = { λ p _. p.given < 16777216 };
+    ghost stands = { λ p _. (0 < p.ready) × (p.given < 16777216) };
 
     fn usable(&self) -> bool {
         self.usable
@@ -72,8 +74,17 @@ impl KeyPass for Changing<'_> {
         }
     }
 
+    fn peek(&self) -> Option<(u32, &[u8])> {
+        if self.ready == 0 || self.given == MAX_KEYS {
+            return None;
+        }
+        let key = key_at(self.passes, self.pass, self.given as usize).unwrap_or(b"");
+        Some((self.given + 1, &key[..key.len().min(MAX_KEY_LEN)]))
+    }
+
     fn pass(&mut self, _len: usize) {
         self.given += 1;
+        self.ready -= 1;
     }
 
     fn rewind(&mut self) -> Result<(), KeyFault> {

@@ -2,6 +2,7 @@
 ghost use Rattle.std.specs.Prelude.{◌≡◌, ◌≢◌, ◌<◌, ◌≤◌, ◌⊎◌, ◌↔◌, ◌^◌, ℕ, List, [], Option, None, Some, Ok, IfOk, IfErr};
 ghost use Rattle.std.specs.Option.{ForSome};
 ghost use Rattle.cm_dump.specs.Functions.{IsFunction};
+ghost use Rattle.cm_outer.specs.Causes.{IsSent};
 ghost use Rattle.cm_outer.specs.Files.{file_at, with_file};
 ghost use Rattle.cm_tool.specs.Ends.{Says};
 ghost use Rattle.cm_tool.specs.Jobs.{seeds_of};
@@ -134,6 +135,7 @@ pub(crate) fn run_build<D: Disk, E: Sink>(
     ensures kept { result ≢ 0 → result ≢ 5 → result ≢ 6 → D.files disk.new ≡ D.files disk.old }
     ensures part { result ≡ 5 → ForSome (D.files disk.old) (λ files. SavedPart files (D.files disk.old) (D.files disk.new) job.now) }
     ensures memory { result ≡ 6 → (D.files disk.new ≡ D.files disk.old) ⊎ (D.files disk.new ≡ with_file job.now.function [] (D.files disk.old)) }
+    ensures err_sent { E.waits err.old ≡ 0 → IsSent (E.waits err.new) (E.faults err.old) (E.faults err.new) }
     ensures err { (text : List ℕ) × IsBuildMessage job.now result text × Says text (E.written err.old) (E.written err.new) (E.faults err.old) (E.faults err.new) }
 {
     match build_file(alloc, job, disk) {

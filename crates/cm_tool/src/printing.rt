@@ -1,6 +1,6 @@
 //! The help and the version.
-ghost use Rattle.std.specs.Prelude.{◌≡◌, ◌<◌, ◌≤◌, ◌^◌, ◌↔◌, ◌⊎◌, ℕ, List, Option, take};
-ghost use Rattle.cm_outer.specs.Causes.{HasCause};
+ghost use Rattle.std.specs.Prelude.{◌≡◌, ◌<◌, ◌≤◌, ◌^◌, ◌↔◌, ◌⊎◌, ℕ, List, OnOk, Option, take};
+ghost use Rattle.cm_outer.specs.Causes.{HasCause, IsSent};
 ghost use Rattle.cm_outer.specs.Writing.{Writes, then_bytes};
 ghost use Rattle.cm_tool.specs.Ends.{Says};
 ghost use Rattle.cm_tool.specs.Run.{IsPrintMessage};
@@ -37,6 +37,7 @@ pub fn print_version<O: Sink>(out: &mut O) -> Result<(), Failed>
 fn send_text<O: Sink>(printed: Result<(), Failed>, out: &mut O) -> Result<(), Failed>
     ensures text { (text : List ℕ) (old : Option (List ℕ)) → Writes old (O.written out.old) text printed → Writes old (O.written out.new) text result }
     ensures cause { (before : ℕ) → HasCause before (O.faults out.old) printed → HasCause before (O.faults out.new) result }
+    ensures sent { OnOk result (O.waits out.new ≡ 0) }
 {
     match printed {
         Ok(()) => out.write(&[]),
@@ -54,6 +55,8 @@ pub(crate) fn end_of_text<O: Sink, E: Sink>(
     ensures front { (text : List ℕ) (old : Option (List ℕ)) → Writes old (O.written out.old) text printed → (n : ℕ) × (O.written out.new ≡ then_bytes old (take n text)) }
     ensures whole { result ≡ 0 → (text : List ℕ) (old : Option (List ℕ)) → Writes old (O.written out.old) text printed → O.written out.new ≡ then_bytes old text }
     ensures cause { (before : ℕ) → before < 2 ^ 63 → HasCause before (O.faults out.old) printed → (result ≡ 5) ↔ (before < O.faults out.new) }
+    ensures sent { (before : ℕ) → HasCause before (O.faults out.old) printed → IsSent (O.waits out.new) before (O.faults out.new) }
+    ensures err_sent { E.waits err.old ≡ 0 → IsSent (E.waits err.new) (E.faults err.old) (E.faults err.new) }
     ensures done { result ≡ 0 → (E.written err.new ≡ E.written err.old) × (E.faults err.new ≡ E.faults err.old) }
     ensures err { (text : List ℕ) × IsPrintMessage result text × Says text (E.written err.old) (E.written err.new) (E.faults err.old) (E.faults err.new) }
 {

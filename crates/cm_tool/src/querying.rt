@@ -1,6 +1,7 @@
 //! Queries.
-ghost use Rattle.std.specs.Prelude.{◌≡◌, ◌≢◌, ◌<◌, ◌≤◌, ◌^◌, ◌⊎◌, ◌↔◌, ◌+◌, ◌++◌, ℕ, List, Ok, Err, None};
+ghost use Rattle.std.specs.Prelude.{◌≡◌, ◌≢◌, ◌<◌, ◌≤◌, ◌^◌, ◌⊎◌, ◌↔◌, ◌+◌, ◌++◌, ℕ, List, Ok, Err, None, false};
 ghost use Rattle.std.specs.Option.{ForSome};
+ghost use Rattle.cm_outer.specs.Causes.{IsSent};
 ghost use Rattle.cm_outer.specs.Noting.{Noted};
 ghost use Rattle.cm_tool.specs.Asked.{EndsQuery, HasQueryStopCause};
 ghost use Rattle.cm_tool.specs.Ends.{Says};
@@ -9,7 +10,7 @@ ghost use Rattle.cm_tool.specs.Run.{IsCutShort, IsQueryMessage, IsStatus, Reache
 ghost use Rattle.cm_tool.specs.declared.stop.QueryStop.{QueryStop};
 ghost use Rattle.cm_words.specs.declared.jobs.Job.TheVariants.{Query};
 
-use crate::asking::{ask_keys, send_on};
+use crate::asking::ask_keys;
 use crate::loading::load_file;
 use crate::report::report_query;
 use crate::stop::QueryStop;
@@ -30,6 +31,8 @@ fn answer_file<D: Disk, O: Sink, E: Sink>(
     ensures files { D.files disk.new ≡ D.files disk.old }
     ensures cause { HasQueryStopCause (D.read_faults disk.old) (D.read_faults disk.new) (D.write_faults disk.old) (D.write_faults disk.new) (O.faults out.old) (O.faults out.new) result }
     ensures memory { result ≡ Err QueryStop.Memory → O.written out.new ≡ O.written out.old }
+    ensures sent { O.waits out.old ≡ 0 → IsSent (O.waits out.new) (O.faults out.old) (O.faults out.new) }
+    ensures notes_sent { (notes.old ≡ false → E.waits err.old ≡ 0) → notes.new ≡ false → E.waits err.new ≡ 0 }
     ensures says { (text : List ℕ) × Noted notes.old notes.new (E.written err.old) (E.written err.new) (E.faults err.old) (E.faults err.new) text }
     ensures told { ForSome (D.files disk.old) (λ files. (text : List ℕ) × Noted notes.old notes.new (E.written err.old) (E.written err.new) (E.faults err.old) (E.faults err.new) text
         × EndsQuery files job.now (O.written out.old) (O.written out.new) text result) }
@@ -38,8 +41,7 @@ fn answer_file<D: Disk, O: Sink, E: Sink>(
         Ok(function) => function,
         Err(stop) => return Err(stop),
     };
-    let asked = ask_keys(alloc, &function, job, disk, out, err, notes);
-    send_on(out, asked)
+    ask_keys(alloc, &function, job, disk, out, err, notes)
 }
 
 /// Does a query, and answers its status.
@@ -60,6 +62,8 @@ pub(crate) fn run_query<D: Disk, O: Sink, E: Sink>(
         Reaches (job_outcome files (Ok (Query job.now))) result (O.written out.old) (O.written out.new) (E.written err.old) (E.written err.new) (E.faults err.old) (E.faults err.new) (D.files disk.new)) }
     ensures missing { ForSome (D.files disk.old) (λ files. job_outcome files (Ok (Query job.now)) ≡ None → (result ≡ 4) ⊎ (result ≡ 6)) }
     ensures memory { result ≡ 6 → O.written out.new ≡ O.written out.old }
+    ensures sent { O.waits out.old ≡ 0 → IsSent (O.waits out.new) (O.faults out.old) (O.faults out.new) }
+    ensures err_sent { E.waits err.old ≡ 0 → IsSent (E.waits err.new) (E.faults err.old) (E.faults err.new) }
     ensures cut { (result ≡ 4) ⊎ (result ≡ 5) ⊎ (result ≡ 6) → ForSome (D.files disk.old) (λ files.
         IsCutShort files result (O.written out.old) (O.written out.new) (E.written err.old) (E.written err.new) (E.faults err.old) (E.faults err.new) job.now) }
     ensures err { (notes : List ℕ) × (text : List ℕ) × IsQueryMessage job.now result text × Says (notes ++ text) (E.written err.old) (E.written err.new) (E.faults err.old) (E.faults err.new) }

@@ -1,5 +1,6 @@
 //! What is said on err.
-ghost use Rattle.std.specs.Prelude.{◌≡◌, List, [], ◌∷◌, ℕ, codes, map, Result};
+ghost use Rattle.std.specs.Prelude.{◌≡◌, List, [], ◌∷◌, ℕ, codes, false, map, Result};
+ghost use Rattle.cm_outer.specs.Causes.{IsSent};
 ghost use Rattle.cm_outer.specs.Noting.{Noted};
 ghost use Rattle.cm_outer.specs.Writing.{joined};
 ghost use Rattle.cm_tool.specs.Ends.{Says, status_of, message_of, query_status_of, query_message_of, usage_status_of};
@@ -15,6 +16,7 @@ use itoa::Buffer;
 /// Says one message. Where err fails, it gets a front of it.
 pub(crate) fn say<E: Sink>(err: &mut E, pieces: &[&[u8]])
     ensures says { Says (joined (map (λ piece. piece.now) pieces.now)) (E.written err.old) (E.written err.new) (E.faults err.old) (E.faults err.new) }
+    ensures sent { IsSent (E.waits err.new) (E.faults err.old) (E.faults err.new) }
 {
     let mut notes = Notes::new();
     notes.note_pieces(err, pieces);
@@ -24,6 +26,7 @@ pub(crate) fn say<E: Sink>(err: &mut E, pieces: &[&[u8]])
 pub(crate) fn report_usage<E: Sink>(fault: UsageFault, err: &mut E) -> u8
     ensures status { result ≡ usage_status_of fault }
     ensures says { Says (usage_message fault) (E.written err.old) (E.written err.new) (E.faults err.old) (E.faults err.new) }
+    ensures sent { IsSent (E.waits err.new) (E.faults err.old) (E.faults err.new) }
 {
     explain_usage(fault, err);
     usage_status(fault)
@@ -33,6 +36,7 @@ pub(crate) fn report_usage<E: Sink>(fault: UsageFault, err: &mut E) -> u8
 pub fn report_no_memory<E: Sink>(err: &mut E) -> u8
     ensures status { result ≡ 6 }
     ensures says { Says out_of_memory (E.written err.old) (E.written err.new) (E.faults err.old) (E.faults err.new) }
+    ensures sent { IsSent (E.waits err.new) (E.faults err.old) (E.faults err.new) }
 {
     report_usage(UsageFault::Memory, err)
 }
@@ -40,6 +44,7 @@ pub fn report_no_memory<E: Sink>(err: &mut E) -> u8
 /// Says why words ask for no job.
 fn explain_usage<E: Sink>(fault: UsageFault, err: &mut E)
     ensures says { Says (usage_message fault) (E.written err.old) (E.written err.new) (E.faults err.old) (E.faults err.new) }
+    ensures sent { IsSent (E.waits err.new) (E.faults err.old) (E.faults err.new) }
 {
     match fault {
         UsageFault::Memory => say(err, &[b"cmph: out of memory\n"]),
@@ -62,6 +67,7 @@ fn usage_status(fault: UsageFault) -> u8
 /// Says what function was built, where that is asked for.
 pub(crate) fn say_built<E: Sink>(job: &BuildJob, summary: Summary, err: &mut E)
     ensures says { Says (built_message job.now summary) (E.written err.old) (E.written err.new) (E.faults err.old) (E.faults err.new) }
+    ensures sent { E.waits err.old ≡ 0 → IsSent (E.waits err.new) (E.faults err.old) (E.faults err.new) }
 {
     if job.verbose {
         let mut keys = Buffer::new();
@@ -88,6 +94,7 @@ pub(crate) fn say_built<E: Sink>(job: &BuildJob, summary: Summary, err: &mut E)
 pub(crate) fn report<E: Sink>(job: &BuildJob, stop: Stop, err: &mut E) -> u8
     ensures status { result ≡ status_of stop }
     ensures says { Says (message_of job.now stop) (E.written err.old) (E.written err.new) (E.faults err.old) (E.faults err.new) }
+    ensures sent { IsSent (E.waits err.new) (E.faults err.old) (E.faults err.new) }
 {
     let mut notes = Notes::new();
     explain(job, stop, err, &mut notes);
@@ -97,6 +104,7 @@ pub(crate) fn report<E: Sink>(job: &BuildJob, stop: Stop, err: &mut E) -> u8
 /// Notes why a build stopped.
 fn explain<E: Sink>(job: &BuildJob, stop: Stop, err: &mut E, notes: &mut Notes)
     ensures noted { Noted notes.old notes.new (E.written err.old) (E.written err.new) (E.faults err.old) (E.faults err.new) (message_of job.now stop) }
+    ensures sent { notes.new ≡ false → E.waits err.new ≡ 0 }
 {
     let keys = job.keys.as_str().as_bytes();
     match stop {
@@ -139,6 +147,7 @@ pub(crate) fn report_query<E: Sink>(
 ) -> u8
     ensures status { result ≡ query_status_of stop }
     ensures noted { Noted notes.old notes.new (E.written err.old) (E.written err.new) (E.faults err.old) (E.faults err.new) (query_message_of job.now stop) }
+    ensures sent { notes.new ≡ false → E.waits err.new ≡ 0 }
 {
     explain_query(job, stop, err, notes);
     query_status(stop)
@@ -147,6 +156,7 @@ pub(crate) fn report_query<E: Sink>(
 /// Notes why a query stopped.
 fn explain_query<E: Sink>(job: &QueryJob, stop: QueryStop, err: &mut E, notes: &mut Notes)
     ensures noted { Noted notes.old notes.new (E.written err.old) (E.written err.new) (E.faults err.old) (E.faults err.new) (query_message_of job.now stop) }
+    ensures sent { notes.new ≡ false → E.waits err.new ≡ 0 }
 {
     let keys = job.keys.as_str().as_bytes();
     let function = job.function.as_str().as_bytes();
@@ -177,6 +187,7 @@ fn query_status(stop: QueryStop) -> u8
 /// Notes want of memory.
 fn note_want_of_memory<E: Sink>(err: &mut E, notes: &mut Notes)
     ensures noted { Noted notes.old notes.new (E.written err.old) (E.written err.new) (E.faults err.old) (E.faults err.new) out_of_memory }
+    ensures sent { notes.new ≡ false → E.waits err.new ≡ 0 }
 {
     notes.note_pieces(err, &[b"cmph: out of memory\n"]);
 }
@@ -184,6 +195,7 @@ fn note_want_of_memory<E: Sink>(err: &mut E, notes: &mut Notes)
 /// Notes that a file can't be opened, read or rewound.
 fn note_unread<E: Sink>(file: &[u8], err: &mut E, notes: &mut Notes)
     ensures noted { Noted notes.old notes.new (E.written err.old) (E.written err.new) (E.faults err.old) (E.faults err.new) (cannot_read file.now) }
+    ensures sent { notes.new ≡ false → E.waits err.new ≡ 0 }
 {
     notes.note_pieces(err, &[b"cmph: ", file, b": cannot read\n"]);
 }
@@ -191,6 +203,7 @@ fn note_unread<E: Sink>(file: &[u8], err: &mut E, notes: &mut Notes)
 /// Notes that the keys changed.
 fn note_change<E: Sink>(file: &[u8], first: u32, again: u32, err: &mut E, notes: &mut Notes)
     ensures noted { Noted notes.old notes.new (E.written err.old) (E.written err.new) (E.faults err.old) (E.faults err.new) (keys_changed file.now first again) }
+    ensures sent { notes.new ≡ false → E.waits err.new ≡ 0 }
 {
     let mut first_buffer = Buffer::new();
     let first_text = first_buffer.format(first).as_bytes();
@@ -213,6 +226,7 @@ fn note_change<E: Sink>(file: &[u8], first: u32, again: u32, err: &mut E, notes:
 /// Notes that a line is too long.
 fn note_long_line<E: Sink>(file: &[u8], line: u32, err: &mut E, notes: &mut Notes)
     ensures noted { Noted notes.old notes.new (E.written err.old) (E.written err.new) (E.faults err.old) (E.faults err.new) (line_too_long file.now line) }
+    ensures sent { notes.new ≡ false → E.waits err.new ≡ 0 }
 {
     let mut buffer = Buffer::new();
     let text = buffer.format(line).as_bytes();
@@ -222,6 +236,7 @@ fn note_long_line<E: Sink>(file: &[u8], line: u32, err: &mut E, notes: &mut Note
 /// Notes that there are too many keys.
 fn note_many_keys<E: Sink>(file: &[u8], err: &mut E, notes: &mut Notes)
     ensures noted { Noted notes.old notes.new (E.written err.old) (E.written err.new) (E.faults err.old) (E.faults err.new) (too_many_keys file.now) }
+    ensures sent { notes.new ≡ false → E.waits err.new ≡ 0 }
 {
     notes.note_pieces(err, &[b"cmph: ", file, b": more than 16777216 keys\n"]);
 }
@@ -229,6 +244,7 @@ fn note_many_keys<E: Sink>(file: &[u8], err: &mut E, notes: &mut Notes)
 /// Notes why the function file is no dump.
 fn explain_dump<E: Sink>(file: &[u8], fault: LoadFault, err: &mut E, notes: &mut Notes)
     ensures noted { Noted notes.old notes.new (E.written err.old) (E.written err.new) (E.faults err.old) (E.faults err.new) (bad_dump file.now fault) }
+    ensures sent { notes.new ≡ false → E.waits err.new ≡ 0 }
 {
     let words = words_of(fault);
     match place_of(fault) {
@@ -245,6 +261,7 @@ fn explain_dump<E: Sink>(file: &[u8], fault: LoadFault, err: &mut E, notes: &mut
 fn note_dump<E: Sink>(file: &[u8], words: &[u8], place: &[u8], err: &mut E, notes: &mut Notes)
     ensures noted { Noted notes.old notes.new (E.written err.old) (E.written err.new) (E.faults err.old) (E.faults err.new)
         (joined (codes "cmph: " ∷ file.now ∷ codes ": bad dump: " ∷ words.now ∷ place.now ∷ codes "\n" ∷ [])) }
+    ensures sent { notes.new ≡ false → E.waits err.new ≡ 0 }
 {
     notes.note_pieces(
         err,

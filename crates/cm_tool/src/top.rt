@@ -1,6 +1,7 @@
 //! The top call.
 ghost use Rattle.std.specs.Prelude.{[], ◌≡◌, ◌≢◌, ◌<◌, ◌^◌, ◌⊎◌, ◌↔◌, ◌++◌, ℕ, List, None, map, string_bytes, take};
 ghost use Rattle.std.specs.Option.{ForSome};
+ghost use Rattle.cm_outer.specs.Causes.{IsSent};
 ghost use Rattle.cm_outer.specs.Files.{with_file};
 ghost use Rattle.cm_outer.specs.Writing.{then_bytes};
 ghost use Rattle.cm_tool.specs.Ends.{Says};
@@ -69,6 +70,10 @@ pub fn run<D: Disk, O: Sink, E: Sink>(
     // A query that a fault or want of memory cut short has answered the first keys, and noted what there is to note of them.
     ensures cut { (result ≡ 4) ⊎ (result ≡ 5) ⊎ (result ≡ 6) → ForSome (D.files disk.old) (λ files. ForQuery (job_of (map string_bytes words.now))
         (IsCutShort files result (O.written out.old) (O.written out.new) (E.written err.old) (E.written err.new) (E.faults err.old) (E.faults err.new))) }
+
+    // On every way out all that was written to out and err has been sent on, or their count rose.
+    ensures sent { O.waits out.old ≡ 0 → IsSent (O.waits out.new) (O.faults out.old) (O.faults out.new) }
+    ensures err_sent { E.waits err.old ≡ 0 → IsSent (E.waits err.new) (E.faults err.old) (E.faults err.new) }
 
     // Err gets a query's notes and the message of the status, or a front of them where err itself fails.
     ensures err { (notes : List ℕ) × (text : List ℕ) × UnlessQuery (job_of (map string_bytes words.now)) (notes ≡ []) × IsMessage (job_of (map string_bytes words.now)) result text

@@ -1,15 +1,16 @@
-use Rattle.std.proofs.Common.{[], ◌≡◌, ◌∙◌, ℕ, ◌+◌, ◌-◌, ◌<◌, ◌≤◌, List, ◌++◌, length, take, drop, get_or, replicate, Option, None, refl, ap, sym, subst, arith, rules}
+use Rattle.std.proofs.Common.{[], ◌≡◌, ◌∙◌, ℕ, ◌+◌, ◌-◌, ◌<◌, ◌≤◌, List, ◌++◌, length, take, drop, get_or, replicate, Option, None, inr, refl, ap, sym, subst, arith, rules}
 use Rattle.std.proofs.lemmas.List.{length-map, length-replicate}
 use Rattle.std.specs.Prelude.{IfSome}
 use Rattle.cm_bits.specs.Held.{packed_cells}
 use Rattle.cm_outer.specs.WritingLaws.{then_twice}
 use Rattle.cm_outer.specs.Noting.{Noted}
 use Rattle.cm_outer.specs.Writing.{then_bytes}
-use Rattle.cm_query.proofs.BatchLemmas.{ahead_of, first_of, none_waits, same_line}
+use Rattle.cm_query.proofs.BatchLemmas.{ahead_of, first_of, none_waits, same_line, sent_next}
 use Rattle.cm_query.proofs.MarkLemmas.{length-marked}
-use Rattle.cm_query.proofs.NotedLemmas.{noted_more}
+use Rattle.cm_outer.specs.NotingLaws.{noted_more}
 use Rattle.cm_query.proofs.ProgressLemmas.{SoFar, next_within, so_far_all, so_far_next, so_far_none, text_at_write}
-use Rattle.cm_query.specs.QueryLaws.{noted_nothing, then_nothing}
+use Rattle.cm_outer.specs.NotingLaws.{noted_nothing}
+use Rattle.cm_outer.specs.WritingLaws.{then_nothing}
 use Rattle.cm_query.specs.Texts.{line_of, notes_of}
 use Rattle.cm_query.specs.Waiting.{WaitingKeys}
 use Rattle.cm_query.proofs.answering.query.Goals as goal
@@ -28,6 +29,8 @@ keys-init g c =
       few = omega (arith, c.requires.start);
       counts = omega arith;
       size = ap length zeros ∙ length-replicate {A = ℕ} span 0;
+      sent = λ none. inr (inr none);
+      notes_sent = λ none. none;
       text = ([], then_nothing _);
       says = ([], noted_nothing _ _ _);
       answered = none_waits _ _ _ batch.none batch.answers;
@@ -123,6 +126,8 @@ keys-preserved g c =
       few = n.few;
       counts = c.count.ensures.within;
       size = ap length c.mark-repeated.ensures.marked ∙ length-marked old a ∙ inv.size;
+      sent = λ none. sent_next _ _ _ _ _ one_less c.in-Ok-write_line.ensures.sent c.reads_next-sends.ensures.waits;
+      notes_sent = λ none. c.note_key.ensures.sent (inv.notes_sent none);
       text = (
         inv.text.0 ++ line_of 10 key a,
         c.in-Ok-write_line.ensures.line ∙ ap (λ (o : Option (List ℕ)). then_bytes o (line_of 10 key a)) inv.text.1 ∙ then_twice (g.O.Sink.written c.args.out.now) inv.text.0 (line_of 10 key a),

@@ -1,4 +1,4 @@
-use Rattle.std.proofs.Common.{◌≡◌, ◌+◌, ◌-◌, ◌≤◌, ◌++◌, ℕ, List, length, take, drop, true}
+use Rattle.std.proofs.Common.{◌≡◌, ◌⊎◌, ◌<◌, ◌+◌, ◌-◌, ◌≤◌, ◌++◌, ℕ, List, length, take, drop, true, false}
 use Rattle.std.specs.Option.{ForSome}
 use Rattle.cm_bits.specs.Held.{packed_cells}
 use Rattle.cm_outer.specs.Noting.{Noted}
@@ -22,6 +22,8 @@ invariant-keys g l =
       few : P.place l.keys ≤ 16777216;
       counts : l.tally.repeated + l.tally.unknown ≤ l.tally.lines;
       size : length (packed_cells 2 8 l.marks.n l.marks.bytes.items) ≡ A.span_of l.function;
+      sent : O.waits l.fn.out ≡ 0 → (0 < length l.batch.keys) ⊎ (((key : List ℕ) × P.stands l.keys key) ⊎ (O.waits l.out ≡ 0));
+      notes_sent : (l.fn.notes ≡ false → E.waits l.fn.err ≡ 0) → l.notes ≡ false → E.waits l.err ≡ 0;
       text : (text : List ℕ) × (O.written l.out ≡ then_bytes (O.written l.fn.out) text);
       says : (text : List ℕ) × Noted l.fn.notes l.notes (E.written l.fn.err) (E.written l.err) (E.faults l.fn.err) (E.faults l.err) text;
       answered : AreAnswers (A.answer_of l.function) (A.span_of l.function) l.batch;

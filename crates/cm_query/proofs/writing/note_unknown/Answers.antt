@@ -2,7 +2,7 @@ use Rattle.std.proofs.Common.{rules, ◌≡◌}
 use Rattle.std.specs.Prelude.{decimal}
 use Rattle.cm_query.proofs.writing.note_unknown.Goals as goal
 
-pub returns : goal.returns
-returns g c =
+pub returns-clause-noted : goal.returns-clause-noted
+returns-clause-noted g c =
     let digits : c.as_bytes-line_digits.result.now ≡ decimal c.args.line = search rules in
-    record { noted = rw digits at c.note_pieces.ensures.noted }
+    rw digits at c.note_pieces.ensures.noted

@@ -1,7 +1,5 @@
-use Rattle.cm_tool.proofs.Words.{sent_on}
+use Rattle.cm_outer.specs.WritingLaws.{writes_nothing}
 use Rattle.cm_tool.proofs.printing.send_text.Goals as goal
 
 pub returns-in-Ok-clause-text : goal.returns-in-Ok-clause-text
-returns-in-Ok-clause-text g c = λ text old wrote.
-    let mid = rw c.in-Ok.is at wrote in
-    sent_on c.write.result old (g.O.Sink.written c.args.out.now) (g.O.Sink.written c.write.new.self) text mid c.write.ensures.bytes
+returns-in-Ok-clause-text g c = λ text old wrote. writes_nothing old _ _ text c.write.result (rw c.in-Ok.is at wrote) c.write.ensures.bytes

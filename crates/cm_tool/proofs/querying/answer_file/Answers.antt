@@ -1,5 +1,5 @@
 use Rattle.std.proofs.Common.{[], ◌≡◌, ◌∙◌}
-use Rattle.cm_query.specs.QueryLaws.{noted_nothing}
+use Rattle.cm_outer.specs.NotingLaws.{noted_nothing}
 use Rattle.cm_tool.proofs.Asks.{with_function, without_function}
 use Rattle.cm_tool.proofs.querying.answer_file.Goals as goal
 
@@ -16,12 +16,11 @@ returns-in-Err-clause-told g c = λ files is.
 
 pub returns-clause-cause : goal.returns-clause-cause
 returns-clause-cause g c =
-    let loaded = c.in-Ok.ensures.cause 0 in
-    c.send_on.ensures.cause _ _ _ _ _ (rw (loaded.0, loaded.1) at c.ask_keys-asked.ensures.cause)
+    let loaded = c.in-Ok.ensures.cause 0 in rw (loaded.0, loaded.1) at c.ask_keys.ensures.cause
 
 pub returns-clause-told : goal.returns-clause-told
 returns-clause-told g c = λ files is.
-    let told = c.ask_keys-asked.ensures.told files (c.load_file.ensures.files ∙ is) in
+    let told = c.ask_keys.ensures.told files (c.load_file.ensures.files ∙ is) in
     let path : c.as_str.result.now ≡ c.args.job.now.function = c.as_str.ensures.bytes in
     let spells = rw path at (c.in-Ok.ensures.spelled files is) in
-    (told.0, told.1, with_function c.in-Ok.function files c.args.job.now _ _ told.0 c.send_on.result spells (c.send_on.ensures.ends _ files _ _ told.0 told.2))
+    (told.0, told.1, with_function c.in-Ok.function files c.args.job.now _ _ told.0 c.ask_keys.result spells told.2)
