@@ -1,14 +1,19 @@
 //! Real files. Nothing here tells contents; where a file does, what is read of it is what comes next there. A call that was
 //! interrupted is made again.
-ghost use Rattle.std.specs.Prelude.{◌≡◌, ◌<◌, ◌≤◌, None, IfOk, IfSome, length, take};
+ghost use Rattle.std.specs.Prelude.{◌≡◌, ◌<◌, ◌≤◌, [], None, Some, Err, IfOk, IfSome, length, take, nat_lt, string_bytes};
 ghost use Rattle.std.specs.Io.KnownBytes.{Consumes, IsAtEnd};
 ghost use Rattle.std.specs.Io.Seek.{MovesTo};
-ghost use Rattle.cm_outer.specs.Causes.{HasCause};
+ghost use Rattle.std.specs.Option.{ForSome};
+ghost use Rattle.cm_outer.specs.Causes.{HasCause, HasDiskCause, Collects};
+ghost use Rattle.cm_outer.specs.Counts.{counted, counted_if};
+ghost use Rattle.cm_real.specs.Spills.{spill_path_of};
 
-use crate::StdSink;
-use cm_outer::{Disk, DiskFault, Failed, Sink, Source};
+use crate::{FileSpill, StdSink};
+use cm_outer::{Disk, DiskFault, Failed, Sink, Source, Spill};
+use std::alloc::{AllocError, Global};
 use std::fs::OpenFile;
-use std::io::{ErrorKind, Read, Seek, SeekFrom, Write};
+use std::io::{ErrorKind, Read, Seek, SeekFrom};
+use std::path::Path;
 use std::rt::Files;
 use std::{fs, io};
 
@@ -20,7 +25,7 @@ pub struct FileReader<F> {
 }
 
 /// Reads, and answers how many bytes came: none only at the end, or where there is no room.
-fn read_some<F: Read>(file: &mut F, buf: &mut [u8]) -> Option<usize>
+pub(crate) fn read_some<F: Read>(file: &mut F, buf: &mut [u8]) -> Option<usize>
     ensures bound { IfSome result (λ n. n ≤ length buf.old) }
     ensures bytes { IfSome result (λ n. Consumes (F.remaining file.old) (F.remaining file.new) (take n buf.new)) }
     ensures end { IfSome result (λ n. n ≡ 0 → 0 < length buf.old → IsAtEnd (F.remaining file.new)) }
@@ -104,23 +109,36 @@ fn is_synced<F: OpenFile>(file: &F) -> bool {
     false
 }
 
-/// The files of the system.
+/// The path of the spill in a directory, for the process with this number.
+fn spill_path(alloc: Global, dir: &str, number: u32) -> Result<String, AllocError>
+    ensures path { IfOk result (λ path. string_bytes path ≡ spill_path_of dir.now number) }
+{
+    let name = format!(in alloc; "cmph-{number}.spill")?;
+    Ok(Path::new(dir).join(alloc, name)?.into_string())
+}
+
+/// The files of the system. A spill is the file `cmph-N.spill` in its directory, where N is the number of the process.
 #[derive(Drop)]
 pub struct FileDisk<'a, R> {
     rt: &'a R,
+    alloc: Global,
+    number: u32,
     read_faults: u64,
     write_faults: u64,
 }
 
 impl<'a, R: Files> FileDisk<'a, R> {
-    /// No call has failed yet.
-    pub fn new(rt: &'a R) -> FileDisk<'a, R>
+    /// A disk for the process with this number, of which no call has failed yet.
+    pub fn new(rt: &'a R, alloc: Global, number: u32) -> FileDisk<'a, R>
         ensures files { ⟦<FileDisk<'a, R> as Disk>⟧.files result ≡ None }
+        ensures spilled { ⟦<FileDisk<'a, R> as Disk>⟧.spilled result ≡ None }
         ensures read_faults { ⟦<FileDisk<'a, R> as Disk>⟧.read_faults result ≡ 0 }
         ensures write_faults { ⟦<FileDisk<'a, R> as Disk>⟧.write_faults result ≡ 0 }
     {
         FileDisk {
             rt,
+            alloc,
+            number,
             read_faults: 0,
             write_faults: 0,
         }
@@ -132,7 +150,11 @@ impl<'a, R: Files> Disk for FileDisk<'a, R> {
 
     type Writer = StdSink<R::File>;
 
+    type Spill = FileSpill<R::File>;
+
     ghost files = { λ _. None };
+
+    ghost spilled = { λ _. None };
 
     ghost read_faults = { λ d. d.read_faults };
 
@@ -176,6 +198,44 @@ impl<'a, R: Files> Disk for FileDisk<'a, R> {
         } else {
             self.write_faults = self.write_faults.saturating_add(1);
             Err(Failed)
+        }
+    }
+
+    fn spill(&mut self, dir: &str) -> Result<FileSpill<R::File>, DiskFault>
+        ensures read_faults { self.new.read_faults ≡ self.old.read_faults }
+        ensures cause { HasDiskCause self.old.write_faults self.new.write_faults result }
+        ensures fresh { IfOk result (λ spill. spill.faults ≡ 0) }
+        ensures empty { IfOk result (λ spill. ForSome (⟦<FileSpill<R::File> as Spill>⟧.told spill) (λ bytes. bytes ≡ [])) }
+        ensures told { IfOk result (λ spill. ForSome (⟦<FileDisk<'a, R> as Disk>⟧.files self.old) (λ _. ⟦<FileSpill<R::File> as Spill>⟧.told spill ≡ Some [])) }
+
+        // A failure counts once.
+        ensures count { (result ≡ Err DiskFault.Failed) → self.new.write_faults ≡ counted self.old.write_faults }
+    {
+        let path = spill_path(self.alloc, dir, self.number)?;
+        // What an earlier process with this number left is removed.
+        let _ = fs::remove_file(self.rt, path.as_str());
+        let mut options = fs::OpenOptions::new();
+        let _ = options.read(true).write(true).create_new(true);
+        match open_with(self.rt, &options, path.as_str()) {
+            Ok(file) => Ok(FileSpill::new(file, path)),
+            Err(_) => {
+                self.write_faults = self.write_faults.saturating_add(1);
+                Err(DiskFault::Failed)
+            }
+        }
+    }
+
+    fn give_back(&mut self, spill: FileSpill<R::File>)
+        ensures read_faults { self.new.read_faults ≡ self.old.read_faults }
+        ensures cause { Collects spill.faults self.old.write_faults self.new.write_faults }
+
+        // A spill that has failed counts once, and nothing else does.
+        ensures count { self.new.write_faults ≡ counted_if (nat_lt 0 spill.faults) self.old.write_faults }
+    {
+        let (path, faults) = spill.close();
+        let _ = fs::remove_file(self.rt, path.as_str());
+        if faults > 0 {
+            self.write_faults = self.write_faults.saturating_add(1);
         }
     }
 }

@@ -2,9 +2,11 @@
 #![tactic(auto)]
 
 mod file_disk;
+mod file_spill;
 mod std_sink;
 #[cfg(test)]
 mod tests;
 
 pub use file_disk::{FileDisk, FileReader};
-pub use std_sink::StdSink;
+pub use file_spill::FileSpill;
+pub use std_sink::{StdSink, room};

@@ -1,20 +1,28 @@
 //! What is written to one of std's writers. It doesn't tell what it holds; where the writer does, each piece that is taken is there
 //! in order.
-ghost use Rattle.std.specs.Prelude.{◌≡◌, [], None, true, OnOk};
+ghost use Rattle.std.specs.Prelude.{◌≡◌, ◌≢◌, ◌≤◌, ◌+◌, ◌++◌, [], None, true, length, IsOk, OnOk};
 ghost use Rattle.std.specs.Io.KnownBytes.{Appends, append_known};
 ghost use Rattle.cm_outer.specs.Causes.{HasCause};
 ghost use Rattle.cm_outer.specs.Writing.{Writes};
+ghost use Rattle.cm_real.specs.declared.std_sink.TheConstants.{ROOM};
 
 use arrayvec::ArrayVec;
 use cm_outer::{Failed, Sink};
 use std::io::Write;
 
-/// A writer behind a buffer. An empty piece sends on what waits there; by lines, so does a piece that ends one.
+/// How many bytes wait in a sink at most.
+const ROOM: usize = 16_384;
+
+/// At most 16,384 bytes wait in a sink.
+pub fn room()
+    ensures { ROOM ≡ 16384 }
+{}
+
+/// A writer behind a buffer. An empty piece sends on what waits there.
 #[derive(Drop)]
 pub struct StdSink<W> {
     writer: W,
-    waiting: ArrayVec<u8, 16384>,
-    by_lines: bool,
+    waiting: ArrayVec<u8, ROOM>,
     faults: u64,
 }
 
@@ -22,25 +30,12 @@ impl<W: Write> StdSink<W> {
     /// A sink that keeps bytes back until its buffer is full.
     pub fn new(writer: W) -> StdSink<W>
         ensures written { ⟦<StdSink<W> as Sink>⟧.written result ≡ None }
+        ensures waits { ⟦<StdSink<W> as Sink>⟧.waits result ≡ 0 }
         ensures faults { ⟦<StdSink<W> as Sink>⟧.faults result ≡ 0 }
     {
         StdSink {
             writer,
             waiting: ArrayVec::new(),
-            by_lines: false,
-            faults: 0,
-        }
-    }
-
-    /// A sink that sends each line on.
-    pub fn by_lines(writer: W) -> StdSink<W>
-        ensures written { ⟦<StdSink<W> as Sink>⟧.written result ≡ None }
-        ensures faults { ⟦<StdSink<W> as Sink>⟧.faults result ≡ 0 }
-    {
-        StdSink {
-            writer,
-            waiting: ArrayVec::new(),
-            by_lines: true,
             faults: 0,
         }
     }
@@ -59,7 +54,6 @@ impl<W: Write> StdSink<W> {
         let StdSink {
             writer,
             waiting: _,
-            by_lines: _,
             faults,
         } = self;
         (writer, faults)
@@ -68,7 +62,6 @@ impl<W: Write> StdSink<W> {
     /// Sends on what waits.
     fn send_on(&mut self) -> bool
         ensures faults { self.new.faults ≡ self.old.faults }
-        ensures lines { self.new.by_lines ≡ self.old.by_lines }
         ensures sent { result ≡ true → self.new.waiting.items ≡ [] }
         ensures taken { result ≡ true → Appends (append_known (W.contents self.old.writer) self.old.waiting.items) (append_known (W.contents self.new.writer) self.new.waiting.items) [] }
     {
@@ -82,8 +75,10 @@ impl<W: Write> StdSink<W> {
     /// Lets a piece wait, where it fits the buffer once what waits there was sent on; a larger one is sent on itself.
     fn take(&mut self, piece: &[u8]) -> bool
         ensures faults { self.new.faults ≡ self.old.faults }
-        ensures lines { self.new.by_lines ≡ self.old.by_lines }
         ensures taken { result ≡ true → Appends (append_known (W.contents self.old.writer) self.old.waiting.items) (append_known (W.contents self.new.writer) self.new.waiting.items) piece.now }
+        ensures fits { length self.old.waiting.items + length piece.now ≤ ROOM → result ≡ true }
+        ensures waits { length self.old.waiting.items + length piece.now ≤ ROOM → self.new.waiting.items ≡ self.old.waiting.items ++ piece.now }
+        ensures writer { length self.old.waiting.items + length piece.now ≤ ROOM → self.new.writer ≡ self.old.writer }
     {
         if self.waiting.try_extend_from_slice(piece).is_ok() {
             return true;
@@ -93,18 +88,19 @@ impl<W: Write> StdSink<W> {
                 || self.writer.write_all(piece).is_ok())
     }
 
-    /// Takes a piece. At a piece that ends a line where that is asked for, and at an empty one, nothing goes on waiting.
+    /// Takes a piece. After an empty one nothing waits; another one that fits is not sent on.
     fn pass_on(&mut self, piece: &[u8]) -> bool
         ensures faults { self.new.faults ≡ self.old.faults }
-        ensures lines { self.new.by_lines ≡ self.old.by_lines }
         ensures sent { result ≡ true → piece.now ≡ [] → self.new.waiting.items ≡ [] }
         ensures taken { result ≡ true → Appends (append_known (W.contents self.old.writer) self.old.waiting.items) (append_known (W.contents self.new.writer) self.new.waiting.items) piece.now }
+        ensures fits { piece.now ≢ [] → length self.old.waiting.items + length piece.now ≤ ROOM → result ≡ true }
+        ensures waits { piece.now ≢ [] → length self.old.waiting.items + length piece.now ≤ ROOM → self.new.waiting.items ≡ self.old.waiting.items ++ piece.now }
+        ensures writer { piece.now ≢ [] → length self.old.waiting.items + length piece.now ≤ ROOM → self.new.writer ≡ self.old.writer }
     {
-        let ends_line = self.by_lines && piece.last() == Some(&b'\n');
         if !self.take(piece) {
             return false;
         }
-        if piece.is_empty() || ends_line {
+        if piece.is_empty() {
             return self.send_on() && self.writer.flush().is_ok();
         }
         true
@@ -114,14 +110,20 @@ impl<W: Write> StdSink<W> {
 impl<W: Write> Sink for StdSink<W> {
     ghost written = { λ _. None };
 
+    ghost waits = { λ s. length s.waiting.items };
+
     ghost faults = { λ s. s.faults };
 
     fn write(&mut self, piece: &[u8]) -> Result<(), Failed>
         ensures bytes { Writes None None piece.now result }
         ensures cause { HasCause self.old.faults self.new.faults result }
-        ensures lines { self.new.by_lines ≡ self.old.by_lines }
-        ensures sent { OnOk result (piece.now ≡ [] → self.new.waiting.items ≡ []) }
+        ensures sent { OnOk result (piece.now ≡ [] → length self.new.waiting.items ≡ 0) }
         ensures taken { OnOk result (Appends (append_known (W.contents self.old.writer) self.old.waiting.items) (append_known (W.contents self.new.writer) self.new.waiting.items) piece.now) }
+
+        // A piece that fits waits, and nothing is sent on.
+        ensures fits { piece.now ≢ [] → length self.old.waiting.items + length piece.now ≤ ROOM → IsOk result }
+        ensures waits { piece.now ≢ [] → length self.old.waiting.items + length piece.now ≤ ROOM → self.new.waiting.items ≡ self.old.waiting.items ++ piece.now }
+        ensures writer { piece.now ≢ [] → length self.old.waiting.items + length piece.now ≤ ROOM → self.new.writer ≡ self.old.writer }
     {
         if self.pass_on(piece) {
             Ok(())

@@ -1,5 +1,5 @@
 use crate::{FileDisk, StdSink};
-use cm_outer::{Disk, DiskFault, Failed, Sink, Source, write_pieces};
+use cm_outer::{Disk, DiskFault, Failed, Sink, Source, Spill, write_pieces};
 use std::alloc::{AllocGlobal, Global};
 use std::fs;
 use std::rt::Files;
@@ -16,14 +16,20 @@ fn new_file<R: Files + AllocGlobal>(rt: &R) -> Result<String, Fail> {
     Ok(String::new(rt.alloc()))
 }
 
+/// An empty folder that no one else has.
+fn new_folder<R: Files + AllocGlobal>(rt: &R) -> Result<String, Fail> {
+    for i in 0..1000u32 {
+        let path = format!(in rt.alloc(); "/tmp/cm-real-folder-{i}")?;
+        if fs::create_dir(rt, path.as_str()).is_ok() {
+            return Ok(path);
+        }
+    }
+    Ok(String::new(rt.alloc()))
+}
+
 /// What a writer has got after these pieces.
-fn sent(alloc: Global, by_lines: bool, pieces: &[&[u8]]) -> Vec<u8> {
-    let writer = Vec::new(alloc);
-    let mut sink = if by_lines {
-        StdSink::by_lines(writer)
-    } else {
-        StdSink::new(writer)
-    };
+fn sent(alloc: Global, pieces: &[&[u8]]) -> Vec<u8> {
+    let mut sink = StdSink::new(Vec::new(alloc));
     let _ = write_pieces(&mut sink, pieces);
     sink.into_parts().0
 }
@@ -39,7 +45,7 @@ fn store<R: Files>(disk: &mut FileDisk<'_, R>, path: &str, bytes: &[u8]) -> Resu
 #[test]
 fn a_file_is_written_and_read(rt: HostRuntime) -> Result<(), Fail> {
     let path = new_file(&rt)?;
-    let mut disk = FileDisk::new(&rt);
+    let mut disk = FileDisk::new(&rt, rt.alloc(), 7);
     let stored = store(&mut disk, path.as_str(), b"abc");
     let mut buf = [0u8; 4];
     let mut counts = [Ok(9), Ok(9), Ok(9)];
@@ -65,7 +71,7 @@ fn a_file_is_written_and_read(rt: HostRuntime) -> Result<(), Fail> {
 
 #[test]
 fn a_folder_is_not_read(rt: HostRuntime) -> Result<(), Fail> {
-    let mut disk = FileDisk::new(&rt);
+    let mut disk = FileDisk::new(&rt, rt.alloc(), 7);
     if let Ok(mut reader) = disk.open("/tmp") {
         let count = reader.read(&mut [0u8; 4]);
         disk.shut(reader);
@@ -75,12 +81,49 @@ fn a_folder_is_not_read(rt: HostRuntime) -> Result<(), Fail> {
 }
 
 #[test]
+fn a_spill_is_read_from_any_place(rt: HostRuntime) -> Result<(), Fail> {
+    let folder = new_folder(&rt)?;
+    let path = format!(in rt.alloc(); "{}/cmph-7.spill", folder.as_str())?;
+    fs::write(&rt, path.as_str(), "an earlier one")?;
+    let mut disk = FileDisk::new(&rt, rt.alloc(), 7);
+    let mut appended = [Err(Failed); 4];
+    let mut counts = [Err(Failed); 4];
+    let mut bufs = [[0u8; 4]; 4];
+    let mut kept = Vec::new(rt.alloc());
+    if let Ok(mut spill) = disk.spill(folder.as_str()) {
+        appended[0] = spill.append(b"abc");
+        appended[1] = spill.append(b"de");
+        appended[2] = spill.append(b"f");
+        counts[0] = spill.read_at(1, &mut bufs[0]);
+        counts[1] = spill.read_at(6, &mut bufs[1]);
+        counts[2] = spill.read_at(9, &mut bufs[2]);
+        appended[3] = spill.append(b"gh");
+        counts[3] = spill.read_at(5, &mut bufs[3]);
+        kept = fs::read(&rt, path.as_str())?;
+        disk.give_back(spill);
+    }
+    let is_there = fs::exists(&rt, path.as_str())?;
+    fs::remove_dir(&rt, folder.as_str())?;
+    assert_eq!(rt; appended, [Ok(()); 4]);
+    assert_eq!(rt; counts, [Ok(4), Ok(0), Ok(0), Ok(3)]);
+    assert_eq!(rt; bufs, [*b"bcde", [0; 4], [0; 4], *b"fgh\0"]);
+    assert_eq!(rt; kept.as_slice(), b"abcdefgh".as_slice());
+    assert!(rt; !is_there);
+    Ok(())
+}
+
+#[test]
+fn a_spill_needs_its_folder(rt: HostRuntime) -> Result<(), Fail> {
+    let mut disk = FileDisk::new(&rt, rt.alloc(), 7);
+    assert!(rt; matches!(disk.spill("/tmp/no/such/folder"), Err(DiskFault::Failed)));
+    Ok(())
+}
+
+#[test]
 fn pieces_wait_in_the_buffer(rt: HostRuntime) -> Result<(), Fail> {
     let alloc = rt.alloc();
-    assert_eq!(rt; sent(alloc, false, &[b"a\n", b"b"]).len(), 0);
-    assert_eq!(rt; sent(alloc, false, &[b"a\n", b"b", b""]).len(), 3);
-    assert_eq!(rt; sent(alloc, true, &[b"a", b"b\n", b"c"]).len(), 3);
-    assert_eq!(rt; sent(alloc, true, &[b"a", b"\nb"]).len(), 0);
+    assert_eq!(rt; sent(alloc, &[b"a\n", b"b"]).len(), 0);
+    assert_eq!(rt; sent(alloc, &[b"a\n", b"b", b""]).len(), 3);
     Ok(())
 }
 
@@ -89,8 +132,8 @@ fn a_piece_may_be_larger_than_the_buffer(rt: HostRuntime) -> Result<(), Fail> {
     let alloc = rt.alloc();
     let whole = vec![in alloc; b'x'; 16384]?;
     let larger = vec![in alloc; b'y'; 16385]?;
-    assert_eq!(rt; sent(alloc, false, &[b"ab", whole.as_slice()]).len(), 2);
-    let bytes = sent(alloc, false, &[b"ab", larger.as_slice(), b"c"]);
+    assert_eq!(rt; sent(alloc, &[b"ab", whole.as_slice()]).len(), 2);
+    let bytes = sent(alloc, &[b"ab", larger.as_slice(), b"c"]);
     assert_eq!(rt; bytes.len(), 16387);
     assert!(rt; bytes.starts_with(b"aby"));
     Ok(())

@@ -4,10 +4,10 @@
 use cm_real::{FileDisk, StdSink};
 use cm_tool::{report_no_memory, run};
 use std::alloc::{Alloc, AllocError, Global};
-use std::env;
 use std::env::Env;
 use std::io::ErrorKind;
 use std::process::ExitCode;
+use std::{env, process};
 
 /// The words of the command line. Where one of them isn't UTF-8, they are read as an option that there isn't.
 fn words_of<R: Env + Alloc<A = Global>>(rt: &R) -> Result<Vec<String>, AllocError> {
@@ -31,8 +31,8 @@ fn words_of<R: Env + Alloc<A = Global>>(rt: &R) -> Result<Vec<String>, AllocErro
 
 fn main(rt: HostRuntime) -> ExitCode {
     let mut out = StdSink::new(rt.stdout());
-    let mut err = StdSink::by_lines(rt.stderr());
-    let mut disk = FileDisk::new(&rt);
+    let mut err = StdSink::new(rt.stderr());
+    let mut disk = FileDisk::new(&rt, rt.alloc(), process::id(rt.process()));
     match words_of(&rt) {
         Ok(words) => ExitCode::from(run(rt.alloc(), &words, &mut disk, &mut out, &mut err)),
         Err(_) => ExitCode::from(report_no_memory(&mut err)),

@@ -33,9 +33,9 @@ fn run_on<R: Files + AllocGlobal>(rt: &R, rest: &[&str]) -> Result<Left, Fail> {
     for word in rest {
         words.push(String::from_str(alloc, *word)?)?;
     }
-    let mut disk = FileDisk::new(rt);
+    let mut disk = FileDisk::new(rt, alloc, 1);
     let mut out = StdSink::new(Vec::new(alloc));
-    let mut err = StdSink::by_lines(Vec::new(alloc));
+    let mut err = StdSink::new(Vec::new(alloc));
     let status = run(alloc, &words, &mut disk, &mut out, &mut err);
     let (out, _) = out.into_parts();
     let (err, _) = err.into_parts();
