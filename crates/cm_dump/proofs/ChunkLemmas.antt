@@ -1,6 +1,7 @@
 -- An item that is read by chunks.
-use Rattle.std.proofs.Common.{◌≡◌, ◌∙◌, ℕ, ◌+◌, ◌<◌, ◌≤◌, List, ◌++◌, length, take, drop, ap, sym, arith, refl, Bool, true, false, nat_lt, Result, Ok, Err, if◌then◌else◌}
-use Rattle.std.proofs.lemmas.List.{drop-drop}
+use Rattle.std.proofs.Common.{◌≡◌, ◌∙◌, ℕ, ◌+◌, ◌-◌, ◌<◌, ◌≤◌, List, [], ◌++◌, append-nil, length, length-append, length-drop, length-take, take, drop, ap, sym, arith, refl, Bool, true, false, nat_lt, Result, Ok, Err, if◌then◌else◌}
+use borrow.Rule.Slice.PartMut.{post_of}
+use Rattle.std.proofs.lemmas.List.{drop-drop, drop_all, take_at}
 use Rattle.std.proofs.Math.Seq.{take-add}
 use Rattle.cm_dump.specs.declared.fault.LoadFault.{LoadFault}
 use Rattle.cm_dump.specs.declared.fault.LoadFault.TheVariants as faults
@@ -50,5 +51,14 @@ chunk_more bytes items piece at done k so_far is =
 pub chunk_all : (bytes items : List ℕ) (at n : ℕ) → items ≡ take n (drop at bytes) → at + n ≤ length bytes → item_at bytes at n ≡ Ok items
 unfolding item_at
 chunk_all bytes items at n all inside = rw (ltb_no (length bytes) (at + n) (omega (arith, inside))) (ap (λ (l : List ℕ). let r : Result (List ℕ) LoadFault = Ok l in r) (sym all))
+
+-- What was written to the end of a list of bytes stands there.
+pub put_end : (len done : ℕ) (xs items buf : List ℕ) → len ≡ length xs → done + length buf ≡ length xs
+    → take len ((take done xs ++ (buf ++ post_of done (length xs - done) xs)) ++ drop (length (take done xs ++ (buf ++ post_of done (length xs - done) xs))) items) ≡ take done xs ++ buf
+put_end len done xs items buf size many =
+    let rest : post_of done (length xs - done) xs ≡ [] = drop_all (length xs - done) (drop done xs) (omega (arith, length-drop done xs)) in
+    let whole : take done xs ++ (buf ++ post_of done (length xs - done) xs) ≡ take done xs ++ buf = ap (λ (l : List ℕ). take done xs ++ (buf ++ l)) rest ∙ ap (λ (l : List ℕ). take done xs ++ l) (append-nil buf) in
+    let long : length (take done xs ++ buf) ≡ len = length-append (take done xs) buf ∙ omega (arith, size, many, length-take done xs) in
+    ap (λ (l : List ℕ). take len (l ++ drop (length l) items)) whole ∙ take_at (take done xs ++ buf) (drop (length (take done xs ++ buf)) items) len long
 
 -- ---- steps that found no fault

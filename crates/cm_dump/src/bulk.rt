@@ -9,9 +9,9 @@ use cm_outer::Source;
 use std::alloc::Global;
 
 /// How many bytes are read at a time.
-const CHUNK: u64 = 4096;
+const CHUNK: u64 = 65_536;
 
-/// The item of `n` bytes at this offset. Memory is taken as the bytes come, whatever `n` is.
+/// The item of `n` bytes at this offset. Memory is taken as the bytes come, whatever `n` is, and they are read to where they stay.
 pub(crate) fn long_item<S: Source>(
     alloc: Global,
     source: &mut S,
@@ -27,17 +27,15 @@ pub(crate) fn long_item<S: Source>(
     ensures cause { HasLoadCause (S.faults source.old) (S.faults source.new) result }
 {
     let mut all = Vec::new(alloc);
-    let mut buf = [0u8; 4096];
     let mut done = 0;
     while done < n {
         let want = (n - done).min(CHUNK);
-        let part = &mut buf[..want as usize];
-        match item(source, at + done, part) {
-            Err(fault) => return Err(fault),
+        match all.resize((done + want) as usize, 0) {
+            Err(_) => return Err(LoadFault::Memory),
             Ok(()) => {}
         }
-        match all.extend_from_slice(part) {
-            Err(_) => return Err(LoadFault::Memory),
+        match item(source, at + done, &mut all[done as usize..]) {
+            Err(fault) => return Err(fault),
             Ok(()) => {}
         }
         done += want;

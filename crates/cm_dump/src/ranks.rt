@@ -16,8 +16,11 @@ use arrayvec::ArrayVec;
 use cm_outer::{Failed, Sink, Source};
 use cm_rank::RankTable;
 
-/// How many ranks are gathered before they are written, and read at a time: 4,096 bytes of them.
+/// How many ranks are gathered before they are written: 4,096 bytes of them.
 const PIECE: u32 = 1024;
+
+/// How many ranks are read at a time: 65,536 bytes of them.
+const CHUNK: u32 = 16_384;
 
 /// Gathers the ranks from number `from` up to number `until`.
 #[tactic(auto, unfolding(crate::specs::Dumps::ranks_image))]
@@ -79,9 +82,9 @@ fn read_piece<S: Source>(
     count: u32,
     part: &mut [u8],
 ) -> Result<(), LoadFault>
-    requires room { at + 4096 < 2 ^ 62 }
+    requires room { at + 65536 < 2 ^ 62 }
     requires long { length part.old ≡ 4 * count }
-    requires few { count ≤ 1024 }
+    requires few { count ≤ 16384 }
     requires inside { from + count ≤ length ranks.now.ranks }
     requires some { length ranks.now.ranks < 2 ^ 32 }
     requires at { IsAt (S.told source.old) (S.place source.old) at }
@@ -124,10 +127,10 @@ pub(crate) fn read_ranks<S: Source>(
     ensures memory { result ≢ Err LoadFault.Memory }
 {
     let entries = ranks.entries();
-    let mut buf = [0u8; 4096];
+    let mut buf = [0u8; 65_536];
     let mut done = 0;
     while done < entries {
-        let count = (entries - done).min(PIECE);
+        let count = (entries - done).min(CHUNK);
         let part = &mut buf[..4 * count as usize];
         match read_piece(source, at + 4 * done as u64, ranks, done, count, part) {
             Err(fault) => return Err(fault),

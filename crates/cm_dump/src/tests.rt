@@ -338,7 +338,12 @@ fn long_images(rt: HostRuntime) -> Result<(), Fail> {
         bytes.push((i % 251) as u8)?;
     }
     assert!(rt; is_saved_again(alloc, &bytes)?);
-    assert_eq!(rt; fault_of(alloc, &bytes, &[40])?, Some(LoadFault::Read));
+    // Eight reads of the header here, five of the image, and one of the end.
+    for read in [8, 12, 13u64] {
+        let fault = fault_of(alloc, &bytes, &[read])?;
+        assert_eq!(rt; fault, Some(LoadFault::Read), "read {read}");
+    }
+    assert_eq!(rt; fault_of(alloc, &bytes, &[14])?, None);
     let cut = changed(alloc, &bytes, 100_000, &[])?;
     assert_eq!(rt;
         fault_of(alloc, &cut, &[])?,

@@ -1,6 +1,8 @@
-use Rattle.std.proofs.Common.{◌≡◌, ◌∙◌, ℕ, ◌+◌, length, take, drop, ap, sym, arith, refl, length-append, length-take}
+use Rattle.std.proofs.Common.{◌≡◌, ◌∙◌, ℕ, ◌+◌, ◌-◌, List, ◌++◌, replicate, length, take, drop, ap, sym, arith, refl, rules, length-append, length-drop, length-take}
+use Rattle.std.specs.Vec.{vec_len}
+use Rattle.std.proofs.lemmas.List.{take_all, take_at}
 use Rattle.cm_dump.specs.Reading.{item_at}
-use Rattle.cm_dump.proofs.ChunkLemmas.{chunk_fault, chunk_more, chunk_all}
+use Rattle.cm_dump.proofs.ChunkLemmas.{chunk_fault, chunk_more, chunk_all, put_end}
 use Rattle.cm_dump.proofs.bulk.long_item.Goals as goal
 
 pub loop-done-init : goal.loop-done-init
@@ -13,27 +15,39 @@ loop-done-init g c = record {
   bytes = λ x is. c.new-all.ensures.items;
 }
 
-pub returns-in-Err-clause-exact : goal.returns-in-Err-clause-exact
-returns-in-Err-clause-exact g c = λ x is.
+pub returns-in-Err-item-clause-exact : goal.returns-in-Err-item-clause-exact
+returns-in-Err-item-clause-exact g c = λ x is.
     let inv = c.loop-done.invariant in
-    chunk_fault x c.args.at c.loop-done.done _ c.args.n c.in-Err.fault (c.in-Err.ensures.exact x (inv.same ∙ is)) (omega (arith, inv.inside, c.loop-done-test.true, c.min-want.ensures, c.min-want.array_long, length-take c.min-want.result c.loop-done.buf))
+    let long : length c.deref_mut.result.now ≡ c.loop-done.done + c.min-want.result = search rules in
+    let room : length (drop c.loop-done.done c.deref_mut.result.now) ≡ c.min-want.result = length-drop c.loop-done.done c.deref_mut.result.now ∙ omega (arith, long) in
+    chunk_fault x c.args.at c.loop-done.done _ c.args.n c.in-Err-item.fault (c.in-Err-item.ensures.exact x (inv.same ∙ is))
+    (omega (arith, inv.inside, c.loop-done-test.true, c.min-want.ensures, long, room, length-take (length c.deref_mut.result.now - c.loop-done.done) (drop c.loop-done.done c.deref_mut.result.now)))
 
 pub loop-done-preserved : goal.loop-done-preserved
 loop-done-preserved g c =
     let inv = c.loop-done.invariant in
     let want = c.min-want.result in
     let done = c.loop-done.done in
-    let size : length (take want c.loop-done.buf) ≡ want = omega (arith, c.min-want.ensures, c.min-want.array_long, length-take want c.loop-done.buf) in
-    let items = c.in-Ok-extend_from_slice.ensures.items in
+    let all = c.loop-done.all.items in
+    let slice = c.deref_mut.result.now in
+    let zeros = replicate {A = ℕ} (done + want - vec_len c.loop-done.all) 0 in
+    let kept : take done slice ≡ all =
+    ap (λ (l : List ℕ). take done l) (c.deref_mut.ensures.value ∙ c.in-Ok.ensures.items)
+    ∙ ap (λ (l : List ℕ). take done (l ++ zeros)) (take_all (done + want) all (omega (arith, inv.size)))
+    ∙ take_at all zeros done inv.size in
+    let long : length slice ≡ done + want = search rules in
+    let room : length (take (length slice - done) (drop done slice)) ≡ want = length-take (length slice - done) (drop done slice) ∙ omega (arith, long, length-drop done slice) in
+    let size : length c.item.new.buf ≡ want = omega (arith, c.item.auto.buf, room) in
+    let items = put_end c.resize.new.self.len done slice c.resize.new.self.items c.item.new.buf (search rules) (omega (arith, long, size)) in
     record {
-      same = c.in-Ok.ensures.told ∙ inv.same;
-      quiet = c.in-Ok.ensures.cause ∙ inv.quiet;
+      same = c.in-Ok-item.ensures.told ∙ inv.same;
+      quiet = c.in-Ok-item.ensures.cause ∙ inv.quiet;
       inside = omega (arith, inv.inside, c.loop-done-test.true, c.min-want.ensures);
-      size = ap length items ∙ length-append c.loop-done.all.items c.item.new.buf ∙ omega (arith, inv.size, c.item.auto.buf, size);
-      at = λ x is. let at = c.in-Ok.ensures.at x is in (omega (arith, at.0, size), omega (arith, at.1, size));
+      size = ap length items ∙ length-append (take done slice) c.item.new.buf ∙ omega (arith, ap length kept, inv.size, size);
+      at = λ x is. let at = c.in-Ok-item.ensures.at x is in (omega (arith, at.0, room), omega (arith, at.1, room));
       bytes = λ x is.
-          let before = sym c.in-Ok.ensures.told ∙ is in
-          items ∙ chunk_more x c.loop-done.all.items c.item.new.buf c.args.at done want (inv.bytes x before) (ap (item_at x (c.args.at + done)) (sym size) ∙ c.in-Ok.ensures.exact x before);
+          let before = sym c.in-Ok-item.ensures.told ∙ is in
+          items ∙ ap (λ (l : List ℕ). l ++ c.item.new.buf) kept ∙ chunk_more x all c.item.new.buf c.args.at done want (inv.bytes x before) (ap (item_at x (c.args.at + done)) (sym room) ∙ c.in-Ok-item.ensures.exact x before);
     }
 
 pub returns-clause-at : goal.returns-clause-at
