@@ -500,7 +500,7 @@ def _(room):
     left = room.run("keys", bend={})
     same("the status", left.status, 0)
     reads, writes, seeks, opens, _ = room.counts()
-    if reads > pieces + len(dump) // 4096 + 16 or writes > len(left.out) // 16384 + pieces + 4 or opens != 2 or seeks != 0:
+    if reads > pieces + len(dump) // 65536 + 4 or writes > len(left.out) // 16384 + pieces + 4 or opens != 2 or seeks != 0:
         raise Wrong(f"a query of {len(keys)} bytes: {reads} reads, {writes} writes, {seeks} seeks, {opens} opens")
 
 
