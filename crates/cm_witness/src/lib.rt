@@ -1,4 +1,16 @@
-//! What a refused build shows. For now these are the algorithms alone, which stand in a crate of their own.
+//! Why no seed gives a function: the edges of a 2-core, and which of its keys are equal.
 #![tactic(auto)]
 
+mod certificate;
+mod firsts;
+#[cfg(test)]
+mod gather_tests;
+mod gathering;
+mod report;
+#[cfg(test)]
+mod tests;
+
+pub use certificate::{Certificate, CoreEdge, GatherFault, InBucket, Pair};
 pub use cm_algorithm::Algorithm;
+pub use firsts::equal_pairs;
+pub use gathering::gather;

@@ -1,0 +1,3 @@
+mod GatherLemmas
+mod NotedLemmas
+mod LineLemmas

@@ -1,0 +1,144 @@
+-- What is found of keys that were noted one after the other.
+use Rattle.std.proofs.Common.{◌≡◌, ◌∙◌, ℕ, ◌+◌, ◌<◌, ◌≤◌, List, [], ◌∷◌, ◌++◌, length, map, take, get_or, arith, Option, None, Some, Vec, BTreeMap, refl, ap, sym, append_assoc, append-nil, Bool, true, false, ⊎_elim, bytes_eq, cond, is_eq, nat_cmp}
+use Rattle.std.proofs.lemmas.Bool.{cases_Bool, cond-true, cond-false}
+use Rattle.std.proofs.lemmas.Cmp.{eq_by_cmp_equiv, nat_list_cmp_total}
+use Rattle.std.proofs.lemmas.List.{get_or-map, length-map, take_all, take_more}
+use Rattle.std.proofs.lemmas.Map.Text.{is_eq-slice_cmp}
+use Rattle.std.proofs.lemmas.Slice.Eq.{bytes_eq-Decides}
+use Rattle.std.proofs.lemmas.Slice.Zip.{get_or-zip, length-zip}
+use Rattle.std.specs.BTreeMap as tree
+use Rattle.std.specs.Cmp.Lexicographic.{slice_cmp}
+use Rattle.std.specs.List.{zip}
+use Rattle.std.specs.Map.{lookup, IsKeyTest, AreApart, KeepsOthers}
+use Rattle.cm_witness.specs.Noted.{AreNoted, noted_in, with_lines}
+use Rattle.cm_witness.specs.Pairs.{first_line, pairs, pairs_after, with_pair}
+use Rattle.cm_witness.specs.declared.certificate.Pair.{Pair}
+
+-- the first of two that is there
+abbrev or_else : Option ℕ → Option ℕ → Option ℕ
+or_else (Some line) other = Some line
+or_else None other = other
+
+or_none : (o : Option ℕ) → or_else o None ≡ o
+or_none None = refl
+or_none (Some line) = refl
+
+-- of a key and others before
+or_else_cond : (b : Bool) (line : ℕ) (a c : Option ℕ) → cond b (Some line) (or_else a c) ≡ or_else (cond b (Some line) a) c
+or_else_cond true line a c = refl
+or_else_cond false line a c = refl
+
+-- what is found of a key in keys before others
+first_line-append : (keys more : List (ℕ × List ℕ)) (key : List ℕ) → first_line (keys ++ more) key ≡ or_else (first_line keys key) (first_line more key)
+first_line-append [] more key = refl
+first_line-append (k ∷ keys) more key =
+    ap (λ (o : Option ℕ). cond (bytes_eq k.1 key) (Some k.0) o) (first_line-append keys more key)
+    ∙ or_else_cond (bytes_eq k.1 key) k.0 (first_line keys key) (first_line more key)
+
+-- equal bytes are so in either order
+bytes_eq-flip : (p q : List ℕ) → bytes_eq p q ≡ bytes_eq q p
+bytes_eq-flip p q = sym (is_eq-slice_cmp p q) ∙ (eq_by_cmp_equiv nat_list_cmp_total).symm p q ∙ is_eq-slice_cmp q p
+
+-- what a map finds by its order
+pub found_in : {A : Type 0} (entries : List (Vec ℕ A × ℕ)) (key : List ℕ) → lookup (λ k. is_eq (slice_cmp nat_cmp key k.items)) entries ≡ first_line (noted_in entries) key
+found_in [] key = refl
+found_in (e ∷ es) key =
+    ap (λ (b : Bool). cond b (Some e.1) (lookup (λ k. is_eq (slice_cmp nat_cmp key k.items)) es)) (is_eq-slice_cmp key e.0.items ∙ bytes_eq-flip key e.0.items)
+    ∙ ap (λ (o : Option ℕ). cond (bytes_eq e.0.items key) (Some e.1) o) (found_in es key)
+
+-- a key that differs from another finds what it found, after that other one was changed
+others_kept : {A : Type 0} (eq : Vec ℕ A → Vec ℕ A → Bool) (test : Vec ℕ A → Bool) (old new : List (Vec ℕ A × ℕ)) → KeepsOthers eq test old new → (other : Vec ℕ A → Bool) → IsKeyTest eq other → AreApart test other → lookup other new ≡ lookup other old
+unfolding KeepsOthers
+others_kept eq test old new h = h
+
+-- keys that differ have no equal in common
+apart : (key other k : List ℕ) → bytes_eq key other ≡ false → is_eq (slice_cmp nat_cmp key k) ≡ true → is_eq (slice_cmp nat_cmp other k) ≡ false
+apart key other k differs same =
+    let is : key ≡ k = (bytes_eq-Decides key k).0 (sym (is_eq-slice_cmp key k) ∙ same) in
+    is_eq-slice_cmp other k ∙ ap (λ (l : List ℕ). bytes_eq other l) (sym is) ∙ bytes_eq-flip other key ∙ differs
+
+-- after a new key is put into a map, it is found as if it stood behind those before
+pub found_after : {A : Type 0} (old new : BTreeMap (Vec ℕ A) ℕ) (key : Vec ℕ A) (line : ℕ)
+    → tree.Updates (λ x y. slice_cmp nat_cmp x.items y.items) old new key (Some line)
+    → first_line (noted_in old.entries) key.items ≡ None
+    → (other : List ℕ) → first_line (noted_in new.entries) other ≡ first_line (noted_in old.entries ++ (line, key.items) ∷ []) other
+found_after old new key line updates none other =
+    let behind = first_line-append (noted_in old.entries) ((line, key.items) ∷ []) other in
+    ⊎_elim
+    (λ (same : bytes_eq key.items other ≡ true).
+    let is : key.items ≡ other = (bytes_eq-Decides key.items other).0 same in
+    let here : first_line (noted_in new.entries) other ≡ Some line =
+    ap (λ (l : List ℕ). first_line (noted_in new.entries) l) (sym is) ∙ sym (found_in new.entries key.items) ∙ updates.1 in
+    here ∙ sym (behind
+    ∙ ap (λ (o : Option ℕ). or_else o (cond (bytes_eq key.items other) (Some line) None)) (ap (λ (l : List ℕ). first_line (noted_in old.entries) l) (sym is) ∙ none)
+    ∙ cond-true (bytes_eq key.items other) (Some line) None same))
+    (λ (differs : bytes_eq key.items other ≡ false).
+    sym (found_in new.entries other)
+    ∙ others_kept _ _ old.entries new.entries updates.3 (λ k. is_eq (slice_cmp nat_cmp other k.items)) (λ x y. (eq_by_cmp_equiv nat_list_cmp_total).congr other x.items y.items) (λ k. apart key.items other k.items differs)
+    ∙ found_in old.entries other
+    ∙ sym (behind
+    ∙ ap (λ (o : Option ℕ). or_else (first_line (noted_in old.entries) other) o) (cond-false (bytes_eq key.items other) (Some line) None differs)
+    ∙ or_none (first_line (noted_in old.entries) other)))
+    (cases_Bool (bytes_eq key.items other))
+
+-- a key that is found already is found as before, after it is noted again
+pub found_again : (keys : List (ℕ × List ℕ)) (line first : ℕ) (key : List ℕ) → first_line keys key ≡ Some first → (other : List ℕ) → first_line keys other ≡ first_line (keys ++ (line, key) ∷ []) other
+found_again keys line first key found other =
+    let behind = first_line-append keys ((line, key) ∷ []) other in
+    ⊎_elim
+    (λ (same : bytes_eq key other ≡ true).
+    let here : first_line keys other ≡ Some first = ap (λ (l : List ℕ). first_line keys l) (sym ((bytes_eq-Decides key other).0 same)) ∙ found in
+    here ∙ sym (behind ∙ ap (λ (o : Option ℕ). or_else o (cond (bytes_eq key other) (Some line) None)) here))
+    (λ (differs : bytes_eq key other ≡ false).
+    sym (behind
+    ∙ ap (λ (o : Option ℕ). or_else (first_line keys other) o) (cond-false (bytes_eq key other) (Some line) None differs)
+    ∙ or_none (first_line keys other)))
+    (cases_Bool (bytes_eq key other))
+
+-- a pair stands before all that come after it
+with_pair-append : (first : Option ℕ) (line : ℕ) (found more : List Pair) → with_pair first line (found ++ more) ≡ with_pair first line found ++ more
+with_pair-append None line found more = refl
+with_pair-append (Some first) line found more = refl
+
+-- the pairs of one key more
+pairs_after-push : (earlier keys : List (ℕ × List ℕ)) (k : ℕ × List ℕ) → pairs_after earlier (keys ++ k ∷ []) ≡ pairs_after earlier keys ++ with_pair (first_line (earlier ++ keys) k.1) k.0 []
+pairs_after-push earlier [] k = ap (λ (l : List (ℕ × List ℕ)). with_pair (first_line l k.1) k.0 []) (sym (append-nil earlier))
+pairs_after-push earlier (j ∷ keys) k =
+    ap (λ (l : List Pair). with_pair (first_line earlier j.1) j.0 l) (pairs_after-push (earlier ++ j ∷ []) keys k
+    ∙ ap (λ (l : List (ℕ × List ℕ)). pairs_after (earlier ++ j ∷ []) keys ++ with_pair (first_line l k.1) k.0 []) (append_assoc earlier (j ∷ []) keys))
+    ∙ with_pair-append (first_line earlier j.1) j.0 (pairs_after (earlier ++ j ∷ []) keys) _
+
+-- one key more is noted, and its pair is there if an equal one was noted before
+pub noted_more : (earlier noted noted' : List (ℕ × List ℕ)) (found found' : List Pair) (line : ℕ) (key : List ℕ)
+    → AreNoted earlier noted found
+    → ((other : List ℕ) → first_line noted' other ≡ first_line (noted ++ (line, key) ∷ []) other)
+    → found' ≡ found ++ with_pair (first_line noted key) line []
+    → AreNoted (earlier ++ (line, key) ∷ []) noted' found'
+noted_more earlier noted noted' found found' line key are finds paired = record {
+  finds = λ other. finds other
+      ∙ first_line-append noted ((line, key) ∷ []) other
+      ∙ ap (λ (o : Option ℕ). or_else o (first_line ((line, key) ∷ []) other)) (are.finds other)
+      ∙ sym (first_line-append earlier ((line, key) ∷ []) other);
+  paired = paired
+      ∙ ap (λ (l : List Pair). l ++ with_pair (first_line noted key) line []) are.paired
+      ∙ ap (λ (o : Option ℕ). pairs earlier ++ with_pair o line []) (are.finds key)
+      ∙ sym (pairs_after-push [] earlier (line, key));
+}
+
+-- the keys before the next place
+pub with_lines-more : {A : Type 0} (lines : List ℕ) (keys : List (Vec ℕ A)) (i : ℕ) (key : Vec ℕ A) → length lines ≡ length keys → i < length keys → key ≡ get_or keys i key
+    → take (i + 1) (with_lines lines keys) ≡ take i (with_lines lines keys) ++ (get_or lines i 0, key.items) ∷ []
+with_lines-more {A = A} lines keys i key long inside is =
+    let bytes : List (List ℕ) = map (λ (k : Vec ℕ A). k.items) keys in
+    let as_long : length bytes ≡ length keys = length-map keys (λ (k : Vec ℕ A). k.items) in
+    let within : i < length (zip lines bytes) = omega (arith, as_long, long, inside, length-zip lines bytes) in
+    let here : get_or (zip lines bytes) i (0, []) ≡ (get_or lines i 0, key.items) =
+    get_or-zip lines bytes i (0, []) (omega (arith, long, inside)) (omega (arith, as_long, inside))
+    ∙ ap (λ (l : List ℕ). let p : ℕ × List ℕ = (get_or lines i 0, l) in p) (get_or-map (λ (k : Vec ℕ A). k.items) keys i key [] inside ∙ ap (λ (k : Vec ℕ A). k.items) (sym is)) in
+    take_more (zip lines bytes) i (0, []) within ∙ ap (λ (k : ℕ × List ℕ). take i (zip lines bytes) ++ k ∷ []) here
+
+-- all of them
+pub with_lines-all : {A : Type 0} (lines : List ℕ) (keys : List (Vec ℕ A)) (i : ℕ) → length keys ≤ i → take i (with_lines lines keys) ≡ with_lines lines keys
+with_lines-all {A = A} lines keys i past =
+    let bytes : List (List ℕ) = map (λ (k : Vec ℕ A). k.items) keys in
+    take_all i (zip lines bytes) (omega (arith, past, length-map keys (λ (k : Vec ℕ A). k.items), length-zip lines bytes))

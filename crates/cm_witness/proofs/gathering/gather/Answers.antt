@@ -1,0 +1,74 @@
+use Rattle.std.proofs.Common.{◌≡◌, ◌∙◌, ℕ, ◌+◌, List, [], ◌∷◌, ◌++◌, ap, arith, drop, get_or, is_some, length, rules, subst, sym, take}
+use Rattle.std.proofs.lemmas.List.{length_push, take_all}
+use Rattle.std.proofs.lemmas.List.Elements.{All-push, All-same}
+use Rattle.cm_witness.specs.Cores.{core_edges, keys_at}
+use Rattle.cm_witness.specs.Gathers.{FailsGather, has_third}
+use Rattle.cm_witness.specs.Noted.{AreNoted}
+use Rattle.cm_witness.specs.Pairs.{pairs}
+use Rattle.cm_witness.specs.declared.certificate.CoreEdge.{CoreEdge}
+use Rattle.cm_witness.specs.declared.certificate.GatherFault.TheVariants.{Key}
+use Rattle.cm_witness.proofs.GatherLemmas.{edges_more, handed_on, keys_more, refused_at_end}
+use Rattle.cm_witness.proofs.gathering.gather.Goals as goal
+
+pub returns-in_err-pass_keys-clause-fault : goal.returns-in_err-pass_keys-clause-fault
+returns-in_err-pass_keys-clause-fault g c =
+    let fault = c.in_err-pass_keys.field-0.0 in
+    handed_on c.from_residual-in_err-pass_keys.result fault _ c.from_residual-in_err-pass_keys.ensures.1
+    (λ told is. subst (λ (m : ℕ). FailsGather told m fault) c.len-m.ensures.count (c.in_err-pass_keys.ensures.fault told (c.loop-e.invariant.same ∙ is)))
+
+pub returns-in_err-line-clause-fault : goal.returns-in_err-line-clause-fault
+returns-in_err-line-clause-fault g c =
+    let fault = c.in_err-line.field-0.0 in
+    handed_on c.from_residual-in_err-line.result fault _ c.from_residual-in_err-line.ensures.1
+    (λ told is. subst (λ (m : ℕ). FailsGather told m fault) c.len-m.ensures.count (c.in_err-line.ensures.fault told (c.pass_keys.ensures.told ∙ (c.loop-e.invariant.same ∙ is))))
+
+pub loop-e-preserved : goal.loop-e-preserved
+loop-e-preserved g c =
+    let P = g.P.KeyPass in
+    let before = c.loop-e.invariant in
+    let i : ℕ = c.loop-e.e-index in
+    let rest : List ℕ = c.args.rest.now in
+    let e = get_or rest i 0 in
+    let key = c.read_key.new.key.items in
+    let third = λ (x : CoreEdge). is_some x.third ≡ has_third c.args.algorithm in
+    record {
+      ready = search rules;
+      same = search rules;
+      quiet = search rules;
+      at = search rules;
+      few = omega (arith, c.requires.inside i 0 c.loop-e-test.true, c.len-m.ensures.count);
+      ahead = λ more. omega (arith, c.requires.rising i more);
+      room = search rules;
+      count = ap length c.push_reserved.ensures.items ∙ length_push _ _ ∙ ap (λ (n : ℕ). n + 1) before.count;
+      third = All-same third _ _ c.push_reserved.ensures.items (All-push third _ _ before.third (c.core_edge.ensures.third c.args.algorithm c.requires.ends));
+      edges = λ told is.
+          edges_more told.keys _ c.args.edges.now.edges rest i c.in_ok-line.line key c.ends.result _ _ c.loop-e-test.true
+          (ap (λ (n : ℕ). drop n told.keys) (sym c.in_ok-pass_keys.ensures.at) ∙ c.in_ok-line.ensures.gives told (c.pass_keys.ensures.told ∙ (before.same ∙ is)))
+          c.ends.ensures.ends (before.edges told is)
+          (c.push_reserved.ensures.items ∙ ap (λ (x : CoreEdge). c.loop-e.core.items ++ x ∷ []) (c.core_edge.ensures.edge key));
+      noted = λ told is.
+          let earlier = keys_at told.keys (take i rest) in
+          keys_more told.keys _ rest i c.in_ok-line.line key c.note_key.new.firsts c.note_key.new.equal.items c.loop-e-test.true
+          (ap (λ (n : ℕ). drop n told.keys) (sym c.in_ok-pass_keys.ensures.at) ∙ c.in_ok-line.ensures.gives told (c.pass_keys.ensures.told ∙ (before.same ∙ is)))
+          (subst (λ (l : List ℕ). AreNoted (earlier ++ (c.in_ok-line.line, l) ∷ []) c.note_key.new.firsts c.note_key.new.equal.items) c.deref.ensures.0 (c.in_ok-note_key.ensures earlier (before.noted told is)));
+    }
+
+pub returns-in_err-pass_keys-2-clause-fault : goal.returns-in_err-pass_keys-2-clause-fault
+returns-in_err-pass_keys-2-clause-fault g c =
+    let fault = c.in_err-pass_keys-2.field-0.0 in
+    handed_on c.from_residual-in_err-pass_keys-2.result fault _ c.from_residual-in_err-pass_keys-2.ensures.1
+    (λ told is. subst (λ (m : ℕ). FailsGather told m fault) c.len-m.ensures.count (c.in_err-pass_keys-2.ensures.fault told (c.loop-e.invariant.same ∙ is)))
+
+pub returns-in_err-next-clause-fault : goal.returns-in_err-next-clause-fault
+returns-in_err-next-clause-fault g c =
+    let P = g.P.KeyPass in
+    let fault = c.in_err-next.field-0.0 in
+    handed_on c.from_residual-in_err-next.result (Key fault) _ c.from_residual-in_err-next.ensures.1
+    (λ told is. refused_at_end told _ (P.place c.pass_keys-2.new.keys) (P.place c.next.new.self) (P.last c.next.new.self) c.next.new.key.items fault (c.in_ok-pass_keys-2.ensures.at ∙ c.len-m.ensures.count)
+    (c.in_err-next.ensures.gives told (c.pass_keys-2.ensures.told ∙ (c.loop-e.invariant.same ∙ is))))
+
+pub returns-clause-edges : goal.returns-clause-edges
+returns-clause-edges g c = λ told is. c.loop-e.invariant.edges told is ∙ ap (core_edges told.keys c.args.edges.now.edges) (take_all c.loop-e.e-index c.args.rest.now (omega (arith, c.loop-e-test.false)))
+
+pub returns-clause-equal : goal.returns-clause-equal
+returns-clause-equal g c = λ told is. (c.loop-e.invariant.noted told is).paired ∙ ap (λ (l : List ℕ). pairs (keys_at told.keys l)) (take_all c.loop-e.e-index c.args.rest.now (omega (arith, c.loop-e-test.false)))

@@ -1,0 +1,23 @@
+use Rattle.std.proofs.Common.{◌≡◌, ◌<◌, ◌≤◌, All, is_some, length, slice_index, take, true, vec_capacity}
+use Rattle.std.specs.Option.{ForSome}
+use Rattle.cm_witness.specs.Cores.{core_edges, keys_at}
+use Rattle.cm_witness.specs.Gathers.{has_third}
+use Rattle.cm_witness.specs.Noted.{AreNoted}
+use Rattle.cm_witness.proofs.gathering.gather.Given as goal
+
+abbrev pub invariant-loop-e : goal.invariant-loop-e
+invariant-loop-e g l =
+    let P = g.P.KeyPass in
+    record {
+      ready : P.usable l.keys ≡ true;
+      same : P.told l.keys ≡ P.told l.fn.keys;
+      quiet : P.faults l.keys ≡ P.faults l.fn.keys;
+      at : P.place l.keys ≡ l.given;
+      few : l.given ≤ l.m;
+      ahead : l.e-index < length l.rest → l.given ≤ slice_index l.rest l.e-index;
+      room : length l.rest ≤ vec_capacity l.core;
+      count : length l.core.items ≡ l.e-index;
+      third : All (λ e. is_some e.third ≡ has_third l.algorithm) l.core.items;
+      edges : ForSome (P.told l.fn.keys) (λ told. l.core.items ≡ core_edges told.keys l.edges.edges (take l.e-index l.rest));
+      noted : ForSome (P.told l.fn.keys) (λ told. AreNoted (keys_at told.keys (take l.e-index l.rest)) l.firsts l.equal.items);
+    }

@@ -1,0 +1,10 @@
+use Rattle.std.proofs.Common.{◌≡◌, map, take}
+use Rattle.cm_outer.specs.Writing.{joined, then_bytes}
+use Rattle.cm_witness.specs.Reports.{pair_line}
+use Rattle.cm_witness.proofs.report.write_pairs.Given as goal
+
+abbrev pub invariant-loop-pair : goal.invariant-loop-pair
+invariant-loop-pair g l = record {
+  lines : g.O.Sink.written l.out ≡ then_bytes (g.O.Sink.written l.fn.out) (joined (map pair_line (take l.pair-index l.pairs)));
+  quiet : g.O.Sink.faults l.out ≡ g.O.Sink.faults l.fn.out;
+}

@@ -1,0 +1,5 @@
+pub mod Pairs
+pub mod Cores
+pub mod Noted
+pub mod Gathers
+pub mod Reports

@@ -1,0 +1,18 @@
+-- What is kept of the keys noted so far.
+use Rattle.std.specs.Prelude.{◌≡◌, ℕ, List, map, Vec}
+use Rattle.std.specs.List.{zip}
+use Rattle.cm_witness.specs.Pairs.{first_line, pairs}
+use Rattle.cm_witness.specs.declared.certificate.Pair.{Pair}
+
+-- the entries of a map from keys to lines, as lines with their keys
+abbrev pub noted_in : {A : Type 0} → List (Vec ℕ A × ℕ) → List (ℕ × List ℕ)
+noted_in entries = map (λ e. (e.1, e.0.items)) entries
+
+-- keys, each with its line
+abbrev pub with_lines : {A : Type 0} → List ℕ → List (Vec ℕ A) → List (ℕ × List ℕ)
+with_lines lines keys = zip lines (map (λ k. k.items) keys)
+
+-- what was noted finds of each key what all these find, and the pairs are theirs
+pub record AreNoted (earlier noted : List (ℕ × List ℕ)) (found : List Pair) : Type 0 where
+  pub finds : (key : List ℕ) → first_line noted key ≡ first_line earlier key
+  pub paired : found ≡ pairs earlier

@@ -1,0 +1,34 @@
+-- The text of a certificate.
+use Rattle.std.specs.Prelude.{ℕ, List, [], ◌∷◌, ◌++◌, length, map, Option, None, Some, codes, decimal}
+use Rattle.cm_algorithm.specs.Names.{name_of}
+use Rattle.cm_algorithm.specs.declared.algorithm.Algorithm.{Algorithm}
+use Rattle.cm_outer.specs.Writing.{joined}
+use Rattle.cm_witness.specs.declared.certificate.CoreEdge.{CoreEdge}
+use Rattle.cm_witness.specs.declared.certificate.InBucket.{InBucket}
+use Rattle.cm_witness.specs.declared.certificate.Pair.{Pair}
+
+-- the bucket, if the keys were split into buckets
+abbrev pub place_part : Option InBucket → List ℕ
+place_part None = []
+place_part (Some p) = joined (codes " split " ∷ decimal p.split ∷ codes " bucket " ∷ decimal p.bucket ∷ [])
+
+-- the first line: the algorithm, the bucket, the seed and the number of edges
+abbrev pub head_line : Algorithm → Option InBucket → ℕ → ℕ → List ℕ
+head_line algorithm place seed edges = joined (codes "core " ∷ name_of algorithm ∷ place_part place ∷ codes " seed " ∷ decimal seed ∷ codes " edges " ∷ decimal edges ∷ codes "\n" ∷ [])
+
+-- the third end, if there is one
+abbrev pub third_part : Option ℕ → List ℕ
+third_part None = []
+third_part (Some v) = codes " " ++ decimal v
+
+-- the line of an edge: the line of its key, and its ends
+abbrev pub edge_line : CoreEdge → List ℕ
+edge_line e = joined (codes "edge " ∷ decimal e.line ∷ codes " " ∷ decimal e.first ∷ codes " " ∷ decimal e.second ∷ third_part e.third ∷ codes "\n" ∷ [])
+
+-- the line of two equal keys: the lines of both
+abbrev pub pair_line : Pair → List ℕ
+pair_line p = joined (codes "equal " ∷ decimal p.first ∷ codes " " ∷ decimal p.again ∷ codes "\n" ∷ [])
+
+-- the whole text: the first line, those of the edges and those of the pairs
+abbrev pub report_text : Algorithm → Option InBucket → ℕ → List CoreEdge → List Pair → List ℕ
+report_text algorithm place seed edges equal = head_line algorithm place seed (length edges) ++ (joined (map edge_line edges) ++ joined (map pair_line equal))

@@ -1,0 +1,176 @@
+//! What a pass over the keys shows of a 2-core.
+ghost use Rattle.std.specs.Prelude.{◌≡◌, ◌<◌, ◌≤◌, ◌+◌, ℕ, List, length, All, is_some, Some, None, Ok, true, false, if◌then◌else◌, IfOk, IfErr, OnOk, IsTrue};
+ghost use Rattle.std.specs.List.Sorted.{IsStrictlyIncreasing};
+ghost use Rattle.std.specs.Option.{ForSome};
+ghost use Rattle.cm_outer.specs.Passes.{HasKeyCause, GivesKey};
+ghost use Rattle.cm_witness.specs.Cores.{core_edge as core_edge_of, core_edges, keys_at};
+ghost use Rattle.cm_witness.specs.Gathers.{FailsGather, HasGatherCause, HasOther, ends_of, has_buckets, has_third};
+ghost use Rattle.cm_witness.specs.Pairs.{pairs};
+ghost use Rattle.cm_witness.specs.declared.certificate.GatherFault.TheVariants as gather_fault;
+
+use crate::certificate::{Certificate, CoreEdge, GatherFault, InBucket};
+use crate::firsts::{Firsts, note_key};
+use cm_algorithm::Algorithm;
+use cm_graph::Edges;
+use cm_outer::{KeyBuf, KeyFault, KeyPass};
+use std::alloc::{AllocError, Global};
+
+impl From<KeyFault> for GatherFault {
+    ghost from_gives = { λ f e. e ≡ gather_fault.Key f };
+
+    fn from(fault: KeyFault) -> Self {
+        GatherFault::Key(fault)
+    }
+}
+
+impl From<AllocError> for GatherFault {
+    ghost from_gives = { λ _ e. e ≡ gather_fault.Memory };
+
+    fn from(_: AllocError) -> Self {
+        GatherFault::Memory
+    }
+}
+
+/// Passes the next key, and returns false at the end. A key at hand isn't copied. The buffer is for its use.
+#[inline(always)]
+fn pass_next<P: KeyPass>(keys: &mut P, key: &mut KeyBuf) -> Result<bool, KeyFault>
+    requires usable { IsTrue (P.usable keys.old) }
+    ensures told { P.told keys.new ≡ P.told keys.old }
+    ensures gives { ForSome (P.told keys.old) (λ told. (next : ℕ × List ℕ) × GivesKey told (P.place keys.old) (P.place keys.new) next.0 next.1 result) }
+    ensures cause { HasKeyCause (P.faults keys.old) (P.faults keys.new) result }
+    ensures counts { IfOk result (λ more. P.place keys.new ≡ P.place keys.old + (if more then 1 else 0)) }
+    ensures usable { OnOk result (P.usable keys.new ≡ true) }
+{
+    let len = match keys.peek() {
+        Some((_, next)) => next.len(),
+        None => return keys.next(key),
+    };
+    keys.pass(len);
+    Ok(true)
+}
+
+/// Passes the keys from place `from` up to `until`, of `m` in all, and fails as `Changed` where there are fewer. The buffer is for
+/// its use.
+fn pass_keys<P: KeyPass>(
+    keys: &mut P,
+    key: &mut KeyBuf,
+    from: u32,
+    until: u32,
+    m: u32,
+) -> Result<(), GatherFault>
+    requires usable { IsTrue (P.usable keys.old) }
+    requires at { P.place keys.old ≡ from }
+    requires within { (from ≤ until) × (until ≤ m) }
+    ensures told { P.told keys.new ≡ P.told keys.old }
+    ensures cause { HasGatherCause (P.faults keys.old) (P.faults keys.new) result }
+    ensures usable { OnOk result (P.usable keys.new ≡ true) }
+    ensures at { OnOk result (P.place keys.new ≡ until) }
+    ensures changed { IfErr result (HasOther m (P.place keys.new)) }
+    ensures fault { IfErr result (λ fault. ForSome (P.told keys.old) (λ told. FailsGather told m fault)) }
+{
+    for count in from..until {
+        if !pass_next(keys, key)? {
+            return Err(GatherFault::Changed {
+                first: m,
+                now: count,
+            });
+        }
+    }
+    Ok(())
+}
+
+/// Puts the next key into the buffer, which is that at place `e` of `m` in all, and returns its line.
+fn read_key<P: KeyPass>(keys: &mut P, key: &mut KeyBuf, e: u32, m: u32) -> Result<u32, GatherFault>
+    requires usable { IsTrue (P.usable keys.old) }
+    requires at { P.place keys.old ≡ e }
+    requires within { e < m }
+    ensures told { P.told keys.new ≡ P.told keys.old }
+    ensures cause { HasGatherCause (P.faults keys.old) (P.faults keys.new) result }
+    ensures usable { OnOk result (P.usable keys.new ≡ true) }
+    ensures at { OnOk result (P.place keys.new ≡ e + 1) }
+    ensures gives { IfOk result (λ line. ForSome (P.told keys.old) (λ told. GivesKey told (P.place keys.old) (P.place keys.new) line key.new.items (Ok true))) }
+    ensures changed { IfErr result (HasOther m (P.place keys.new)) }
+    ensures fault { IfErr result (λ fault. ForSome (P.told keys.old) (λ told. FailsGather told m fault)) }
+{
+    if !keys.next(key)? {
+        return Err(GatherFault::Changed { first: m, now: e });
+    }
+    Ok(keys.line())
+}
+
+/// The edge of a key that stands in this line.
+fn core_edge<const K: usize>(line: u32, ends: [u32; K]) -> CoreEdge
+    requires width { (2 ≤ K) × (K ≤ 3) }
+    ensures edge { (key : List ℕ) → result ≡ core_edge_of (line, key) ends.entry }
+    ensures third { (algorithm : Algorithm) → K ≡ ends_of algorithm → is_some result.third ≡ has_third algorithm }
+{
+    CoreEdge {
+        line,
+        first: ends[0],
+        second: ends[1],
+        third: ends.get(2).copied(),
+    }
+}
+
+/// The certificate of the edges at the places `rest`, which are those of a 2-core, from one pass over all keys: one for each edge.
+/// Of the keys it keeps those at these places, equal ones once. Fails as `Changed` where there are fewer keys than edges, or more.
+pub fn gather<P: KeyPass, const K: usize>(
+    alloc: Global,
+    keys: &mut P,
+    edges: &Edges<K>,
+    rest: &[u32],
+    algorithm: Algorithm,
+    seed: u32,
+    place: Option<InBucket>,
+) -> Result<Certificate, GatherFault>
+    requires ends { K ≡ ends_of algorithm }
+    requires place { is_some place ≡ has_buckets algorithm }
+    requires rising { IsStrictlyIncreasing rest.now }
+    requires inside { All (λ e. e < length edges.now.edges) rest.now }
+
+    // Whatever the pass tells.
+    ensures told { P.told keys.new ≡ P.told keys.old }
+    ensures cause { HasGatherCause (P.faults keys.old) (P.faults keys.new) result }
+    ensures algorithm { IfOk result (λ made. made.algorithm ≡ algorithm) }
+    ensures seed { IfOk result (λ made. made.seed ≡ seed) }
+    ensures place { IfOk result (λ made. made.place ≡ place) }
+    ensures count { IfOk result (λ made. length made.edges.items ≡ length rest.now) }
+    ensures third { IfOk result (λ made. All (λ e. is_some e.third ≡ has_third algorithm) made.edges.items) }
+    ensures given { OnOk result (P.place keys.new ≡ length edges.now.edges) }
+    ensures changed { IfErr result (HasOther (length edges.now.edges) (P.place keys.new)) }
+
+    // Over told keys.
+    ensures end { OnOk result (ForSome (P.told keys.old) (λ told. (length told.keys ≡ length edges.now.edges) × (told.fault ≡ None))) }
+    ensures edges { IfOk result (λ made. ForSome (P.told keys.old) (λ told. made.edges.items ≡ core_edges told.keys edges.now.edges rest.now)) }
+    ensures equal { IfOk result (λ made. ForSome (P.told keys.old) (λ told. made.equal.items ≡ pairs (keys_at told.keys rest.now))) }
+    ensures fault { IfErr result (λ fault. ForSome (P.told keys.old) (λ told. FailsGather told (length edges.now.edges) fault)) }
+{
+    let m = edges.len();
+    let mut firsts = Firsts::new(alloc);
+    let mut equal = Vec::new(alloc);
+    let mut core = Vec::with_capacity(alloc, rest.len())?;
+    let mut key = KeyBuf::new();
+    keys.rewind()?;
+    let mut given = 0;
+    for e in rest {
+        pass_keys(keys, &mut key, given, *e, m)?;
+        let line = read_key(keys, &mut key, *e, m)?;
+        note_key(alloc, &mut firsts, &mut equal, line, &key)?;
+        core.push_reserved(core_edge(line, edges.ends(*e)));
+        given = *e + 1;
+    }
+    pass_keys(keys, &mut key, given, m, m)?;
+    if keys.next(&mut key)? {
+        return Err(GatherFault::Changed {
+            first: m,
+            now: m + 1,
+        });
+    }
+    Ok(Certificate {
+        algorithm,
+        seed,
+        place,
+        edges: core,
+        equal,
+    })
+}

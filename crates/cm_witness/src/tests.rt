@@ -1,0 +1,171 @@
+ghost use Rattle.std.specs.Prelude.{◌≡◌, ◌≢◌, ◌↔◌, [], All, IsSome};
+
+use crate::{Algorithm, Certificate, CoreEdge, InBucket, Pair};
+use cm_outer::{Failed, MemSink};
+use std::alloc::{AllocError, Global};
+use std::process::Abort;
+use std::test::Fail;
+
+const MOST: u32 = 4294967295;
+
+const CHM: &str = "core chm seed 0 edges 2\nedge 1 2 5\nedge 2 2 5\nequal 1 2\n";
+
+const BRZ: &str =
+    "core brz split 0 bucket 0 seed 0 edges 2\nedge 1 2 5 8\nedge 2 2 5 8\nequal 1 2\n";
+
+const LONGEST: &str =
+    "core brz split 4294967295 bucket 4294967295 seed 4294967295 edges 1\nedge 4294967295 4294967295 4294967295 4294967295\nequal 4294967295 4294967295\n";
+
+/// An edge between vertices 2 and 5, and a third one or none.
+fn edge(line: u32, third: Option<u32>) -> CoreEdge
+    ensures third { result.third ≡ third }
+{
+    CoreEdge {
+        line,
+        first: 2,
+        second: 5,
+        third,
+    }
+}
+
+/// A certificate of the algorithm without edges.
+fn empty(alloc: Global, algorithm: Algorithm, seed: u32) -> Certificate
+    ensures algorithm { result.algorithm ≡ algorithm }
+    ensures place { result.place ≡ None }
+    ensures edges { result.edges.items ≡ [] }
+{
+    Certificate {
+        algorithm,
+        seed,
+        place: None,
+        edges: Vec::new(alloc),
+        equal: Vec::new(alloc),
+    }
+}
+
+/// Checks what a sink with so much room holds of a certificate: its text, or the prefix for which there is room.
+fn check(
+    rt: &impl Abort,
+    alloc: Global,
+    shown: &Certificate,
+    room: usize,
+    text: &str,
+) -> Result<(), AllocError>
+    requires place { IsSome shown.now.place ↔ (shown.now.algorithm ≡ Algorithm.Brz) }
+    requires thirds { All (λ edge. IsSome edge.third ↔ (shown.now.algorithm ≢ Algorithm.Chm)) shown.now.edges.items }
+{
+    let mut out = MemSink::new(alloc, room, Vec::new(alloc))?;
+    let answer = shown.write(&mut out);
+    if room < text.len() {
+        assert_eq!(rt; answer, Err(Failed));
+        assert_eq!(rt; out.bytes(), &text.as_bytes()[..room]);
+    } else {
+        assert_eq!(rt; answer, Ok(()));
+        assert_eq!(rt; out.bytes(), text.as_bytes());
+    }
+    Ok(())
+}
+
+#[test]
+fn edges_of_two_ends(rt: HostRuntime) -> Result<(), Fail> {
+    let alloc = rt.alloc();
+    let shown = Certificate {
+        algorithm: Algorithm::Chm,
+        seed: 0,
+        place: None,
+        edges: Vec::from_slice(alloc, &[edge(1, None), edge(2, None)])?,
+        equal: Vec::from_slice(alloc, &[Pair { first: 1, again: 2 }])?,
+    };
+    // The room ends at each place of the text, and at last after it.
+    for room in 0..CHM.len() + 1 {
+        check(&rt, alloc, &shown, room, CHM)?;
+    }
+    Ok(())
+}
+
+#[test]
+fn edges_of_three_ends_in_a_bucket(rt: HostRuntime) -> Result<(), Fail> {
+    let alloc = rt.alloc();
+    let shown = Certificate {
+        algorithm: Algorithm::Brz,
+        seed: 0,
+        place: Some(InBucket {
+            split: 0,
+            bucket: 0,
+        }),
+        edges: Vec::from_slice(alloc, &[edge(1, Some(8)), edge(2, Some(8))])?,
+        equal: Vec::from_slice(alloc, &[Pair { first: 1, again: 2 }])?,
+    };
+    for room in 0..BRZ.len() + 1 {
+        check(&rt, alloc, &shown, room, BRZ)?;
+    }
+    Ok(())
+}
+
+#[test]
+fn greatest_numbers(rt: HostRuntime) -> Result<(), Fail> {
+    let alloc = rt.alloc();
+    let greatest = CoreEdge {
+        line: MOST,
+        first: MOST,
+        second: MOST,
+        third: Some(MOST),
+    };
+    let shown = Certificate {
+        algorithm: Algorithm::Brz,
+        seed: MOST,
+        place: Some(InBucket {
+            split: MOST,
+            bucket: MOST,
+        }),
+        edges: Vec::from_slice(alloc, &[greatest])?,
+        equal: Vec::from_slice(
+            alloc,
+            &[Pair {
+                first: MOST,
+                again: MOST,
+            }],
+        )?,
+    };
+    check(&rt, alloc, &shown, LONGEST.len(), LONGEST)?;
+    Ok(())
+}
+
+#[test]
+fn no_edges(rt: HostRuntime) -> Result<(), Fail> {
+    let alloc = rt.alloc();
+    let graph = empty(alloc, Algorithm::Chm, 1);
+    check(&rt, alloc, &graph, 100, "core chm seed 1 edges 0\n")?;
+    let ranked = empty(alloc, Algorithm::Bdz, 23);
+    check(&rt, alloc, &ranked, 100, "core bdz seed 23 edges 0\n")?;
+    let unranked = empty(alloc, Algorithm::BdzPh, MOST);
+    let text = "core bdz_ph seed 4294967295 edges 0\n";
+    check(&rt, alloc, &unranked, text.len(), text)?;
+    Ok(())
+}
+
+#[test]
+fn a_failed_line_is_the_last(rt: HostRuntime) -> Result<(), Fail> {
+    let alloc = rt.alloc();
+    let shown = Certificate {
+        algorithm: Algorithm::BdzPh,
+        seed: 3,
+        place: None,
+        edges: Vec::from_slice(alloc, &[edge(1, Some(8)), edge(2, Some(8))])?,
+        equal: Vec::from_slice(alloc, &[Pair { first: 1, again: 2 }])?,
+    };
+    for (call, text) in [
+        (0, ""),
+        (1, "core bdz_ph seed 3 edges 2\n"),
+        (2, "core bdz_ph seed 3 edges 2\nedge 1 2 5 8\n"),
+        (
+            3,
+            "core bdz_ph seed 3 edges 2\nedge 1 2 5 8\nedge 2 2 5 8\n",
+        ),
+    ] {
+        let mut out = MemSink::new(alloc, 1000, Vec::from_slice(alloc, &[call])?)?;
+        assert_eq!(rt; shown.write(&mut out), Err(Failed));
+        assert_eq!(rt; out.bytes(), text.as_bytes());
+    }
+    Ok(())
+}
