@@ -92,7 +92,9 @@ impl Taken {
         });
     }
 
-    /// Takes the next key of a pass, where it is at hand. Where it isn't, the keys and the pass stay as they are.
+    /// Takes the next key of a pass, where it is at hand. Where it isn't, the keys and the pass stay as they are. It runs
+    /// for each key, so it is inlined into each caller.
+    #[inline(always)]
     fn take_next<A: Answers, P: KeyPass>(&mut self, function: &A, keys: &mut P) -> bool
         requires usable { IsTrue (P.usable keys.old) }
         requires few { length self.old.spots < MOST }
