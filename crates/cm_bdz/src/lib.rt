@@ -8,8 +8,6 @@ mod choice;
 pub mod examples;
 mod laws;
 mod scheme;
-#[cfg(test)]
-mod tests;
 
 pub use crate::bdz::{Bdz, PartsFault};
 pub use crate::bdz_ph::BdzPh;

@@ -5,8 +5,6 @@ mod answers;
 mod chm;
 mod laws;
 mod scheme;
-#[cfg(test)]
-mod tests;
 
 pub use crate::chm::Chm;
 pub use crate::laws::answers_numbers;

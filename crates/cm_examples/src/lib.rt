@@ -1,8 +1,14 @@
-//! Worked examples of the base crates, as tests: rows from outside, and what their public calls show.
+//! Worked examples of the crates below the program, as tests: rows from outside, and what their public calls show.
 #![tactic(auto)]
 
 #[cfg(test)]
+mod bdz;
+#[cfg(test)]
 mod bits;
+#[cfg(test)]
+mod chm;
+#[cfg(test)]
+mod command_lines;
 #[cfg(test)]
 mod divisor;
 #[cfg(test)]
@@ -14,4 +20,8 @@ mod lookup2;
 #[cfg(test)]
 mod peeling;
 #[cfg(test)]
+mod queries;
+#[cfg(test)]
 mod ranks;
+#[cfg(test)]
+mod values;

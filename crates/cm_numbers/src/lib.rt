@@ -4,8 +4,6 @@
 mod fault;
 mod numbers;
 mod options;
-#[cfg(test)]
-mod tests;
 
 pub use fault::BadValue;
 pub use numbers::{millionths, whole};

@@ -9,8 +9,6 @@ mod laws;
 mod marks;
 mod taken;
 mod tally;
-#[cfg(test)]
-mod tests;
 mod writing;
 
 pub use crate::answering::query;

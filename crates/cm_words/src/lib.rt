@@ -6,8 +6,6 @@ pub mod examples;
 mod fault;
 mod jobs;
 mod reading;
-#[cfg(test)]
-mod tests;
 mod texts;
 mod values;
 

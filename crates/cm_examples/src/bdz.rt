@@ -2,7 +2,7 @@ ghost use Rattle.std.specs.Prelude.{◌≡◌, ◌≤◌, length, IfOk};
 ghost use Rattle.cm_spec.specs.Bdz.{bdz_size};
 ghost use Rattle.cm_spec.specs.Rule.{IsRatio};
 
-use crate::{Bdz, BdzPh, PartsFault, answers_apart, chosen};
+use cm_bdz::{Bdz, BdzPh, PartsFault, answers_apart, chosen};
 use cm_bits::{Cells, Crumbs, Trits};
 use cm_scheme::{Answers, Built, answer};
 use std::alloc::{AllocError, Global};

@@ -1,7 +1,7 @@
 ghost use Rattle.std.specs.Prelude.{◌<◌, ◌≤◌, None, length};
 
-use crate::{QueryFault, Tally, front_of_text, noted_exactly, query, worked_rows};
 use cm_outer::{KeyBuf, KeyFault, KeyPass, MAX_KEY_LEN, MAX_KEYS, MemSink, Notes};
+use cm_query::{QueryFault, Tally, front_of_text, noted_exactly, query, worked_rows};
 use cm_scheme::{Answers, Place};
 use std::alloc::{AllocError, Global};
 use std::process::Abort;

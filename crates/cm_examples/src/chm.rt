@@ -3,8 +3,8 @@ ghost use Rattle.std.specs.Option.{ForSome};
 ghost use Rattle.cm_spec.specs.Chm.{chm_size};
 ghost use Rattle.cm_spec.specs.Rule.{IsRatio};
 
-use crate::{Chm, answers_numbers};
 use cm_bits::{Cells, Fields};
+use cm_chm::{Chm, answers_numbers};
 use cm_scheme::{Answers, Built, answer};
 use std::alloc::{AllocError, Global};
 use std::test::Fail;

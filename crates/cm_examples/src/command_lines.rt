@@ -2,8 +2,8 @@ ghost use Rattle.std.specs.Prelude.{IfOk};
 ghost use Rattle.std.specs.Option.{ForSome};
 ghost use Rattle.cm_words.specs.Limits.{IsBuild, IsJob};
 
-use crate::{BuildJob, Job, UsageFault, read_words};
 use cm_algorithm::Algorithm;
+use cm_words::{BuildJob, Job, UsageFault, read_words};
 use std::alloc::{AllocError, Global};
 use std::test::Fail;
 

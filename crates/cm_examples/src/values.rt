@@ -1,8 +1,8 @@
-use crate::{
+use cm_algorithm::Algorithm;
+use cm_numbers::{
     BadValue, algorithm, bits, buffer, count, first, hash, millionths, number, optional, ratio,
     seed, whole,
 };
-use cm_algorithm::Algorithm;
 use std::test::Fail;
 
 #[test]
