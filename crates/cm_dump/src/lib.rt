@@ -2,8 +2,6 @@
 #![tactic(auto)]
 
 mod answers;
-#[cfg(test)]
-mod bdz_tests;
 mod bulk;
 pub mod examples;
 mod fault;
@@ -13,8 +11,6 @@ mod items;
 pub mod laws;
 mod ranks;
 mod reader;
-#[cfg(test)]
-mod tests;
 mod writer;
 
 pub use crate::fault::LoadFault;

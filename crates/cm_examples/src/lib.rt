@@ -12,11 +12,17 @@ mod command_lines;
 #[cfg(test)]
 mod divisor;
 #[cfg(test)]
+mod dumps;
+#[cfg(test)]
+mod dumps_of_bdz;
+#[cfg(test)]
 mod graph;
 #[cfg(test)]
 mod keys;
 #[cfg(test)]
 mod lookup2;
+#[cfg(test)]
+mod memory;
 #[cfg(test)]
 mod peeling;
 #[cfg(test)]

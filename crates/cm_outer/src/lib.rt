@@ -16,8 +16,6 @@ mod notes;
 mod sink;
 mod source;
 mod spill;
-#[cfg(test)]
-mod tests;
 
 pub use disk::Disk;
 pub use disk_call::DiskCall;

@@ -1,7 +1,7 @@
 ghost use Rattle.std.specs.Prelude.{◌≡◌, IfOk};
 
-use crate::{Func, LoadFault, load, save, saved_len};
 use cm_bits::Cells;
+use cm_dump::{Func, LoadFault, load, save, saved_len};
 use cm_outer::{MemSink, MemSource};
 use cm_scheme::{Answers, answer};
 use std::alloc::{AllocError, Global};

@@ -1,5 +1,5 @@
 use Rattle.cm_outer.specs.FilesLaws.{is_there}
-use Rattle.cm_outer.proofs.tests.store.Goals as goal
+use Rattle.cm_examples.proofs.memory.store.Goals as goal
 
 pub close-requires : goal.close-requires
 close-requires g c = record { there = is_there _ _ _ _ c.in_ok-writer.ensures.files }

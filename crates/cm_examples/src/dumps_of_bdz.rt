@@ -1,6 +1,6 @@
-use crate::tests::{BDZ_ONE, BDZ_TWO, changed, fault_of, is_saved_again, source_of};
-use crate::{Func, LoadFault, load};
+use crate::dumps::{BDZ_ONE, BDZ_TWO, changed, fault_of, is_saved_again, source_of};
 use cm_bits::Cells;
+use cm_dump::{Func, LoadFault, load};
 use std::alloc::{AllocError, Global};
 use std::test::Fail;
 
