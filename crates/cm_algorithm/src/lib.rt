@@ -2,7 +2,5 @@
 #![tactic(auto)]
 
 mod algorithm;
-#[cfg(test)]
-mod tests;
 
 pub use crate::algorithm::Algorithm;

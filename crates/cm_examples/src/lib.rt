@@ -1,4 +1,4 @@
-//! Worked examples of the crates below the program, as tests: rows from outside, and what their public calls show.
+//! Worked examples of the other crates, as tests: rows from outside, and what their public calls show.
 #![tactic(auto)]
 
 #[cfg(test)]
@@ -16,6 +16,8 @@ mod dumps;
 #[cfg(test)]
 mod dumps_of_bdz;
 #[cfg(test)]
+mod files;
+#[cfg(test)]
 mod graph;
 #[cfg(test)]
 mod keys;
@@ -23,6 +25,8 @@ mod keys;
 mod lookup2;
 #[cfg(test)]
 mod memory;
+#[cfg(test)]
+mod names;
 #[cfg(test)]
 mod peeling;
 #[cfg(test)]

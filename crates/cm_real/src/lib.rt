@@ -4,8 +4,6 @@
 mod file_disk;
 mod file_spill;
 mod std_sink;
-#[cfg(test)]
-mod tests;
 
 pub use file_disk::{FileDisk, FileReader};
 pub use file_spill::FileSpill;

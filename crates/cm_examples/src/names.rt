@@ -1,4 +1,4 @@
-use crate::Algorithm;
+use cm_algorithm::Algorithm;
 use std::test::Fail;
 
 /// The four words, each with its algorithm.

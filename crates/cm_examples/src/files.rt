@@ -1,5 +1,5 @@
-use crate::{FileDisk, StdSink};
 use cm_outer::{Disk, DiskFault, Failed, Sink, Source, Spill, write_pieces};
+use cm_real::{FileDisk, StdSink};
 use std::alloc::{AllocGlobal, Global};
 use std::fs;
 use std::rt::Files;
