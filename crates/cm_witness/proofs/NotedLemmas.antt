@@ -3,12 +3,13 @@ use Rattle.std.proofs.Common.{◌≡◌, ◌∙◌, ℕ, ◌+◌, ◌<◌, ◌�
 use Rattle.std.proofs.lemmas.Bool.{cases_Bool, cond-true, cond-false}
 use Rattle.std.proofs.lemmas.Cmp.{eq_by_cmp_equiv, nat_list_cmp_total}
 use Rattle.std.proofs.lemmas.List.{get_or-map, length-map, take_all, take_more}
+use Rattle.std.proofs.lemmas.List.Elements.{Contains-append_right, Contains-get_or}
 use Rattle.std.proofs.lemmas.Map.Text.{is_eq-slice_cmp}
 use Rattle.std.proofs.lemmas.Slice.Eq.{bytes_eq-Decides}
 use Rattle.std.proofs.lemmas.Slice.Zip.{get_or-zip, length-zip}
 use Rattle.std.specs.BTreeMap as tree
 use Rattle.std.specs.Cmp.Lexicographic.{slice_cmp}
-use Rattle.std.specs.List.{zip}
+use Rattle.std.specs.List.{Contains, zip}
 use Rattle.std.specs.Map.{lookup, IsKeyTest, AreApart, KeepsOthers}
 use Rattle.cm_witness.specs.Noted.{AreNoted, noted_in, with_lines}
 use Rattle.cm_witness.specs.Pairs.{first_line, pairs, pairs_after, with_pair}
@@ -100,13 +101,22 @@ with_pair-append : (first : Option ℕ) (line : ℕ) (found more : List Pair) �
 with_pair-append None line found more = refl
 with_pair-append (Some first) line found more = refl
 
--- the pairs of one key more
-pairs_after-push : (earlier keys : List (ℕ × List ℕ)) (k : ℕ × List ℕ) → pairs_after earlier (keys ++ k ∷ []) ≡ pairs_after earlier keys ++ with_pair (first_line (earlier ++ keys) k.1) k.0 []
-pairs_after-push earlier [] k = ap (λ (l : List (ℕ × List ℕ)). with_pair (first_line l k.1) k.0 []) (sym (append-nil earlier))
-pairs_after-push earlier (j ∷ keys) k =
-    ap (λ (l : List Pair). with_pair (first_line earlier j.1) j.0 l) (pairs_after-push (earlier ++ j ∷ []) keys k
-    ∙ ap (λ (l : List (ℕ × List ℕ)). pairs_after (earlier ++ j ∷ []) keys ++ with_pair (first_line l k.1) k.0 []) (append_assoc earlier (j ∷ []) keys))
+-- the pairs of some keys and then of others
+pairs_after-append : (earlier keys more : List (ℕ × List ℕ)) → pairs_after earlier (keys ++ more) ≡ pairs_after earlier keys ++ pairs_after (earlier ++ keys) more
+pairs_after-append earlier [] more = ap (λ (l : List (ℕ × List ℕ)). pairs_after l more) (sym (append-nil earlier))
+pairs_after-append earlier (j ∷ keys) more =
+    ap (λ (l : List Pair). with_pair (first_line earlier j.1) j.0 l) (pairs_after-append (earlier ++ j ∷ []) keys more
+    ∙ ap (λ (l : List (ℕ × List ℕ)). pairs_after (earlier ++ j ∷ []) keys ++ pairs_after l more) (append_assoc earlier (j ∷ []) keys))
     ∙ with_pair-append (first_line earlier j.1) j.0 (pairs_after (earlier ++ j ∷ []) keys) _
+
+-- a later line of a key is paired with the first
+pub later_paired : (before after : List (ℕ × List ℕ)) (k : ℕ × List ℕ) (first : ℕ) → first_line before k.1 ≡ Some first → Contains (pairs (before ++ k ∷ after)) (record { first = first; again = k.0 })
+later_paired before after k first is =
+    let pair : Pair = record { first = first; again = k.0 } in
+    let more = pairs_after (before ++ k ∷ []) after in
+    let whole : pairs (before ++ k ∷ after) ≡ pairs before ++ pair ∷ more =
+    pairs_after-append [] before (k ∷ after) ∙ ap (λ (o : Option ℕ). pairs before ++ with_pair o k.0 more) is in
+    rw whole (Contains-append_right (pairs before) (pair ∷ more) pair (Contains-get_or (pair ∷ more) 0 pair (omega arith)))
 
 -- one key more is noted, and its pair is there if an equal one was noted before
 pub noted_more : (earlier noted noted' : List (ℕ × List ℕ)) (found found' : List Pair) (line : ℕ) (key : List ℕ)
@@ -122,7 +132,7 @@ noted_more earlier noted noted' found found' line key are finds paired = record 
   paired = paired
       ∙ ap (λ (l : List Pair). l ++ with_pair (first_line noted key) line []) are.paired
       ∙ ap (λ (o : Option ℕ). pairs earlier ++ with_pair o line []) (are.finds key)
-      ∙ sym (pairs_after-push [] earlier (line, key));
+      ∙ sym (pairs_after-append [] earlier ((line, key) ∷ []));
 }
 
 -- the keys before the next place

@@ -3,3 +3,4 @@ pub mod Cores
 pub mod Noted
 pub mod Gathers
 pub mod Reports
+pub mod Examples

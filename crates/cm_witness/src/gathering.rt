@@ -3,7 +3,7 @@ ghost use Rattle.std.specs.Prelude.{◌≡◌, ◌<◌, ◌≤◌, ◌+◌, ℕ,
 ghost use Rattle.std.specs.List.Sorted.{IsStrictlyIncreasing};
 ghost use Rattle.std.specs.Option.{ForSome};
 ghost use Rattle.cm_outer.specs.Passes.{HasKeyCause, GivesKey};
-ghost use Rattle.cm_witness.specs.Cores.{core_edge as core_edge_of, core_edges, keys_at};
+ghost use Rattle.cm_witness.specs.Cores.{EqualKeysMeet, core_edge as core_edge_of, core_edges, keys_at};
 ghost use Rattle.cm_witness.specs.Gathers.{FailsGather, HasGatherCause, HasOther, ends_of, has_buckets, has_third};
 ghost use Rattle.cm_witness.specs.Pairs.{pairs};
 ghost use Rattle.cm_witness.specs.declared.certificate.GatherFault.TheVariants as gather_fault;
@@ -127,6 +127,7 @@ pub fn gather<P: KeyPass, const K: usize>(
     requires place { is_some place ≡ has_buckets algorithm }
     requires rising { IsStrictlyIncreasing rest.now }
     requires inside { All (λ e. e < length edges.now.edges) rest.now }
+    requires equal_keys { ForSome (P.told keys.old) (λ told. EqualKeysMeet told.keys edges.now.edges) }
 
     // Whatever the pass tells.
     ensures told { P.told keys.new ≡ P.told keys.old }

@@ -6,6 +6,7 @@ mod firsts;
 #[cfg(test)]
 mod gather_tests;
 mod gathering;
+pub mod laws;
 mod report;
 #[cfg(test)]
 mod tests;
