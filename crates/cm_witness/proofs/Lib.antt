@@ -1,3 +1,5 @@
 mod GatherLemmas
 mod NotedLemmas
+mod KeptLemmas
 mod LineLemmas
+mod MarkLemmas

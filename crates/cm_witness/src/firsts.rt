@@ -54,20 +54,33 @@ impl Firsts {
     }
 }
 
-/// Notes a key with its line, and adds a pair where an equal key was noted before.
-pub(crate) fn note_key(
-    alloc: Global,
-    firsts: &mut Firsts,
-    equal: &mut Vec<Pair>,
-    line: u32,
-    key: &[u8],
-) -> Result<(), AllocError>
-    ensures { (earlier : List (ℕ × List ℕ)) → AreNoted earlier firsts.old equal.old.items → OnOk result (AreNoted (earlier ++ (line, key.now) ∷ []) firsts.new equal.new.items) }
-{
-    if let Some(first) = firsts.note(alloc, line, key)? {
-        equal.push(Pair { first, again: line })?;
+/// Keys noted so far, and the equal ones among them.
+#[derive(Drop)]
+pub(crate) struct EqualKeys {
+    pub(crate) firsts: Firsts,
+    pub(crate) pairs: Vec<Pair>,
+}
+
+impl EqualKeys {
+    /// No keys.
+    pub(crate) fn new(alloc: Global) -> EqualKeys
+        ensures none { AreNoted [] result.firsts result.pairs.items }
+    {
+        EqualKeys {
+            firsts: Firsts::new(alloc),
+            pairs: Vec::new(alloc),
+        }
     }
-    Ok(())
+
+    /// Notes a key with its line, and adds a pair where an equal key was noted before.
+    pub(crate) fn note(&mut self, alloc: Global, line: u32, key: &[u8]) -> Result<(), AllocError>
+        ensures { (earlier : List (ℕ × List ℕ)) → AreNoted earlier self.old.firsts self.old.pairs.items → OnOk result (AreNoted (earlier ++ (line, key.now) ∷ []) self.new.firsts self.new.pairs.items) }
+    {
+        if let Some(first) = self.firsts.note(alloc, line, key)? {
+            self.pairs.push(Pair { first, again: line })?;
+        }
+        Ok(())
+    }
 }
 
 /// The equal ones among keys with their lines, as the first line that has the key and a later one, in the order of the later ones.
@@ -75,10 +88,9 @@ pub fn equal_pairs(alloc: Global, lines: &[u32], keys: &[Vec<u8>]) -> Result<Vec
     requires long { length lines.now ≡ length keys.now }
     ensures pairs { IfOk result (λ found. found.items ≡ pairs (with_lines lines.now keys.now)) }
 {
-    let mut firsts = Firsts::new(alloc);
-    let mut equal = Vec::new(alloc);
+    let mut equal = EqualKeys::new(alloc);
     for (i, key) in keys.iter().enumerate() {
-        note_key(alloc, &mut firsts, &mut equal, lines[i], key)?;
+        equal.note(alloc, lines[i], key)?;
     }
-    Ok(equal)
+    Ok(equal.pairs)
 }

@@ -1,5 +1,6 @@
 ghost use Rattle.std.specs.Prelude.{◌<◌, ◌≤◌, None, length};
 
+use crate::candidates::Candidates;
 use crate::{Algorithm, CoreEdge, GatherFault, Pair, equal_pairs, gather};
 use cm_graph::Edges;
 use cm_outer::{KeyBuf, KeyFault, KeyPass, MAX_KEY_LEN, MAX_KEYS};
@@ -51,6 +52,25 @@ fn equal_keys(rt: HostRuntime) -> Result<(), Fail> {
         &[b"b", b"", b"a", b"", b"b"],
         &[pair(2, 4), pair(1, 5)],
     )?;
+    Ok(())
+}
+
+/// Among different edges few are candidates, and among those that are there twice each is.
+#[test]
+fn candidates(rt: HostRuntime) -> Result<(), Fail> {
+    let mut table = Candidates::new(rt.alloc(), 1000)?;
+    for i in 0..1000 {
+        table.mark([i, i + 1]);
+    }
+    let mut few = 0u32;
+    for i in 0..1000 {
+        few = few.saturating_add(table.twice([i, i + 1]) as u32);
+    }
+    assert!(rt; few < 30);
+    for i in 0..1000 {
+        table.mark([i, i + 1]);
+        assert!(rt; table.twice([i, i + 1]));
+    }
     Ok(())
 }
 

@@ -5,11 +5,13 @@ ghost use Rattle.std.specs.Option.{ForSome};
 ghost use Rattle.cm_outer.specs.Passes.{HasKeyCause, GivesKey};
 ghost use Rattle.cm_witness.specs.Cores.{EqualKeysMeet, core_edge as core_edge_of, core_edges, keys_at};
 ghost use Rattle.cm_witness.specs.Gathers.{FailsGather, HasGatherCause, HasOther, ends_of, has_buckets, has_third};
+ghost use Rattle.cm_witness.specs.Noted.{TakesKey};
 ghost use Rattle.cm_witness.specs.Pairs.{pairs};
 ghost use Rattle.cm_witness.specs.declared.certificate.GatherFault.TheVariants as gather_fault;
 
+use crate::candidates::Candidates;
 use crate::certificate::{Certificate, CoreEdge, GatherFault, InBucket};
-use crate::firsts::{Firsts, note_key};
+use crate::firsts::EqualKeys;
 use cm_algorithm::Algorithm;
 use cm_graph::Edges;
 use cm_outer::{KeyBuf, KeyFault, KeyPass};
@@ -36,7 +38,7 @@ impl From<AllocError> for GatherFault {
 fn pass_next<P: KeyPass>(keys: &mut P, key: &mut KeyBuf) -> Result<bool, KeyFault>
     requires usable { IsTrue (P.usable keys.old) }
     ensures told { P.told keys.new ≡ P.told keys.old }
-    ensures gives { ForSome (P.told keys.old) (λ told. (next : ℕ × List ℕ) × GivesKey told (P.place keys.old) (P.place keys.new) next.0 next.1 result) }
+    ensures gives { ForSome (P.told keys.old) (λ told. (next : List ℕ) × GivesKey told (P.place keys.old) (P.place keys.new) (P.last keys.new) next result) }
     ensures cause { HasKeyCause (P.faults keys.old) (P.faults keys.new) result }
     ensures counts { IfOk result (λ more. P.place keys.new ≡ P.place keys.old + (if more then 1 else 0)) }
     ensures usable { OnOk result (P.usable keys.new ≡ true) }
@@ -98,6 +100,55 @@ fn read_key<P: KeyPass>(keys: &mut P, key: &mut KeyBuf, e: u32, m: u32) -> Resul
     Ok(keys.line())
 }
 
+/// Passes the next key, which is that at place `e` of `m` in all, and returns its line. The buffer is for its use.
+fn pass_key<P: KeyPass>(keys: &mut P, key: &mut KeyBuf, e: u32, m: u32) -> Result<u32, GatherFault>
+    requires usable { IsTrue (P.usable keys.old) }
+    requires at { P.place keys.old ≡ e }
+    requires within { e < m }
+    ensures told { P.told keys.new ≡ P.told keys.old }
+    ensures cause { HasGatherCause (P.faults keys.old) (P.faults keys.new) result }
+    ensures usable { OnOk result (P.usable keys.new ≡ true) }
+    ensures at { OnOk result (P.place keys.new ≡ e + 1) }
+    ensures gives { IfOk result (λ line. ForSome (P.told keys.old) (λ told. (next : List ℕ) × GivesKey told (P.place keys.old) (P.place keys.new) line next (Ok true))) }
+    ensures changed { IfErr result (HasOther m (P.place keys.new)) }
+    ensures fault { IfErr result (λ fault. ForSome (P.told keys.old) (λ told. FailsGather told m fault)) }
+{
+    if !pass_next(keys, key)? {
+        return Err(GatherFault::Changed { first: m, now: e });
+    }
+    Ok(keys.line())
+}
+
+/// Passes the next key, which is that at place `e` of `m` in all, and returns its line. A candidate is noted. The buffer is for its
+/// use.
+fn take_key<P: KeyPass>(
+    alloc: Global,
+    keys: &mut P,
+    key: &mut KeyBuf,
+    e: u32,
+    m: u32,
+    candidate: bool,
+    equal: &mut EqualKeys,
+) -> Result<u32, GatherFault>
+    requires usable { IsTrue (P.usable keys.old) }
+    requires at { P.place keys.old ≡ e }
+    requires within { e < m }
+    ensures told { P.told keys.new ≡ P.told keys.old }
+    ensures cause { HasGatherCause (P.faults keys.old) (P.faults keys.new) result }
+    ensures usable { OnOk result (P.usable keys.new ≡ true) }
+    ensures at { OnOk result (P.place keys.new ≡ e + 1) }
+    ensures gives { IfOk result (λ line. ForSome (P.told keys.old) (λ told. TakesKey told.keys e line candidate equal.old.firsts equal.old.pairs.items equal.new.firsts equal.new.pairs.items)) }
+    ensures changed { IfErr result (HasOther m (P.place keys.new)) }
+    ensures fault { IfErr result (λ fault. ForSome (P.told keys.old) (λ told. FailsGather told m fault)) }
+{
+    if !candidate {
+        return pass_key(keys, key, e, m);
+    }
+    let line = read_key(keys, key, e, m)?;
+    equal.note(alloc, line, key)?;
+    Ok(line)
+}
+
 /// The edge of a key that stands in this line.
 fn core_edge<const K: usize>(line: u32, ends: [u32; K]) -> CoreEdge
     requires width { (2 ≤ K) × (K ≤ 3) }
@@ -113,7 +164,9 @@ fn core_edge<const K: usize>(line: u32, ends: [u32; K]) -> CoreEdge
 }
 
 /// The certificate of the edges at the places `rest`, which are those of a 2-core, from one pass over all keys: one for each edge.
-/// Of the keys it keeps those at these places, equal ones once. Fails as `Changed` where there are fewer keys than edges, or more.
+/// Of the keys at these places it keeps those that may equal another one there, equal ones once: those whose edge has the ends of
+/// another, and few others. To tell which, it takes 4 bytes an edge of the core. Fails as `Changed` where there are fewer keys than
+/// edges, or more.
 pub fn gather<P: KeyPass, const K: usize>(
     alloc: Global,
     keys: &mut P,
@@ -147,17 +200,18 @@ pub fn gather<P: KeyPass, const K: usize>(
     ensures fault { IfErr result (λ fault. ForSome (P.told keys.old) (λ told. FailsGather told (length edges.now.edges) fault)) }
 {
     let m = edges.len();
-    let mut firsts = Firsts::new(alloc);
-    let mut equal = Vec::new(alloc);
+    let candidates = Candidates::among(alloc, edges, rest)?;
+    let mut equal = EqualKeys::new(alloc);
     let mut core = Vec::with_capacity(alloc, rest.len())?;
     let mut key = KeyBuf::new();
     keys.rewind()?;
     let mut given = 0;
     for e in rest {
         pass_keys(keys, &mut key, given, *e, m)?;
-        let line = read_key(keys, &mut key, *e, m)?;
-        note_key(alloc, &mut firsts, &mut equal, line, &key)?;
-        core.push_reserved(core_edge(line, edges.ends(*e)));
+        let ends = edges.ends(*e);
+        let candidate = candidates.twice(ends);
+        let line = take_key(alloc, keys, &mut key, *e, m, candidate, &mut equal)?;
+        core.push_reserved(core_edge(line, ends));
         given = *e + 1;
     }
     pass_keys(keys, &mut key, given, m, m)?;
@@ -172,6 +226,6 @@ pub fn gather<P: KeyPass, const K: usize>(
         seed,
         place,
         edges: core,
-        equal,
+        equal: equal.pairs,
     })
 }

@@ -10,7 +10,7 @@ loop-i-preserved c =
     let earlier = take i (with_lines c.args.lines.now c.args.keys.now) in
     let more = with_lines-more c.args.lines.now c.args.keys.now i c.index-keys-i.result c.requires.long c.loop-i-test.true c.index-keys-i.is in
     let is = ap (λ (l : List ℕ). earlier ++ (get_or c.args.lines.now i 0, l) ∷ []) c.deref.ensures.value in
-    subst (λ (l : List (ℕ × List ℕ)). AreNoted l c.note_key.new.firsts c.note_key.new.equal.items) (is ∙ sym more) (c.in_ok-note_key.ensures earlier c.loop-i.invariant)
+    subst (λ (l : List (ℕ × List ℕ)). AreNoted l c.note.new.self.firsts c.note.new.self.pairs.items) (is ∙ sym more) (c.in_ok-note.ensures earlier c.loop-i.invariant)
 
 pub returns : goal.returns
 returns c = record {

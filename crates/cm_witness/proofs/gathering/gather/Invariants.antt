@@ -3,6 +3,7 @@ use Rattle.std.specs.Option.{ForSome}
 use Rattle.cm_witness.specs.Cores.{core_edges, keys_at}
 use Rattle.cm_witness.specs.Gathers.{has_third}
 use Rattle.cm_witness.specs.Noted.{AreNoted}
+use Rattle.cm_witness.proofs.GatherLemmas.{candidates_in}
 use Rattle.cm_witness.proofs.gathering.gather.Given as goal
 
 abbrev pub invariant-loop-e : goal.invariant-loop-e
@@ -19,5 +20,5 @@ invariant-loop-e g l =
       count : length l.core.items ≡ l.e-index;
       third : All (λ e. is_some e.third ≡ has_third l.algorithm) l.core.items;
       edges : ForSome (P.told l.fn.keys) (λ told. l.core.items ≡ core_edges told.keys l.edges.edges (take l.e-index l.rest));
-      noted : ForSome (P.told l.fn.keys) (λ told. AreNoted (keys_at told.keys (take l.e-index l.rest)) l.firsts l.equal.items);
+      noted : ForSome (P.told l.fn.keys) (λ told. AreNoted (keys_at told.keys (candidates_in l.candidates-inside.words.items l.edges.edges (take l.e-index l.rest))) l.equal.firsts l.equal.pairs.items);
     }
