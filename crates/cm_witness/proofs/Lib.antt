@@ -3,3 +3,4 @@ mod NotedLemmas
 mod KeptLemmas
 mod LineLemmas
 mod MarkLemmas
+mod TableLemmas

@@ -96,6 +96,57 @@ found_again keys line first key found other =
     ∙ or_none (first_line keys other)))
     (cases_Bool (bytes_eq key other))
 
+-- what is found of a key in keys before others, and behind some where it is not
+pub found_before : (keys more : List (ℕ × List ℕ)) (key : List ℕ) (first : ℕ) → first_line keys key ≡ Some first → first_line (keys ++ more) key ≡ Some first
+found_before keys more key first is = first_line-append keys more key ∙ ap (λ (o : Option ℕ). or_else o (first_line more key)) is
+
+pub found_behind : (keys more : List (ℕ × List ℕ)) (key : List ℕ) → first_line keys key ≡ None → first_line (keys ++ more) key ≡ first_line more key
+found_behind keys more key none = first_line-append keys more key ∙ ap (λ (o : Option ℕ). or_else o (first_line more key)) none
+
+-- one key finds nothing of another
+alone_none : (line : ℕ) (key other : List ℕ) → bytes_eq key other ≡ false → first_line ((line, key) ∷ []) other ≡ None
+alone_none line key other differs = cond-false (bytes_eq key other) (Some line) None differs
+
+-- a new key may as well stand before others that differ from it
+pub noted_between : (keys more : List (ℕ × List ℕ)) (line : ℕ) (key : List ℕ) → first_line more key ≡ None → (other : List ℕ) → first_line ((keys ++ (line, key) ∷ []) ++ more) other ≡ first_line ((keys ++ more) ++ (line, key) ∷ []) other
+noted_between keys more line key none other =
+    let one = (line, key) ∷ [] in
+    let found = first_line keys other in
+    let swapped : or_else (first_line one other) (first_line more other) ≡ or_else (first_line more other) (first_line one other) = ⊎_elim
+    (λ (same : bytes_eq key other ≡ true).
+    let none_of : first_line more other ≡ None = ap (λ (l : List ℕ). first_line more l) (sym ((bytes_eq-Decides key other).0 same)) ∙ none in
+    ap (λ (o : Option ℕ). or_else (first_line one other) o) none_of
+    ∙ or_none (first_line one other)
+    ∙ sym (ap (λ (o : Option ℕ). or_else o (first_line one other)) none_of))
+    (λ (differs : bytes_eq key other ≡ false).
+    ap (λ (o : Option ℕ). or_else o (first_line more other)) (alone_none line key other differs)
+    ∙ sym (or_none (first_line more other))
+    ∙ sym (ap (λ (o : Option ℕ). or_else (first_line more other) o) (alone_none line key other differs)))
+    (cases_Bool (bytes_eq key other)) in
+    ap (λ (l : List (ℕ × List ℕ)). first_line l other) (append_assoc keys one more)
+    ∙ first_line-append keys (one ++ more) other
+    ∙ ap (λ (o : Option ℕ). or_else found o) (first_line-append one more other ∙ swapped ∙ sym (first_line-append more one other))
+    ∙ sym (first_line-append keys (more ++ one) other)
+    ∙ ap (λ (l : List (ℕ × List ℕ)). first_line l other) (sym (append_assoc keys more one))
+
+-- it stands behind all where it stands behind the last of them
+pub noted_behind : (keys more more' : List (ℕ × List ℕ)) (k : ℕ × List ℕ) (other : List ℕ) → first_line more' other ≡ first_line (more ++ k ∷ []) other → first_line (keys ++ more') other ≡ first_line ((keys ++ more) ++ k ∷ []) other
+noted_behind keys more more' k other is =
+    first_line-append keys more' other
+    ∙ ap (λ (o : Option ℕ). or_else (first_line keys other) o) is
+    ∙ sym (first_line-append keys (more ++ k ∷ []) other)
+    ∙ ap (λ (l : List (ℕ × List ℕ)). first_line l other) (sym (append_assoc keys more (k ∷ [])))
+
+-- and where one was noted, another one still isn't found
+pub still_none : (more more' : List (ℕ × List ℕ)) (line : ℕ) (key other : List ℕ) → first_line more' other ≡ first_line (more ++ (line, key) ∷ []) other → first_line more other ≡ None → (key ≡ other → ⊥) → first_line more' other ≡ None
+still_none more more' line key other is none differs =
+    is
+    ∙ found_behind more ((line, key) ∷ []) other none
+    ∙ ⊎_elim
+    (λ (same : bytes_eq key other ≡ true). absurd (differs ((bytes_eq-Decides key other).0 same)))
+    (λ (not : bytes_eq key other ≡ false). alone_none line key other not)
+    (cases_Bool (bytes_eq key other))
+
 -- a pair stands before all that come after it
 with_pair-append : (first : Option ℕ) (line : ℕ) (found more : List Pair) → with_pair first line (found ++ more) ≡ with_pair first line found ++ more
 with_pair-append None line found more = refl

@@ -3,6 +3,8 @@ use Rattle.std.specs.Prelude.{ℕ, List, [], ◌∷◌, ◌++◌, length, map, O
 use Rattle.cm_algorithm.specs.Names.{name_of}
 use Rattle.cm_algorithm.specs.declared.algorithm.Algorithm.{Algorithm}
 use Rattle.cm_outer.specs.Writing.{joined}
+use Rattle.cm_spec.specs.Rule.{Rule}
+use Rattle.cm_witness.specs.Cores.{edges_left, pairs_left}
 use Rattle.cm_witness.specs.declared.certificate.CoreEdge.{CoreEdge}
 use Rattle.cm_witness.specs.declared.certificate.InBucket.{InBucket}
 use Rattle.cm_witness.specs.declared.certificate.Pair.{Pair}
@@ -32,3 +34,7 @@ pair_line p = joined (codes "equal " ∷ decimal p.first ∷ codes " " ∷ decim
 -- the whole text: the first line, those of the edges and those of the pairs
 abbrev pub report_text : Algorithm → Option InBucket → ℕ → List CoreEdge → List Pair → List ℕ
 report_text algorithm place seed edges equal = head_line algorithm place seed (length edges) ++ (joined (map edge_line edges) ++ joined (map pair_line equal))
+
+-- that of what peeling leaves of the graph of keys under a seed
+abbrev pub core_report : Algorithm → Rule → List (ℕ × List ℕ) → ℕ → ℕ → List ℕ
+core_report algorithm r keys c seed = report_text algorithm None seed (edges_left r keys c seed) (pairs_left r keys c seed)

@@ -7,10 +7,10 @@ use std::alloc::{AllocError, Global};
 use std::marker::Model;
 
 /// An odd number whose bits are irregular, of the golden ratio.
-const FACTOR: u64 = 0x9e37_79b9_7f4a_7c15;
+pub(crate) const FACTOR: u64 = 0x9e37_79b9_7f4a_7c15;
 
 /// How many words a table has at most: the upper half of a mixed number chooses among them.
-const MAX_WORDS: usize = 1 << 32;
+pub(crate) const MAX_WORDS: usize = 1 << 32;
 
 /// 64 bits of a table: a bit of `once` is set where an edge hit it, and of `twice` where another one did too.
 #[derive(Clone, Copy)]
@@ -121,5 +121,20 @@ impl Candidates {
     {
         let (word, bits) = slot_of(ends, self.words.len());
         self.words[word].twice & bits == bits
+    }
+
+    /// How many of the edges at these places may have been marked twice.
+    pub(crate) fn count<const K: usize>(&self, edges: &Edges<K>, places: &[u32]) -> usize
+        requires width { (2 ≤ K) × (K ≤ 3) }
+        requires inside { All (λ e. e < length edges.now.edges) places.now }
+        ensures few { result ≤ length places.now }
+    {
+        let mut count = 0;
+        for place in places {
+            if self.twice(edges.ends(*place)) {
+                count += 1;
+            }
+        }
+        count
     }
 }

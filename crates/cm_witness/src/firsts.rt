@@ -4,34 +4,42 @@ ghost use Rattle.cm_witness.specs.Pairs.{first_line, pairs};
 ghost use Rattle.cm_witness.specs.Noted.{AreNoted, with_lines};
 
 use crate::certificate::Pair;
+use crate::table::Table;
 use std::alloc::{AllocError, Global};
 use std::collections::BTreeMap;
 use std::marker::Model;
 
-/// The keys noted so far, each with the first line that has it. Clauses see the lines with their keys. The keys are in order, so
-/// that a lookup compares few of them, whatever they are.
+/// The keys noted so far, each with the first line that has it. Clauses see the lines with their keys. Most keys are in a table,
+/// where a lookup takes a few accesses. Those that the table doesn't take are in order, so that a lookup compares few of them,
+/// whatever they are.
 #[derive(Drop)]
 pub(crate) struct Firsts {
-    lines: BTreeMap<Vec<u8>, u32>,
+    table: Table,
+    rest: BTreeMap<Vec<u8>, u32>,
 }
 
 impl Model for Firsts {
-    ghost use Rattle.std.specs.Prelude.{ℕ, List};
+    ghost use Rattle.std.specs.Prelude.{◌≡◌, ◌++◌, None, ℕ, List};
     ghost use Rattle.cm_witness.specs.Noted.{noted_in};
+    ghost use Rattle.cm_witness.specs.Pairs.{first_line};
+    ghost use Rattle.cm_witness.specs.Tables.{Takes};
 
     ghost Value = { List (ℕ × List ℕ) };
 
-    ghost view = { λ f. noted_in f.lines.entries };
+    ghost view = { λ f. f.table.keys ++ noted_in f.rest.entries };
+
+    ghost invariant = { λ f. (key : List ℕ) → Takes f.table key → first_line (noted_in f.rest.entries) key ≡ None };
 }
 
 impl Firsts {
-    /// No keys.
-    pub(crate) fn new(alloc: Global) -> Firsts
-        ensures none { result ≡ [] }
+    /// No keys, with room in the table for so many.
+    pub(crate) fn new(alloc: Global, keys: usize) -> Result<Firsts, AllocError>
+        ensures none { IfOk result (λ made. made ≡ []) }
     {
-        Firsts {
-            lines: BTreeMap::new(alloc),
-        }
+        Ok(Firsts {
+            table: Table::new(alloc, keys)?,
+            rest: BTreeMap::new(alloc),
+        })
     }
 
     /// Notes a key with its line, and returns the first line of an equal key noted before. The key is copied only where there is
@@ -46,10 +54,18 @@ impl Firsts {
         ensures noted { OnOk result ((other : List ℕ) → first_line self.new other ≡ first_line (self.old ++ (line, key.now) ∷ []) other) }
         ensures unchanged { OnErr result (self.new ≡ self.old) }
     {
-        if let Some(first) = self.lines.get(key) {
+        let slot = self.table.slot(key);
+        if self.table.takes(slot, key) {
+            self.table.add(slot, line, key)?;
+            return Ok(None);
+        }
+        if let Some(first) = self.table.line_of(slot, key) {
+            return Ok(Some(first));
+        }
+        if let Some(first) = self.rest.get(key) {
             return Ok(Some(*first));
         }
-        self.lines.insert(Vec::from_slice(alloc, key)?, line)?;
+        self.rest.insert(Vec::from_slice(alloc, key)?, line)?;
         Ok(None)
     }
 }
@@ -62,14 +78,14 @@ pub(crate) struct EqualKeys {
 }
 
 impl EqualKeys {
-    /// No keys.
-    pub(crate) fn new(alloc: Global) -> EqualKeys
-        ensures none { AreNoted [] result.firsts result.pairs.items }
+    /// No keys, with room for so many.
+    pub(crate) fn new(alloc: Global, keys: usize) -> Result<EqualKeys, AllocError>
+        ensures none { IfOk result (λ made. AreNoted [] made.firsts made.pairs.items) }
     {
-        EqualKeys {
-            firsts: Firsts::new(alloc),
+        Ok(EqualKeys {
+            firsts: Firsts::new(alloc, keys)?,
             pairs: Vec::new(alloc),
-        }
+        })
     }
 
     /// Notes a key with its line, and adds a pair where an equal key was noted before.
@@ -88,7 +104,7 @@ pub fn equal_pairs(alloc: Global, lines: &[u32], keys: &[Vec<u8>]) -> Result<Vec
     requires long { length lines.now ≡ length keys.now }
     ensures pairs { IfOk result (λ found. found.items ≡ pairs (with_lines lines.now keys.now)) }
 {
-    let mut equal = EqualKeys::new(alloc);
+    let mut equal = EqualKeys::new(alloc, keys.len())?;
     for (i, key) in keys.iter().enumerate() {
         equal.note(alloc, lines[i], key)?;
     }

@@ -165,8 +165,8 @@ fn core_edge<const K: usize>(line: u32, ends: [u32; K]) -> CoreEdge
 
 /// The certificate of the edges at the places `rest`, which are those of a 2-core, from one pass over all keys: one for each edge.
 /// Of the keys at these places it keeps those that may equal another one there, equal ones once: those whose edge has the ends of
-/// another, and few others. To tell which, it takes 4 bytes an edge of the core. Fails as `Changed` where there are fewer keys than
-/// edges, or more.
+/// another, and few others. To tell which, it takes 4 bytes an edge of the core; to find equal ones, 8 bytes for each of these keys,
+/// and 16 for each that is kept. Fails as `Changed` where there are fewer keys than edges, or more.
 pub fn gather<P: KeyPass, const K: usize>(
     alloc: Global,
     keys: &mut P,
@@ -201,7 +201,7 @@ pub fn gather<P: KeyPass, const K: usize>(
 {
     let m = edges.len();
     let candidates = Candidates::among(alloc, edges, rest)?;
-    let mut equal = EqualKeys::new(alloc);
+    let mut equal = EqualKeys::new(alloc, candidates.count(edges, rest))?;
     let mut core = Vec::with_capacity(alloc, rest.len())?;
     let mut key = KeyBuf::new();
     keys.rewind()?;

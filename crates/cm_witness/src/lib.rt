@@ -9,6 +9,7 @@ mod gather_tests;
 mod gathering;
 mod laws;
 mod report;
+mod table;
 #[cfg(test)]
 mod tests;
 

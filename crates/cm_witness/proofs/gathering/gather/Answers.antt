@@ -3,11 +3,11 @@ use Rattle.std.proofs.lemmas.List.{length_push, take_all}
 use Rattle.std.proofs.lemmas.List.Elements.{All-push, All-same}
 use Rattle.cm_witness.specs.Candidates.{FindsEqual, is_twice}
 use Rattle.cm_witness.specs.Cores.{core_edges}
-use Rattle.cm_witness.specs.Gathers.{FailsGather, has_third}
+use Rattle.cm_witness.specs.Gathers.{AreOthers, FailsGather, has_third}
 use Rattle.cm_witness.specs.declared.candidates.Hits.{Hits}
 use Rattle.cm_witness.specs.declared.certificate.CoreEdge.{CoreEdge}
 use Rattle.cm_witness.specs.declared.certificate.GatherFault.TheVariants.{Key}
-use Rattle.cm_witness.proofs.GatherLemmas.{edges_more, ended_at, handed_on, keys_more, pairs_all, refused_at_end}
+use Rattle.cm_witness.proofs.GatherLemmas.{edges_more, ended_at, handed_on, keys_more, more_than, pairs_all, refused_at_end}
 use Rattle.cm_witness.proofs.gathering.gather.Goals as goal
 
 pub returns-in_err-pass_keys-clause-fault : goal.returns-in_err-pass_keys-clause-fault
@@ -61,6 +61,13 @@ returns-in_err-next-clause-fault g c =
     handed_on c.from_residual-in_err-next.result (Key fault) _ c.from_residual-in_err-next.ensures.1
     (λ told is. refused_at_end told _ (P.place c.pass_keys-2.new.keys) (P.place c.next.new.self) (P.last c.next.new.self) c.next.new.key.items fault (c.in_ok-pass_keys-2.ensures.at ∙ c.len-m.ensures.count)
     (c.in_err-next.ensures.gives told (c.pass_keys-2.ensures.told ∙ (c.loop-e.invariant.same ∙ is))))
+
+pub returns-then-branch-clause-fault : goal.returns-then-branch-clause-fault
+returns-then-branch-clause-fault g c = λ told is.
+    let P = g.P.KeyPass in
+    subst (λ (m : ℕ). AreOthers told m (c.len-m.result + 1)) c.len-m.ensures.count
+    (more_than told c.len-m.result (P.place c.pass_keys-2.new.keys) (P.place c.next.new.self) (P.last c.next.new.self) c.next.new.key.items c.in_ok-next.field-0 c.in_ok-pass_keys-2.ensures.at c.if-branch.true
+    (c.in_ok-next.ensures.gives told (c.pass_keys-2.ensures.told ∙ (c.loop-e.invariant.same ∙ is))))
 
 pub returns-clause-edges : goal.returns-clause-edges
 returns-clause-edges g c = λ told is. c.loop-e.invariant.edges told is ∙ ap (core_edges told.keys c.args.edges.now.edges) (take_all c.loop-e.e-index c.args.rest.now (omega (arith, c.loop-e-test.false)))
