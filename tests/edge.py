@@ -28,6 +28,7 @@ CHM_ONE = bytes.fromhex("434d5048444d5031" "01000000" "01000000" "10e41f00" "000
 BDZ_ONE = bytes.fromhex("434d5048444d5031" "02070000" "01000000" "b0c41200" "00000000" "f3ff03" "00000000")
 BDZ_PH_TWO = bytes.fromhex("434d5048444d5031" "03000000" "02000000" "b0c41200" "00000000" "0000")
 TWO = b"\na\n"
+TWO_EQUAL = b"core chm seed 0 edges 2\nedge 1 4 1\nedge 2 4 1\nequal 1 2\n"
 TWO_ANSWERS = b" -> 0\na -> 1\n"
 
 CASES = []
@@ -149,13 +150,41 @@ def _(room):
     same("another function file", room.has("keys.mph"), False)
 
 
-@case("status 1: equal keys leave the older function file as it was")
+@case("status 1: equal keys are reported, and the older function file stays as it was")
 def _(room):
     room.put("keys", b"\n\n")
     room.put("keys.mph", b"older")
-    left = room.run("-g", "-s", "0", "-r", "1", "keys")
+    for words in [("-r", "1"), ()]:
+        ends(room.run("-g", "-s", "0", *words, "keys"), 1, TWO_EQUAL, said("no seed of the list gives an empty core"))
+    same("the function file", room.get("keys.mph"), b"older")
+
+
+@case("status 1: a report of many keys into a pipe and a file, before the message")
+def _(room):
+    count = 3000
+    room.put("keys", b"\n" * count)
+    report = b"core chm seed 0 edges %d\n" % count
+    report += b"".join(b"edge %d 2629 1366\n" % line for line in range(1, count + 1))
+    report += b"".join(b"equal 1 %d\n" % line for line in range(2, count + 1))
+    ends(room.run("-g", "-s", "0", "keys"), 1, report, said("no seed of the list gives an empty core"))
+    with open(room.path("both"), "wb") as file:
+        left = room.run("-g", "-s", "0", "keys", out=file, err=file)
     same("the status", left.status, 1)
-    same("standard error", left.err, said("no seed of the list gives an empty core"))
+    same("the file", room.get("both"), report + said("no seed of the list gives an empty core"))
+
+
+@case("a report into a full disk and a closed pipe: status 5, and the message of standard output")
+def _(room):
+    room.put("keys", b"\n\n")
+    room.put("keys.mph", b"older")
+    wanted = said("cannot write standard output")
+    with open("/dev/full", "wb") as file:
+        ends(room.run("-g", "-s", "0", "keys", out=file), 5, b"", wanted)
+    reading, writing = os.pipe()
+    os.close(reading)
+    ends(room.run("-g", "-s", "0", "keys", out=writing), 5, b"", wanted)
+    os.close(writing)
+    ends(room.run("-g", "-s", "0", "keys", before=closed(1)), 5, b"", wanted)
     same("the function file", room.get("keys.mph"), b"older")
 
 

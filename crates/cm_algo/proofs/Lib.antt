@@ -1,2 +1,4 @@
+pub mod Cored
+pub mod EqualKeys
 pub mod OneSeed
 pub mod Tags

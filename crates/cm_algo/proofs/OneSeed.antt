@@ -1,29 +1,16 @@
 -- One seed, and the list of them.
-use Rattle.std.proofs.Common.{◌≡◌, ◌≢◌, ◌⊎◌, ℕ, zero, suc, ◌+◌, ◌*◌, ◌<◌, ◌≤◌, Bool, true, false, List, [], ◌∷◌, length, map, get_or, Err, sym, refl, ap, ◌∙◌, subst, inl, inr, arith, Some, None, nat_eq}
+use Rattle.std.proofs.Common.{◌≡◌, ◌≢◌, ◌⊎◌, ℕ, zero, suc, ◌+◌, ◌*◌, ◌<◌, ◌≤◌, Bool, true, false, List, [], ◌∷◌, length, map, get_or, sym, refl, ap, ◌∙◌, subst, inl, inr, arith, Some, None, nat_eq}
 use Rattle.std.specs.Prelude.{find}
 use Rattle.std.proofs.Math.Nat.{mul-add, mul-le-mul_left}
 use Rattle.std.proofs.lemmas.Bool.{cases_lt, ne_eqb}
-use Rattle.cm_outer.specs.declared.key_pass.KeyFault.{KeyFault}
-use Rattle.cm_outer.specs.declared.key_pass.KeyFault.TheVariants.{Read, TooLong, TooMany}
-use Rattle.cm_algo.specs.Builds.{IsGiven, IsLeft}
-use Rattle.cm_algo.specs.Fails.{IsToldFault}
+use Rattle.std.proofs.lemmas.List.{length-map}
+use Rattle.cm_algo.specs.Builds.{IsGiven}
 use Rattle.cm_algo.proofs.Tags.{SameTags, cells_agree}
-use Rattle.cm_outer.specs.Passes.{Told, GivesKey}
 use Rattle.cm_spec.specs.Built.{edge_of, tag_of, graph_of, is_peeled, first_seed, IsFirst, AllCored}
 use Rattle.cm_peel.specs.CoreLaws.{empty_core, empty_rest}
 use Rattle.cm_spec.specs.Cells.{plan_of, cells_of}
 use Rattle.cm_spec.specs.Rounds.{rest_of}
 use Rattle.cm_spec.specs.Rule.{Rule}
-
--- a fault that a pass gave
-pub told_fault : (told : Told) (before now line : ℕ) (key : List ℕ) (fault : KeyFault) → GivesKey told before now line key (Err fault) → IsToldFault told fault
-told_fault told before now line key Read h = tt
-told_fault told before now line key (TooLong at) h = h.fault_is
-told_fault told before now line key TooMany h = h.fault_is
-
-length_map : {A B : Type 0} (f : A → B) (xs : List A) → length (map f xs) ≡ length xs
-length_map f [] = refl
-length_map f (x ∷ xs) = ap suc (length_map f xs)
 
 -- the graph of one seed
 pub record IsHashed (r : Rule) (keys : List (ℕ × List ℕ)) (m c seed : ℕ) (edges : List (List ℕ)) (tags : List ℕ) : Type 0 where
@@ -31,14 +18,17 @@ pub record IsHashed (r : Rule) (keys : List (ℕ × List ℕ)) (m c seed : ℕ) 
   pub edges_are : edges ≡ graph_of r keys c seed
   pub tags_are : SameTags tags (map (tag_of r seed) keys)
 
+pub graph_from : (r : Rule) (keys : List (ℕ × List ℕ)) (m c seed n : ℕ) (edges : List (List ℕ)) → n ≡ r.size m c → edges ≡ map (edge_of r n seed) keys → length edges ≡ m → edges ≡ graph_of r keys c seed
+graph_from r keys m c seed n edges size e long =
+    let many : m ≡ length keys = sym long ∙ (ap length e ∙ length-map keys (edge_of r n seed)) in
+    e ∙ (ap (λ k. map (edge_of r k seed) keys) size ∙ ap (λ k. map (edge_of r (r.size k c) seed) keys) many)
+
 pub hashed_from : (r : Rule) (keys : List (ℕ × List ℕ)) (m c seed n : ℕ) (edges : List (List ℕ)) (tags : List ℕ) → n ≡ r.size m c → edges ≡ map (edge_of r n seed) keys → SameTags tags (map (tag_of r seed) keys) → length edges ≡ m → IsHashed r keys m c seed edges tags
-hashed_from r keys m c seed n edges tags size e t long =
-    let many : m ≡ length keys = sym long ∙ (ap length e ∙ length_map (edge_of r n seed) keys) in
-    record {
-      many = many;
-      edges_are = e ∙ (ap (λ k. map (edge_of r k seed) keys) size ∙ ap (λ k. map (edge_of r (r.size k c) seed) keys) many);
-      tags_are = t;
-    }
+hashed_from r keys m c seed n edges tags size e t long = record {
+  many = sym long ∙ (ap length e ∙ length-map keys (edge_of r n seed));
+  edges_are = graph_from r keys m c seed n edges size e long;
+  tags_are = t;
+}
 
 pub given_from : (r : Rule) (keys : List (ℕ × List ℕ)) (m c seed n : ℕ) (edges : List (List ℕ)) (tags cells : List ℕ) → n ≡ r.size m c → IsHashed r keys m c seed edges tags → rest_of edges ≡ [] → cells ≡ cells_of (plan_of r n edges tags) → (m ≡ length keys) × IsGiven r keys c seed cells
 given_from r keys m c seed n edges tags cells size h none is = (
@@ -51,16 +41,9 @@ given_from r keys m c seed n edges tags cells size h none is = (
   ),
 )
 
-pub left_from : (r : Rule) (keys : List (ℕ × List ℕ)) (m c seed : ℕ) (edges : List (List ℕ)) (tags : List ℕ) → IsHashed r keys m c seed edges tags → rest_of edges ≢ [] → IsLeft r keys c seed
-left_from r keys m c seed edges tags h some e = some (ap rest_of h.edges_are ∙ e)
-
 pub no_keys : {A : Type 0} (xs : List A) → length xs ≡ 0 → xs ≡ []
 no_keys [] h = refl
 no_keys (x ∷ xs) h = absurd (omega arith)
-
-pub not_nil : (xs : List ℕ) → 0 < length xs → xs ≢ []
-not_nil [] h e = absurd (omega arith)
-not_nil (x ∷ xs) h e = absurd (let z : length (x ∷ xs) ≡ 0 = ap length e in omega arith)
 
 pub steps_more : (k m n s0 s t i : ℕ) → s ≤ s0 + 8 * (k * m) * i → t ≤ s + 8 * (k * m) → m ≡ n → t ≤ s0 + 8 * (k * n) * (i + 1)
 steps_more k m n s0 s t i a b e =
@@ -75,10 +58,8 @@ steps_err k m n s0 s t i len a b e l =
     let up : i + 1 ≤ len = omega arith in
     omega (arith, mul-le-mul_left (8 * (k * n)) up)
 
-pub steps_end : (k m n s0 s i len : ℕ) → s ≤ s0 + 8 * (k * m) * i → m ≡ n → i ≤ len → s ≤ s0 + 8 * (k * n) * len
-steps_end k m n s0 s i len a e l =
-    let same : s ≤ s0 + 8 * (k * n) * i = subst (λ (x : ℕ). s ≤ s0 + 8 * (k * x) * i) e a in
-    omega (arith, mul-le-mul_left (8 * (k * n)) l)
+pub steps_one : (k m n s0 t len : ℕ) → t ≤ s0 + 8 * (k * m) → m ≡ n → 0 < len → t ≤ s0 + 8 * (k * n) * len
+steps_one k m n s0 t len a e l = steps_err k m n s0 s0 t 0 len (omega arith) a e l
 
 -- one more seed that leaves a rest
 pub left_more : (P : ℕ → Type 0) (i j : ℕ) → ((j : ℕ) → j < i → P j) → P i → j < i + 1 → P j

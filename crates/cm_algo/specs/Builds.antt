@@ -1,5 +1,5 @@
 -- What a build over numbered keys gives.
-use Rattle.std.specs.Prelude.{◌≡◌, ◌≢◌, ℕ, ◌+◌, ◌*◌, ◌≤◌, List, [], length, Some}
+use Rattle.std.specs.Prelude.{◌≡◌, ℕ, ◌+◌, ◌*◌, ◌≤◌, List, [], length, Some}
 use Rattle.cm_spec.specs.Rounds.{rest_of}
 use Rattle.cm_spec.specs.Rule.{Rule}
 use Rattle.cm_spec.specs.Built.{graph_of, cells_under, first_seed, IsFirst}
@@ -7,10 +7,6 @@ use Rattle.cm_spec.specs.Built.{graph_of, cells_under, first_seed, IsFirst}
 -- one seed: peeling removes every edge, and these are the cells
 abbrev pub IsGiven : Rule → List (ℕ × List ℕ) → ℕ → ℕ → List ℕ → Type 0
 IsGiven r keys c seed cells = (rest_of (graph_of r keys c seed) ≡ []) × (cells ≡ cells_under r keys c seed)
-
--- one seed: peeling leaves a rest
-abbrev pub IsLeft : Rule → List (ℕ × List ℕ) → ℕ → ℕ → Type 0
-IsLeft r keys c seed = rest_of (graph_of r keys c seed) ≢ []
 
 -- a build took the first seed of a list with an empty 2-core and gave its cells, in at most 8 steps for each of an edge's k
 -- ends and each seed that it tried

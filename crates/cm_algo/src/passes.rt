@@ -5,14 +5,16 @@ ghost use Rattle.cm_outer.specs.Passes.{Told, HasKeyCause};
 ghost use Rattle.cm_spec.specs.Built.{edge_of, tag_of};
 ghost use Rattle.cm_spec.specs.Lookup2.{words as words_of};
 ghost use Rattle.cm_spec.specs.Rule.{IsCount, IsSize};
-ghost use Rattle.cm_algo.specs.Fails.{HasPassCause, IsToldFault, FailsPass, HasChanged};
+ghost use Rattle.cm_witness.specs.Gathers.{FailsGather, HasGatherCause, HasOther};
+ghost use Rattle.cm_witness.specs.declared.certificate.GatherFault.TheVariants as gather_fault;
+ghost use Rattle.cm_algo.specs.Fails.{IsToldFault};
 ghost use Rattle.cm_algo.specs.Hashed.{GivesWords};
 
-use crate::fault::PassFault;
 use cm_graph::Edges;
 use cm_lookup2::words;
 use cm_outer::{KeyBuf, KeyFault, KeyPass, MAX_KEYS};
 use cm_scheme::{Divisor, Scheme};
+use cm_witness::GatherFault;
 
 /// How many keys there are. The buffer is for its use.
 pub(crate) fn count_all<P: KeyPass>(keys: &mut P, key: &mut KeyBuf) -> Result<u32, KeyFault>
@@ -131,23 +133,23 @@ pub(crate) fn hash_all<S: Scheme<K>, P: KeyPass, const K: usize>(
     seed: u32,
     edges: &mut Edges<K>,
     tags: &mut Vec<u32>,
-) -> Result<(), PassFault>
+) -> Result<(), GatherFault>
     requires few { m ≤ 16777216 }
     requires room { m ≤ edges.old.room }
     requires tag_room { S.KEEPS_TAGS ≡ true → m ≤ vec_capacity tags.old }
     requires size { IsSize (S.rule scheme.now) edges.old.vertices }
     requires none { (edges.old.edges ≡ []) × (tags.old.items ≡ []) }
     ensures told { P.told keys.new ≡ P.told keys.old }
-    ensures cause { HasPassCause (P.faults keys.old) (P.faults keys.new) result }
+    ensures cause { HasGatherCause (P.faults keys.old) (P.faults keys.new) result }
     ensures vertices { edges.new.vertices ≡ edges.old.vertices }
     ensures long { OnOk result (length edges.new.edges ≡ m) }
     ensures tags_long { OnOk result (S.KEEPS_TAGS ≡ true → length tags.new.items ≡ m) }
     ensures edges { OnOk result (ForSome (P.told keys.old) (λ told. edges.new.edges ≡ map (edge_of (S.rule scheme.now) edges.old.vertices seed) told.keys)) }
     ensures tags { OnOk result (S.KEEPS_TAGS ≡ true → ForSome (P.told keys.old) (λ told. tags.new.items ≡ map (tag_of (S.rule scheme.now) seed) told.keys)) }
     ensures untagged { S.KEEPS_TAGS ≡ false → tags.new.items ≡ [] }
-    ensures memory { result ≢ Err PassFault.Memory }
-    ensures changed { IfErr result (HasChanged m (P.place keys.new)) }
-    ensures fault { IfErr result (λ e. ForSome (P.told keys.old) (λ told. FailsPass told m e)) }
+    ensures memory { result ≢ Err gather_fault.Memory }
+    ensures changed { IfErr result (HasOther m (P.place keys.new)) }
+    ensures fault { IfErr result (λ e. ForSome (P.told keys.old) (λ told. FailsGather told m e)) }
 {
     keys.rewind()?;
     let divisor = scheme.divisor(edges.vertices());
@@ -158,7 +160,7 @@ pub(crate) fn hash_all<S: Scheme<K>, P: KeyPass, const K: usize>(
         match read_words(keys, key, seed) {
             Ok(Some(hashed)) => {
                 if count == m {
-                    return Err(PassFault::Changed {
+                    return Err(GatherFault::Changed {
                         first: m,
                         now: m + 1,
                     });
@@ -167,14 +169,14 @@ pub(crate) fn hash_all<S: Scheme<K>, P: KeyPass, const K: usize>(
             }
             Ok(None) => {
                 if count < m {
-                    return Err(PassFault::Changed {
+                    return Err(GatherFault::Changed {
                         first: m,
                         now: count,
                     });
                 }
                 return Ok(());
             }
-            Err(fault) => return Err(PassFault::Key(fault)),
+            Err(fault) => return Err(GatherFault::Key(fault)),
         }
     }
     unreachable!()

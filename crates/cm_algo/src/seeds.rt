@@ -1,24 +1,35 @@
 //! The seeds of a list, one after another.
-ghost use Rattle.std.specs.Prelude.{◌≡◌, ◌≢◌, ℕ, ◌+◌, ◌*◌, ◌<◌, ◌≤◌, ◌^◌, [], ◌∷◌, List, length, map, slice_index, IfOk, IfErr, IfSome, IfNone, OnOk, None, Some, Contains, count_by};
+ghost use Rattle.std.specs.Prelude.{◌≡◌, ◌≢◌, ℕ, ◌+◌, ◌*◌, ◌<◌, ◌≤◌, ◌^◌, [], ◌∷◌, List, length, map, slice_index, IfOk, IfErr, OnOk, None, Some, Contains, count_by};
 ghost use Rattle.std.specs.Option.{ForSome};
 ghost use Rattle.cm_outer.specs.Passes.{Told};
 ghost use Rattle.cm_spec.specs.Built.{graph_of, cells_under};
 ghost use Rattle.cm_spec.specs.Cells.{is_busy};
 ghost use Rattle.cm_spec.specs.Rounds.{rest_of};
 ghost use Rattle.cm_spec.specs.Rule.{IsCount, IsRatio, IsSize};
-ghost use Rattle.cm_algo.specs.Builds.{IsGiven, IsLeft, IsBuilt};
-ghost use Rattle.cm_algo.specs.Fails.{HasBuildCause, HasPassCause, FailsPass, HasChanged, HasNumbers, FailsBuild};
+ghost use Rattle.cm_witness.specs.Cores.{EqualKeysMeet};
+ghost use Rattle.cm_witness.specs.Gathers.{FailsGather, HasGatherCause, HasOther};
+ghost use Rattle.cm_algo.specs.Builds.{IsGiven, IsBuilt};
+ghost use Rattle.cm_algo.specs.Fails.{FailsBuild, FoundEqual, HasBuildCause, HasForm, HasNumbers, ShowsCore};
+ghost use Rattle.cm_algo.specs.declared.fault.BuildFault.TheVariants as build_fault;
 
-use crate::fault::{BuildFault, PassFault};
+use crate::fault::BuildFault;
 use crate::passes::{count_all, hash_all};
 use cm_graph::{Edges, Incidence, Steps};
 use cm_outer::{KeyBuf, KeyPass};
-use cm_peel::peel_without_levels;
+use cm_peel::{Peeled, peel_without_levels};
 use cm_scheme::{Built, Scheme, assign};
+use cm_witness::{Certificate, GatherFault, gather};
 use std::alloc::Global;
 use std::sync::ledger::Ledger;
 
-/// One seed: the cells, or none where its graph has a rest. The buffer is for its use.
+/// A graph with a 2-core, and what peeling leaves of it.
+#[derive(Drop)]
+struct Left<const K: usize> {
+    edges: Edges<K>,
+    peeled: Peeled<K>,
+}
+
+/// One seed: the cells, or the graph if it has a 2-core. The buffer is for its use.
 fn attempt<S: Scheme<K>, I: Incidence<K> + Drop, P: KeyPass, const K: usize, L: Ledger>(
     alloc: Global,
     scheme: &S,
@@ -28,17 +39,20 @@ fn attempt<S: Scheme<K>, I: Incidence<K> + Drop, P: KeyPass, const K: usize, L: 
     c: u32,
     seed: u32,
     steps: &mut Steps<L>,
-) -> Result<Option<S::Table>, PassFault>
+) -> Result<Result<S::Table, Left<K>>, GatherFault>
     requires many { (1 ≤ m) × (m ≤ 16777216) }
     requires ratio { IsRatio c }
     ensures told { P.told keys.new ≡ P.told keys.old }
-    ensures cause { HasPassCause (P.faults keys.old) (P.faults keys.new) result }
-    ensures bound { IfOk result (λ o. IfSome o (λ t. (S.Table.bound_of t ≡ (S.rule scheme.now).bound m) × (length (S.Table.cells t) ≡ (S.rule scheme.now).size m c))) }
-    ensures busy { IfOk result (λ o. IfSome o (λ t. (S.rule scheme.now).modulus m ≤ (S.rule scheme.now).idle → count_by (is_busy (S.rule scheme.now).idle) (S.Table.cells t) ≡ m)) }
-    ensures made { IfOk result (λ o. IfSome o (λ t. ForSome (P.told keys.old) (λ told. (m ≡ length told.keys) × IsGiven (S.rule scheme.now) told.keys c seed (S.Table.cells t)))) }
-    ensures left { IfOk result (λ o. IfNone o (ForSome (P.told keys.old) (λ told. IsLeft (S.rule scheme.now) told.keys c seed))) }
-    ensures changed { IfErr result (HasChanged m (P.place keys.new)) }
-    ensures fault { IfErr result (λ e. ForSome (P.told keys.old) (λ told. FailsPass told m e)) }
+    ensures cause { HasGatherCause (P.faults keys.old) (P.faults keys.new) result }
+    ensures bound { IfOk result (λ o. IfOk o (λ t. (S.Table.bound_of t ≡ (S.rule scheme.now).bound m) × (length (S.Table.cells t) ≡ (S.rule scheme.now).size m c))) }
+    ensures busy { IfOk result (λ o. IfOk o (λ t. (S.rule scheme.now).modulus m ≤ (S.rule scheme.now).idle → count_by (is_busy (S.rule scheme.now).idle) (S.Table.cells t) ≡ m)) }
+    ensures made { IfOk result (λ o. IfOk o (λ t. ForSome (P.told keys.old) (λ told. (m ≡ length told.keys) × IsGiven (S.rule scheme.now) told.keys c seed (S.Table.cells t)))) }
+    ensures peeled { IfOk result (λ o. IfErr o (λ left. left.peeled.rest ≡ rest_of left.edges.edges)) }
+    ensures some { IfOk result (λ o. IfErr o (λ left. left.peeled.rest ≢ [])) }
+    ensures long { IfOk result (λ o. IfErr o (λ left. length left.edges.edges ≡ m)) }
+    ensures left { IfOk result (λ o. IfErr o (λ left. ForSome (P.told keys.old) (λ told. left.edges.edges ≡ graph_of (S.rule scheme.now) told.keys c seed))) }
+    ensures changed { IfErr result (HasOther m (P.place keys.new)) }
+    ensures fault { IfErr result (λ e. ForSome (P.told keys.old) (λ told. FailsGather told m e)) }
     ensures steps { steps.new ≤ steps.old + 8 * (K * m) }
 {
     let mut edges = Edges::with_capacity(alloc, scheme.size(m, c), m)?;
@@ -51,14 +65,45 @@ fn attempt<S: Scheme<K>, I: Incidence<K> + Drop, P: KeyPass, const K: usize, L: 
     let peeled = peel_without_levels::<K, I, L>(alloc, &edges, steps)?;
     if peeled.rest().is_empty() {
         let table = assign(alloc, scheme, &edges, &peeled, &tags)?;
-        Ok(Some(table))
+        Ok(Ok(table))
     } else {
-        Ok(None)
+        Ok(Err(Left { edges, peeled }))
     }
 }
 
-/// The cells of the first seed of a list whose graph has an empty 2-core. The keys are passed once to be counted, and once
-/// more for each seed. The ratio `c` is in millionths. After a refusal the keys may be rewound and used again.
+/// The certificate of the graph that a seed left. The keys are passed once.
+fn certify<S: Scheme<K>, P: KeyPass, const K: usize>(
+    alloc: Global,
+    scheme: &S,
+    keys: &mut P,
+    seed: u32,
+    left: &Left<K>,
+) -> Result<Certificate, GatherFault>
+    requires peeled { left.now.peeled.rest ≡ rest_of left.now.edges.edges }
+    requires equal_keys { ForSome (P.told keys.old) (λ told. EqualKeysMeet told.keys left.now.edges.edges) }
+    ensures told { P.told keys.new ≡ P.told keys.old }
+    ensures cause { HasGatherCause (P.faults keys.old) (P.faults keys.new) result }
+    ensures form { IfOk result (λ made. HasForm (S.algorithm_of scheme.now) seed (build_fault.Cored made)) }
+    ensures end { OnOk result (ForSome (P.told keys.old) (λ told. (length told.keys ≡ length left.now.edges.edges) × (told.fault ≡ None))) }
+    ensures shows { IfOk result (λ made. ForSome (P.told keys.old) (λ told. (c : ℕ) → left.now.edges.edges ≡ graph_of (S.rule scheme.now) told.keys c seed → ShowsCore (S.rule scheme.now) told.keys c seed made)) }
+    ensures changed { IfErr result (HasOther (length left.now.edges.edges) (P.place keys.new)) }
+    ensures fault { IfErr result (λ e. ForSome (P.told keys.old) (λ told. FailsGather told (length left.now.edges.edges) e)) }
+{
+    gather(
+        alloc,
+        keys,
+        &left.edges,
+        left.peeled.rest(),
+        scheme.algorithm(),
+        seed,
+        None,
+    )
+}
+
+/// The cells of the first seed of a list whose graph has an empty 2-core. The keys are passed once to be counted, and once for
+/// each seed that is tried. If the first seed leaves a 2-core, one more pass gathers its certificate, which is returned if no
+/// seed works; if two of its keys are equal, no other seed is tried. The ratio `c` is in millionths. After a refusal the keys may
+/// be rewound and used again.
 pub fn build<S: Scheme<K>, I: Incidence<K> + Drop, P: KeyPass, const K: usize, L: Ledger>(
     alloc: Global,
     scheme: &S,
@@ -78,7 +123,9 @@ pub fn build<S: Scheme<K>, I: Incidence<K> + Drop, P: KeyPass, const K: usize, L
     ensures first { IfOk result (λ b. ForSome (P.told keys.old) (λ told. (told.fault ≡ None) × IsBuilt (S.rule scheme.now) told.keys c seeds.now b.m b.seed (S.Table.cells b.cells) K steps.old steps.new)) }
     ensures fault { IfErr result (λ e. ForSome (P.told keys.old) (λ told. FailsBuild (S.rule scheme.now) told c seeds.now e)) }
     ensures numbers { IfErr result (HasNumbers (P.place keys.new)) }
+    ensures certificate { IfErr result (HasForm (S.algorithm_of scheme.now) (slice_index seeds.now 0)) }
     ensures steps { ForSome (P.told keys.old) (λ told. steps.new ≤ steps.old + 8 * (K * length told.keys) * length seeds.now) }
+    ensures early { IfErr result (λ e. FoundEqual e → ForSome (P.told keys.old) (λ told. steps.new ≤ steps.old + 8 * (K * length told.keys))) }
 {
     let mut key = KeyBuf::new();
     build_with::<S, I, P, K, L>(alloc, scheme, keys, &mut key, c, seeds, steps)
@@ -105,18 +152,36 @@ pub fn build_with<S: Scheme<K>, I: Incidence<K> + Drop, P: KeyPass, const K: usi
     ensures first { IfOk result (λ b. ForSome (P.told keys.old) (λ told. (told.fault ≡ None) × IsBuilt (S.rule scheme.now) told.keys c seeds.now b.m b.seed (S.Table.cells b.cells) K steps.old steps.new)) }
     ensures fault { IfErr result (λ e. ForSome (P.told keys.old) (λ told. FailsBuild (S.rule scheme.now) told c seeds.now e)) }
     ensures numbers { IfErr result (HasNumbers (P.place keys.new)) }
+    ensures certificate { IfErr result (HasForm (S.algorithm_of scheme.now) (slice_index seeds.now 0)) }
     ensures steps { ForSome (P.told keys.old) (λ told. steps.new ≤ steps.old + 8 * (K * length told.keys) * length seeds.now) }
+    ensures early { IfErr result (λ e. FoundEqual e → ForSome (P.told keys.old) (λ told. steps.new ≤ steps.old + 8 * (K * length told.keys))) }
 {
     let m = count_all(keys, key)?;
     if m == 0 {
         return Err(BuildFault::NoKeys);
     }
-    for i in 0..seeds.len() {
+    let first = seeds[0];
+    let certificate = match attempt::<S, I, P, K, L>(
+        alloc, scheme, keys, key, m, c, first, steps,
+    )? {
+        Ok(cells) => return Ok(Built {
+            m,
+            c,
+            seed: first,
+            cells,
+        }),
+        Err(left) => certify::<S, P, K>(alloc, scheme, keys, first, &left)?,
+    };
+    // Equal keys have equal edges, so that no other seed works.
+    if !certificate.equal.is_empty() {
+        return Err(BuildFault::Cored(certificate));
+    }
+    for i in 1..seeds.len() {
         let seed = seeds[i];
         match attempt::<S, I, P, K, L>(alloc, scheme, keys, key, m, c, seed, steps)? {
-            Some(cells) => return Ok(Built { m, c, seed, cells }),
-            None => {}
+            Ok(cells) => return Ok(Built { m, c, seed, cells }),
+            Err(_) => {}
         }
     }
-    Err(BuildFault::Cored { seed: seeds[0] })
+    Err(BuildFault::Cored(certificate))
 }

@@ -9,16 +9,18 @@ use Rattle.cm_outer.specs.declared.key_pass.KeyFault.{KeyFault}
 use Rattle.cm_outer.specs.declared.key_pass.KeyFault.TheVariants as key_fault
 use Rattle.cm_outer.specs.WritingLaws.{then_nothing}
 use Rattle.cm_spec.specs.Built.{first_seed}
+use Rattle.cm_spec.specs.Core.{IsCore}
+use Rattle.cm_spec.specs.Rounds.{rest_of}
 use Rattle.cm_tool.specs.Ends.{Says, message_of, status_of}
-use Rattle.cm_tool.specs.Jobs.{rule_by, seeds_tried}
-use Rattle.cm_tool.specs.Leaves.{HasChanged, IsPart, IsRefused, Leaves, Saves}
+use Rattle.cm_tool.specs.Jobs.{first_graph, rule_by, seeds_tried}
+use Rattle.cm_tool.specs.Leaves.{HasChanged, IsOutCause, IsPart, KeepsOut, Leaves, LeavesCores, Saves}
 use Rattle.cm_tool.specs.Messages.{built_message, no_keys}
 use Rattle.cm_tool.specs.Outcome as outcomes
-use Rattle.cm_tool.specs.Outcome.{Outcome, build_over, fault_message, job_outcome, keys_in, refusal, saving, with_seed}
-use Rattle.cm_tool.specs.Run.{IsBuildMessage, IsCored, Reaches, SavedPart, TookFirst}
+use Rattle.cm_tool.specs.Outcome.{Outcome, build_over, fault_message, job_outcome, keys_in, refusal, reporting, saving, with_seed}
+use Rattle.cm_tool.specs.Run.{IsBuildMessage, IsCored, Reaches, ReportedPart, SavedPart, TookFirst}
 use Rattle.cm_tool.specs.declared.built.Summary.{Summary}
 use Rattle.cm_tool.specs.declared.stop.Stop.{Stop}
-use Rattle.cm_tool.specs.declared.stop.Stop.TheVariants.{Memory, Read, Write, Cored, Changed, NoKeys, TooLong, TooMany}
+use Rattle.cm_tool.specs.declared.stop.Stop.TheVariants.{Memory, Read, Write, WriteOut, Cored, Changed, NoKeys, TooLong, TooMany}
 use Rattle.cm_words.specs.declared.jobs.BuildJob.{BuildJob}
 use Rattle.cm_words.specs.declared.jobs.Job.TheVariants.{Build}
 
@@ -50,114 +52,136 @@ outcome_saving job files dump saves =
     let keys = (keys_in job.first saves.bytes).keys in
     there job files saves.bytes _ saves.there (over_some job files keys (keys_in job.first saves.bytes).fault saves.made.no_fault (omega (arith, saves.made.many.0)) ∙ ap (with_seed job files keys) saves.made.chosen ∙ ap (saving job files) (sym saves.made.is))
 
--- a refusal for the keys alone is the outcome
-pub outcome_refused : (job : BuildJob) (files : Files) (stop : Stop) → IsRefused job files stop → status_of stop ≢ 4 → status_of stop ≢ 6 → job_outcome files (Ok (Build job)) ≡ Some (refusal (status_of stop) (message_of job stop) files)
-outcome_refused job files Memory refused a b = absurd (b refl)
-outcome_refused job files Read refused a b = absurd (a refl)
-outcome_refused job files Write refused a b = absurd refused
-outcome_refused job files Cored refused a b =
-    let keys = (keys_in job.first refused.0).keys in
-    there job files refused.0 _ refused.1 (over_some job files keys (keys_in job.first refused.0).fault refused.2.0 refused.2.1 ∙ ap (with_seed job files keys) refused.2.2)
-outcome_refused job files (Changed first again) refused a b = absurd refused
-outcome_refused job files NoKeys refused a b = there job files refused.0 _ refused.1 (over_none job files _ _ refused.2.0 refused.2.1)
-outcome_refused job files (TooLong line) refused a b = there job files refused.0 _ refused.1 (over_fault job files _ _ (key_fault.TooLong line) refused.2)
-outcome_refused job files TooMany refused a b = there job files refused.0 _ refused.1 (over_fault job files _ _ key_fault.TooMany refused.2)
+-- a report of the keys is the outcome
+pub outcome_reporting : (job : BuildJob) (files : Files) (bytes : List ℕ) → file_at files job.keys ≡ Some bytes → LeavesCores job (keys_in job.first bytes) → job_outcome files (Ok (Build job)) ≡ Some (reporting job files (keys_in job.first bytes).keys)
+outcome_reporting job files bytes file cores =
+    let keys = (keys_in job.first bytes).keys in
+    there job files bytes _ file (over_some job files keys (keys_in job.first bytes).fault cores.no_fault cores.some ∙ ap (with_seed job files keys) cores.none)
 
--- what a refusal other than for memory or a fault left
-kept : (job : BuildJob) (old new : Option Files) (stop : Stop) → Leaves job old new (Err stop) → status_of stop ≢ 4 → status_of stop ≢ 5 → status_of stop ≢ 6 → (new ≡ old) × ForSome old (λ files. IsRefused job files stop)
-kept job old new Memory leaves a b c = absurd (c refl)
-kept job old new Read leaves a b c = absurd (a refl)
-kept job old new Write leaves a b c = absurd (b refl)
-kept job old new Cored leaves a b c = leaves
-kept job old new (Changed first again) leaves a b c = leaves
-kept job old new NoKeys leaves a b c = leaves
-kept job old new (TooLong line) leaves a b c = leaves
-kept job old new TooMany leaves a b c = leaves
+-- a build that stopped, with out as before
+quiet_end : (job : BuildJob) (files : Files) (new : Option Files) (status : ℕ) (text : List ℕ) (out out_new err err_new : Option (List ℕ)) (before now : ℕ) → job_outcome files (Ok (Build job)) ≡ Some (refusal status text files) → out_new ≡ out → Says text err err_new before now → new ≡ Some files
+    → Reaches (job_outcome files (Ok (Build job))) status out out_new err err_new before now new
+quiet_end job files new status text out out_new err err_new before now is same says left = record {
+  outcome = refusal status text files;
+  is = is;
+  status_is = refl;
+  out = same ∙ then_nothing out;
+  err = says;
+  files_are = left;
+}
 
--- a job that stopped
-pub stopped : (job : BuildJob) (old new : Option Files) (stop : Stop) (out err err_new : Option (List ℕ)) (before now : ℕ) (files : Files) → Leaves job old new (Err stop)
-    → Says (message_of job stop) err err_new before now → status_of stop ≢ 4 → status_of stop ≢ 5 → status_of stop ≢ 6 → old ≡ Some files → Reaches (job_outcome files (Ok (Build job))) (status_of stop) out out err err_new before now new
-stopped job old new stop out err err_new before now files leaves says a b c is =
-    let left = kept job old new stop leaves a b c in
+-- a build that stopped
+pub stopped : (job : BuildJob) (old new : Option Files) (stop : Stop) (out out_new err err_new : Option (List ℕ)) (before now : ℕ) (files : Files) → Leaves job old new out out_new (Err stop) → KeepsOut out out_new stop
+    → Says (message_of job stop) err err_new before now → status_of stop ≢ 4 → status_of stop ≢ 5 → status_of stop ≢ 6 → old ≡ Some files → Reaches (job_outcome files (Ok (Build job))) (status_of stop) out out_new err err_new before now new
+stopped job old new Memory out out_new err err_new before now files leaves same says a b c is = absurd (c refl)
+stopped job old new Read out out_new err err_new before now files leaves same says a b c is = absurd (a refl)
+stopped job old new Write out out_new err err_new before now files leaves same says a b c is = absurd (b refl)
+stopped job old new WriteOut out out_new err err_new before now files leaves same says a b c is = absurd (b refl)
+stopped job old new Cored out out_new err err_new before now files leaves same says a b c is =
+    let refused = leaves.1 files is in
     record {
-      outcome = refusal (status_of stop) (message_of job stop) files;
-      is = outcome_refused job files stop (left.1 files is) a c;
+      outcome = reporting job files (keys_in job.first refused.0).keys;
+      is = outcome_reporting job files refused.0 refused.1 refused.2.0;
       status_is = refl;
-      out = then_nothing out;
+      out = refused.2.1;
       err = says;
-      files_are = left.0 ∙ is;
+      files_are = leaves.0 ∙ is;
     }
+stopped job old new (Changed first again) out out_new err err_new before now files leaves same says a b c is = absurd ((leaves.1 files is).2)
+stopped job old new NoKeys out out_new err err_new before now files leaves same says a b c is =
+    let refused = leaves.1 files is in
+    quiet_end job files new _ _ out out_new err err_new before now (there job files refused.0 _ refused.1 (over_none job files _ _ refused.2.0 refused.2.1)) same says (leaves.0 ∙ is)
+stopped job old new (TooLong line) out out_new err err_new before now files leaves same says a b c is =
+    let refused = leaves.1 files is in
+    quiet_end job files new _ _ out out_new err err_new before now (there job files refused.0 _ refused.1 (over_fault job files _ _ (key_fault.TooLong line) refused.2)) same says (leaves.0 ∙ is)
+stopped job old new TooMany out out_new err err_new before now files leaves same says a b c is =
+    let refused = leaves.1 files is in
+    quiet_end job files new _ _ out out_new err err_new before now (there job files refused.0 _ refused.1 (over_fault job files _ _ key_fault.TooMany refused.2)) same says (leaves.0 ∙ is)
+
+-- where the keys file is there, there is an outcome
+none_there : (job : BuildJob) (files : Files) (bytes : List ℕ) → file_at files job.keys ≡ Some bytes → job_outcome files (Ok (Build job)) ≡ None → ⊥
+none_there job files bytes file none = none_some (sym none ∙ there job files bytes _ file refl)
 
 -- a build that stopped over files by which there is no outcome
-pub missing : (job : BuildJob) (old new : Option Files) (stop : Stop) (files : Files) → Leaves job old new (Err stop) → old ≡ Some files → job_outcome files (Ok (Build job)) ≡ None → (status_of stop ≡ 4) ⊎ (status_of stop ≡ 6)
-missing job old new Memory files leaves is none = inr refl
-missing job old new Read files leaves is none = inl refl
-missing job old new Write files leaves is none = absurd (none_some (sym none ∙ outcome_saving job files leaves.0 (leaves.2 files is)))
-missing job old new Cored files leaves is none = absurd (none_some (sym none ∙ outcome_refused job files Cored (leaves.1 files is) (λ e. omega (arith, e)) (λ e. omega (arith, e))))
-missing job old new (Changed first again) files leaves is none = absurd (leaves.1 files is)
-missing job old new NoKeys files leaves is none = absurd (none_some (sym none ∙ outcome_refused job files NoKeys (leaves.1 files is) (λ e. omega (arith, e)) (λ e. omega (arith, e))))
-missing job old new (TooLong line) files leaves is none = absurd (none_some (sym none ∙ outcome_refused job files (TooLong line) (leaves.1 files is) (λ e. omega (arith, e)) (λ e. omega (arith, e))))
-missing job old new TooMany files leaves is none = absurd (none_some (sym none ∙ outcome_refused job files TooMany (leaves.1 files is) (λ e. omega (arith, e)) (λ e. omega (arith, e))))
+pub missing : (job : BuildJob) (old new : Option Files) (out out_new : Option (List ℕ)) (stop : Stop) (files : Files) → Leaves job old new out out_new (Err stop) → old ≡ Some files → job_outcome files (Ok (Build job)) ≡ None → (status_of stop ≡ 4) ⊎ (status_of stop ≡ 6)
+missing job old new out out_new Memory files leaves is none = inr refl
+missing job old new out out_new Read files leaves is none = inl refl
+missing job old new out out_new Write files leaves is none = let saves = leaves.2 files is in absurd (none_there job files saves.bytes saves.there none)
+missing job old new out out_new WriteOut files leaves is none = let refused = leaves.1 files is in absurd (none_there job files refused.0 refused.1 none)
+missing job old new out out_new Cored files leaves is none = let refused = leaves.1 files is in absurd (none_there job files refused.0 refused.1 none)
+missing job old new out out_new (Changed first again) files leaves is none = let refused = leaves.1 files is in absurd (none_there job files refused.0 refused.1 none)
+missing job old new out out_new NoKeys files leaves is none = let refused = leaves.1 files is in absurd (none_there job files refused.0 refused.1 none)
+missing job old new out out_new (TooLong line) files leaves is none = let refused = leaves.1 files is in absurd (none_there job files refused.0 refused.1 none)
+missing job old new out out_new TooMany files leaves is none = let refused = leaves.1 files is in absurd (none_there job files refused.0 refused.1 none)
 
 -- a build that came to its end
-pub finished : (job : BuildJob) (old new : Option Files) (s : Summary) (out err err_new : Option (List ℕ)) (before now : ℕ) (files : Files) → Leaves job old new (Ok s) → Says (built_message job s) err err_new before now → old ≡ Some files → Reaches (job_outcome files (Ok (Build job))) 0 out out err err_new before now new
-finished job old new s out err err_new before now files leaves says is =
+pub finished : (job : BuildJob) (old new : Option Files) (s : Summary) (out out_new err err_new : Option (List ℕ)) (before now : ℕ) (files : Files) → Leaves job old new out out_new (Ok s) → out_new ≡ out → Says (built_message job s) err err_new before now → old ≡ Some files → Reaches (job_outcome files (Ok (Build job))) 0 out out_new err err_new before now new
+finished job old new s out out_new err err_new before now files leaves same says is =
     let saves = leaves.2 files is in
     record {
       outcome = saving job files saves.0.f;
       is = outcome_saving job files leaves.0 saves.0;
       status_is = refl;
-      out = then_nothing out;
+      out = same ∙ then_nothing out;
       err = subst (λ (t : Summary). Says (built_message job t) err err_new before now) saves.1 says;
       files_are = leaves.1 ∙ ap (with_file job.function leaves.0) is ∙ ap (λ (dump : List ℕ). Some (map.insert files job.function dump)) saves.0.dump_is;
     }
 
-pub took_first : (job : BuildJob) (old new : Option Files) (s : Summary) (files : Files) → Leaves job old new (Ok s) → old ≡ Some files → TookFirst files job
-took_first job old new s files leaves is =
+pub took_first : (job : BuildJob) (old new : Option Files) (out out_new : Option (List ℕ)) (s : Summary) (files : Files) → Leaves job old new out out_new (Ok s) → old ≡ Some files → TookFirst files job
+took_first job old new out out_new s files leaves is =
     let saves = (leaves.2 files is).0 in
     (saves.bytes, saves.made.place, saves.made.seed, saves.there, saves.made.first)
 
-pub is_cored : (job : BuildJob) (old new : Option Files) (stop : Stop) (files : Files) → Leaves job old new (Err stop) → old ≡ Some files → status_of stop ≡ 1 → IsCored files job
-is_cored job old new Memory files leaves is one = absurd (omega arith)
-is_cored job old new Read files leaves is one = absurd (omega arith)
-is_cored job old new Write files leaves is one = absurd (omega arith)
-is_cored job old new Cored files leaves is one = let refused = leaves.1 files is in (refused.0, refused.1, refused.2.3)
-is_cored job old new (Changed first again) files leaves is one = absurd (omega arith)
-is_cored job old new NoKeys files leaves is one = absurd (omega arith)
-is_cored job old new (TooLong line) files leaves is one = absurd (omega arith)
-is_cored job old new TooMany files leaves is one = absurd (omega arith)
+pub is_cored : (job : BuildJob) (old new : Option Files) (out out_new : Option (List ℕ)) (stop : Stop) (files : Files) → Leaves job old new out out_new (Err stop) → old ≡ Some files → status_of stop ≡ 1 → ((edges : List (List ℕ)) → IsCore edges (rest_of edges)) → IsCored files job
+is_cored job old new out out_new Memory files leaves is one law = absurd (omega arith)
+is_cored job old new out out_new Read files leaves is one law = absurd (omega arith)
+is_cored job old new out out_new Write files leaves is one law = absurd (omega arith)
+is_cored job old new out out_new WriteOut files leaves is one law = absurd (omega arith)
+is_cored job old new out out_new Cored files leaves is one law =
+    let refused = leaves.1 files is in
+    record { bytes = refused.0; there = refused.1; cored = refused.2.0.cored; core = law (first_graph job (keys_in job.first refused.0).keys) }
+is_cored job old new out out_new (Changed first again) files leaves is one law = absurd (omega arith)
+is_cored job old new out out_new NoKeys files leaves is one law = absurd (omega arith)
+is_cored job old new out out_new (TooLong line) files leaves is one law = absurd (omega arith)
+is_cored job old new out out_new TooMany files leaves is one law = absurd (omega arith)
 
 part_of : (job : BuildJob) (old new : Option Files) {dump text : List ℕ} → dump ≡ text → IsPart job dump old new → IsPart job text old new
 part_of job old new is part = subst (λ (bytes : List ℕ). IsPart job bytes old new) is part
 
-pub saved_part : (job : BuildJob) (old new : Option Files) (stop : Stop) (files : Files) → Leaves job old new (Err stop) → old ≡ Some files → status_of stop ≡ 5 → SavedPart files old new job
-saved_part job old new Memory files leaves is five = absurd (omega arith)
-saved_part job old new Read files leaves is five = absurd (omega arith)
-saved_part job old new Write files leaves is five =
+-- a build that could not write
+pub written_part : (job : BuildJob) (old new : Option Files) (out out_new : Option (List ℕ)) (stop : Stop) (files : Files) → Leaves job old new out out_new (Err stop) → KeepsOut out out_new stop → old ≡ Some files → status_of stop ≡ 5
+    → SavedPart files old new out out_new job ⊎ ReportedPart files old new out out_new job
+written_part job old new out out_new Memory files leaves same is five = absurd (omega arith)
+written_part job old new out out_new Read files leaves same is five = absurd (omega arith)
+written_part job old new out out_new Write files leaves same is five =
     let saves = leaves.2 files is in
-    (saves.f, outcome_saving job files leaves.0 saves, part_of job old new saves.dump_is leaves.1)
-saved_part job old new Cored files leaves is five = absurd (omega arith)
-saved_part job old new (Changed first again) files leaves is five = absurd (omega arith)
-saved_part job old new NoKeys files leaves is five = absurd (omega arith)
-saved_part job old new (TooLong line) files leaves is five = absurd (omega arith)
-saved_part job old new TooMany files leaves is five = absurd (omega arith)
+    inl (saves.f, outcome_saving job files leaves.0 saves, part_of job old new saves.dump_is leaves.1, same)
+written_part job old new out out_new WriteOut files leaves same is five =
+    let refused = leaves.1 files is in
+    inr ((keys_in job.first refused.0).keys, refused.2.1.0, outcome_reporting job files refused.0 refused.1 refused.2.0, refused.2.1.1, leaves.0)
+written_part job old new out out_new Cored files leaves same is five = absurd (omega arith)
+written_part job old new out out_new (Changed first again) files leaves same is five = absurd (omega arith)
+written_part job old new out out_new NoKeys files leaves same is five = absurd (omega arith)
+written_part job old new out out_new (TooLong line) files leaves same is five = absurd (omega arith)
+written_part job old new out out_new TooMany files leaves same is five = absurd (omega arith)
 
 -- the file of a path that was written
 pub written_at : (files : Files) (path bytes : List ℕ) → file_at (map.insert files path bytes) path ≡ Some bytes
 written_at files path bytes =
     map.get-insert nat_list_cmp_total files path bytes path ∙ ap (λ (b : Bool). cond b (Some bytes) (map.get files path)) ((eq_by_cmp_equiv nat_list_cmp_total).refl path)
 
--- the message of a job that stopped goes with its status
-pub message_is : (job : BuildJob) (stop : Stop) → HasChanged stop → IsBuildMessage job (status_of stop) (message_of job stop)
-message_is job Memory differ = record { done = λ e. absurd (omega arith); cored = λ e. absurd (omega arith); read = λ e. absurd (omega arith); write = λ e. absurd (omega arith); memory = λ e. refl; changed = λ e. absurd (omega arith); keys = λ e. absurd (omega arith) }
-message_is job Read differ = record { done = λ e. absurd (omega arith); cored = λ e. absurd (omega arith); read = λ e. refl; write = λ e. absurd (omega arith); memory = λ e. absurd (omega arith); changed = λ e. absurd (omega arith); keys = λ e. absurd (omega arith) }
-message_is job Write differ = record { done = λ e. absurd (omega arith); cored = λ e. absurd (omega arith); read = λ e. absurd (omega arith); write = λ e. refl; memory = λ e. absurd (omega arith); changed = λ e. absurd (omega arith); keys = λ e. absurd (omega arith) }
-message_is job Cored differ = record { done = λ e. absurd (omega arith); cored = λ e. refl; read = λ e. absurd (omega arith); write = λ e. absurd (omega arith); memory = λ e. absurd (omega arith); changed = λ e. absurd (omega arith); keys = λ e. absurd (omega arith) }
-message_is job (Changed first again) differ = record { done = λ e. absurd (omega arith); cored = λ e. absurd (omega arith); read = λ e. absurd (omega arith); write = λ e. absurd (omega arith); memory = λ e. absurd (omega arith); changed = λ e. ((first, again, differ, refl)); keys = λ e. absurd (omega arith) }
-message_is job NoKeys differ = record { done = λ e. absurd (omega arith); cored = λ e. absurd (omega arith); read = λ e. absurd (omega arith); write = λ e. absurd (omega arith); memory = λ e. absurd (omega arith); changed = λ e. absurd (omega arith); keys = λ e. (inl refl) }
-message_is job (TooLong line) differ = record { done = λ e. absurd (omega arith); cored = λ e. absurd (omega arith); read = λ e. absurd (omega arith); write = λ e. absurd (omega arith); memory = λ e. absurd (omega arith); changed = λ e. absurd (omega arith); keys = λ e. (inr (inr (line, refl))) }
-message_is job TooMany differ = record { done = λ e. absurd (omega arith); cored = λ e. absurd (omega arith); read = λ e. absurd (omega arith); write = λ e. absurd (omega arith); memory = λ e. absurd (omega arith); changed = λ e. absurd (omega arith); keys = λ e. (inr (inl refl)) }
+-- the message of a build that stopped goes with its status
+pub message_is : (job : BuildJob) (before now : ℕ) (stop : Stop) → HasChanged stop → IsOutCause before now stop → IsBuildMessage job before now (status_of stop) (message_of job stop)
+message_is job before now Memory differ count = record { done = λ e. absurd (omega arith); cored = λ e. absurd (omega arith); read = λ e. absurd (omega arith); write = λ e. absurd (omega arith); memory = λ e. refl; changed = λ e. absurd (omega arith); keys = λ e. absurd (omega arith) }
+message_is job before now Read differ count = record { done = λ e. absurd (omega arith); cored = λ e. absurd (omega arith); read = λ e. refl; write = λ e. absurd (omega arith); memory = λ e. absurd (omega arith); changed = λ e. absurd (omega arith); keys = λ e. absurd (omega arith) }
+message_is job before now Write differ count = record { done = λ e. absurd (omega arith); cored = λ e. absurd (omega arith); read = λ e. absurd (omega arith); write = λ e. inl (count, refl); memory = λ e. absurd (omega arith); changed = λ e. absurd (omega arith); keys = λ e. absurd (omega arith) }
+message_is job before now WriteOut differ count = record { done = λ e. absurd (omega arith); cored = λ e. absurd (omega arith); read = λ e. absurd (omega arith); write = λ e. inr (count.1, refl); memory = λ e. absurd (omega arith); changed = λ e. absurd (omega arith); keys = λ e. absurd (omega arith) }
+message_is job before now Cored differ count = record { done = λ e. absurd (omega arith); cored = λ e. refl; read = λ e. absurd (omega arith); write = λ e. absurd (omega arith); memory = λ e. absurd (omega arith); changed = λ e. absurd (omega arith); keys = λ e. absurd (omega arith) }
+message_is job before now (Changed first again) differ count = record { done = λ e. absurd (omega arith); cored = λ e. absurd (omega arith); read = λ e. absurd (omega arith); write = λ e. absurd (omega arith); memory = λ e. absurd (omega arith); changed = λ e. (first, again, differ, refl); keys = λ e. absurd (omega arith) }
+message_is job before now NoKeys differ count = record { done = λ e. absurd (omega arith); cored = λ e. absurd (omega arith); read = λ e. absurd (omega arith); write = λ e. absurd (omega arith); memory = λ e. absurd (omega arith); changed = λ e. absurd (omega arith); keys = λ e. inl refl }
+message_is job before now (TooLong line) differ count = record { done = λ e. absurd (omega arith); cored = λ e. absurd (omega arith); read = λ e. absurd (omega arith); write = λ e. absurd (omega arith); memory = λ e. absurd (omega arith); changed = λ e. absurd (omega arith); keys = λ e. inr (inr (line, refl)) }
+message_is job before now TooMany differ count = record { done = λ e. absurd (omega arith); cored = λ e. absurd (omega arith); read = λ e. absurd (omega arith); write = λ e. absurd (omega arith); memory = λ e. absurd (omega arith); changed = λ e. absurd (omega arith); keys = λ e. inr (inl refl) }
 
 -- and that of one that came to its end
-pub built_is : (job : BuildJob) (s : Summary) → IsBuildMessage job 0 (built_message job s)
-built_is job s = record { done = λ e. (s, refl); cored = λ e. absurd (omega arith); read = λ e. absurd (omega arith); write = λ e. absurd (omega arith); memory = λ e. absurd (omega arith); changed = λ e. absurd (omega arith); keys = λ e. absurd (omega arith) }
+pub built_is : (job : BuildJob) (before now : ℕ) (s : Summary) → IsBuildMessage job before now 0 (built_message job s)
+built_is job before now s = record { done = λ e. (s, refl); cored = λ e. absurd (omega arith); read = λ e. absurd (omega arith); write = λ e. absurd (omega arith); memory = λ e. absurd (omega arith); changed = λ e. absurd (omega arith); keys = λ e. absurd (omega arith) }

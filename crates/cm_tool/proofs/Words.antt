@@ -35,12 +35,12 @@ early_cut (Ok Version) files out err err_new before now says = tt
 early_cut (Ok (Build job)) files out err err_new before now says = tt
 early_cut (Ok (Query job)) files out err err_new before now says = record { notes = []; text = out_of_memory; message = query_message_is job query_stop.Memory; says = says; answered = inl (refl, refl) }
 
-early_message : (asked : Reading Job) → IsMessage asked 6 out_of_memory
-early_message (Err fault) = record { refused = λ e. absurd (omega arith); memory = λ e. refl }
-early_message (Ok Help) = record { done = λ e. absurd (omega arith); write = λ e. absurd (omega arith); memory = λ e. refl }
-early_message (Ok Version) = record { done = λ e. absurd (omega arith); write = λ e. absurd (omega arith); memory = λ e. refl }
-early_message (Ok (Build job)) = message_is job stop.Memory tt
-early_message (Ok (Query job)) = query_message_is job query_stop.Memory
+early_message : (asked : Reading Job) (out now : ℕ) → now ≡ out → IsMessage asked out now 6 out_of_memory
+early_message (Err fault) out now same = record { refused = λ e. absurd (omega arith); memory = λ e. refl }
+early_message (Ok Help) out now same = record { done = λ e. absurd (omega arith); write = λ e. absurd (omega arith); memory = λ e. refl }
+early_message (Ok Version) out now same = record { done = λ e. absurd (omega arith); write = λ e. absurd (omega arith); memory = λ e. refl }
+early_message (Ok (Build job)) out now same = message_is job out now stop.Memory tt same
+early_message (Ok (Query job)) out now same = query_message_is job query_stop.Memory
 
 -- out has a front of a text that was written, whole or in part
 pub front_of : (r : Result (Unit {0}) Failed) (old new : Option (List ℕ)) (text : List ℕ) → Writes old new text r → (n : ℕ) × (new ≡ then_bytes old (take n text))
@@ -58,8 +58,8 @@ misused fault files old out err err_new before now says is = record {
   files_are = is;
 }
 
-misused_message : (fault : UsageFault) → IsMessage (Err fault) 2 (usage_message fault)
-misused_message fault = record { refused = λ e. refl; memory = λ e. absurd (omega arith) }
+misused_message : (fault : UsageFault) (out now : ℕ) → IsMessage (Err fault) out now 2 (usage_message fault)
+misused_message fault out now = record { refused = λ e. refl; memory = λ e. absurd (omega arith) }
 
 -- a text that was printed
 pub printed : (text : List ℕ) (files : Files) (found : Option Outcome) (old : Option Files) (out out_new err err_new : Option (List ℕ)) (before now : ℕ) → found ≡ Some (printing text files) → out_new ≡ then_bytes out text → Says [] err err_new before now → old ≡ Some files
@@ -99,11 +99,11 @@ usage_cut asked usage.Words files out err err_new before now says either = absur
 usage_cut asked (usage.BadValue letter) files out err err_new before now says either = absurd (omega (arith, either))
 usage_cut asked usage.NoFile files out err err_new before now says either = absurd (omega (arith, either))
 
-message_for : (asked : Reading Job) (fault : UsageFault) → Err fault ≡ asked → IsMessage asked 2 (usage_message fault)
-message_for asked fault is = subst (λ (a : Reading Job). IsMessage a 2 (usage_message fault)) is (misused_message fault)
+message_for : (asked : Reading Job) (fault : UsageFault) (out now : ℕ) → Err fault ≡ asked → IsMessage asked out now 2 (usage_message fault)
+message_for asked fault out now is = subst (λ (a : Reading Job). IsMessage a out now 2 (usage_message fault)) is (misused_message fault out now)
 
-pub usage_said : (asked : Reading Job) (fault : UsageFault) → (fault ≡ usage.Memory) ⊎ (Err fault ≡ asked) → IsMessage asked (usage_status_of fault) (usage_message fault)
-usage_said asked usage.Memory either = early_message asked
-usage_said asked usage.Words either = message_for asked usage.Words (faulty asked usage.Words (λ e. omega (arith, e)) either)
-usage_said asked (usage.BadValue letter) either = message_for asked (usage.BadValue letter) (faulty asked (usage.BadValue letter) (λ e. omega (arith, e)) either)
-usage_said asked usage.NoFile either = message_for asked usage.NoFile (faulty asked usage.NoFile (λ e. omega (arith, e)) either)
+pub usage_said : (asked : Reading Job) (fault : UsageFault) (out now : ℕ) → now ≡ out → (fault ≡ usage.Memory) ⊎ (Err fault ≡ asked) → IsMessage asked out now (usage_status_of fault) (usage_message fault)
+usage_said asked usage.Memory out now same either = early_message asked out now same
+usage_said asked usage.Words out now same either = message_for asked usage.Words out now (faulty asked usage.Words (λ e. omega (arith, e)) either)
+usage_said asked (usage.BadValue letter) out now same either = message_for asked (usage.BadValue letter) out now (faulty asked (usage.BadValue letter) (λ e. omega (arith, e)) either)
+usage_said asked usage.NoFile out now same either = message_for asked usage.NoFile out now (faulty asked usage.NoFile (λ e. omega (arith, e)) either)

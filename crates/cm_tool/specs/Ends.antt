@@ -2,7 +2,7 @@
 use Rattle.std.specs.Prelude.{◌≡◌, ◌<◌, ◌^◌, ℕ, List, take, Option}
 use Rattle.cm_outer.specs.Writing.{then_bytes}
 use Rattle.cm_tool.specs.declared.stop.Stop.{Stop}
-use Rattle.cm_tool.specs.declared.stop.Stop.TheVariants.{Memory, Read, Write, Cored, Changed, NoKeys, TooLong, TooMany}
+use Rattle.cm_tool.specs.declared.stop.Stop.TheVariants.{Memory, Read, Write, WriteOut, Cored, Changed, NoKeys, TooLong, TooMany}
 use Rattle.cm_tool.specs.declared.stop.QueryStop.{QueryStop}
 use Rattle.cm_tool.specs.declared.stop.QueryStop.TheVariants as query_stop
 use Rattle.cm_words.specs.declared.fault.UsageFault.{UsageFault}
@@ -16,6 +16,7 @@ abbrev pub status_of : Stop → ℕ
 status_of Memory = 6
 status_of Read = 4
 status_of Write = 5
+status_of WriteOut = 5
 status_of Cored = 1
 status_of (Changed first again) = 7
 status_of NoKeys = 8
@@ -27,6 +28,7 @@ abbrev pub message_of : BuildJob → Stop → List ℕ
 message_of job Memory = out_of_memory
 message_of job Read = cannot_read job.keys
 message_of job Write = cannot_write job.function
+message_of job WriteOut = cannot_write_out
 message_of job Cored = no_seed
 message_of job (Changed first again) = keys_changed job.keys first again
 message_of job NoKeys = no_keys job.keys

@@ -14,24 +14,31 @@ use Rattle.cm_dump.specs.Dumps.{dump_of}
 use Rattle.cm_dump.specs.Functions.{IsFunction}
 use Rattle.cm_dump.specs.declared.writer.Func.{Func}
 use Rattle.cm_tool.specs.Jobs.{func_by, rule_by, seeds_tried, summary_of}
-use Rattle.cm_tool.specs.Outcome.{keys_in}
+use Rattle.cm_outer.specs.Writing.{then_bytes}
+use Rattle.cm_tool.specs.Outcome.{keys_in, report_of}
+use Rattle.cm_witness.specs.Reports.{report_text}
+use Rattle.cm_witness.specs.declared.certificate.Certificate.{Certificate}
 use Rattle.cm_tool.specs.declared.built.Summary.{Summary}
 use Rattle.cm_algorithm.specs.declared.algorithm.Algorithm.{Algorithm}
 use Rattle.cm_words.specs.declared.jobs.BuildJob.{BuildJob}
 use Rattle.cm_tool.specs.declared.stop.Stop.{Stop}
-use Rattle.cm_tool.specs.declared.stop.Stop.TheVariants.{Memory, Read, Write, Cored, Changed, NoKeys, TooLong, TooMany}
+use Rattle.cm_tool.specs.declared.stop.Stop.TheVariants.{Memory, Read, Write, WriteOut, Cored, Changed, NoKeys, TooLong, TooMany}
 
 -- which counts of the disk an end has raised: that of reading, and that of writing
 abbrev pub HasStopCause : {T : Type 0} → ℕ → ℕ → ℕ → ℕ → Result T Stop → Type 0
-HasStopCause r r' w w' (Ok _) = (r' ≡ r) × (w' ≡ w)
-HasStopCause r r' w w' (Err Memory) = (r' ≡ r) × (w' ≡ w)
 HasStopCause r r' w w' (Err Read) = (r ≤ r') × Rose r r' × (w' ≡ w)
 HasStopCause r r' w w' (Err Write) = (r' ≡ r) × (w ≤ w') × Rose w w'
-HasStopCause r r' w w' (Err Cored) = (r' ≡ r) × (w' ≡ w)
-HasStopCause r r' w w' (Err (Changed first again)) = (r' ≡ r) × (w' ≡ w)
-HasStopCause r r' w w' (Err NoKeys) = (r' ≡ r) × (w' ≡ w)
-HasStopCause r r' w w' (Err (TooLong line)) = (r' ≡ r) × (w' ≡ w)
-HasStopCause r r' w w' (Err TooMany) = (r' ≡ r) × (w' ≡ w)
+HasStopCause r r' w w' result = (r' ≡ r) × (w' ≡ w)
+
+-- whether a build that stopped has raised that of out
+abbrev pub IsOutCause : ℕ → ℕ → Stop → Type 0
+IsOutCause o o' WriteOut = (o ≤ o') × Rose o o'
+IsOutCause o o' stop = o' ≡ o
+
+-- and one that came to its end has not
+abbrev pub HasOutCause : {T : Type 0} → ℕ → ℕ → Result T Stop → Type 0
+HasOutCause o o' (Ok _) = o' ≡ o
+HasOutCause o o' (Err stop) = IsOutCause o o' stop
 
 -- a build over told keys gave the number of keys, the seed and the cells, in whatever number of steps
 pub record IsBuiltFrom (r : Rule) (told : Told) (c : ℕ) (seeds : List ℕ) (m seed : ℕ) (cells : List ℕ) : Type 0 where
@@ -62,13 +69,33 @@ stop_from_key key_fault.Read = Read
 stop_from_key (key_fault.TooLong line) = TooLong line
 stop_from_key key_fault.TooMany = TooMany
 
--- why a refused build stops a job
-abbrev pub stop_from : BuildFault → Stop
-stop_from build_fault.Memory = Memory
-stop_from build_fault.NoKeys = NoKeys
-stop_from (build_fault.Cored seed) = Cored
-stop_from (build_fault.Key fault) = stop_from_key fault
-stop_from (build_fault.Changed first again) = Changed first again
+-- the text of a certificate
+abbrev pub text_of : Certificate → List ℕ
+text_of made = report_text made.algorithm made.place made.seed made.edges.items made.equal.items
+
+-- what out got of a report: all of it, or a prefix where out failed
+abbrev pub GotReport : List ℕ → Option (List ℕ) → Option (List ℕ) → Stop → Type 0
+GotReport text old new Cored = new ≡ then_bytes old text
+GotReport text old new WriteOut = (n : ℕ) × (new ≡ then_bytes old (take n text))
+GotReport text old new stop = ⊥
+
+-- why a refused build stops a job, and what out got: the report of a certificate, and else nothing
+abbrev pub StopsFor : BuildFault → Option (List ℕ) → Option (List ℕ) → Stop → Type 0
+StopsFor build_fault.Memory old new stop = (stop ≡ Memory) × (new ≡ old)
+StopsFor build_fault.NoKeys old new stop = (stop ≡ NoKeys) × (new ≡ old)
+StopsFor (build_fault.Cored made) old new stop = GotReport (text_of made) old new stop
+StopsFor (build_fault.Key fault) old new stop = (stop ≡ stop_from_key fault) × (new ≡ old)
+StopsFor (build_fault.Changed first again) old new stop = (stop ≡ Changed first again) × (new ≡ old)
+
+-- only a report was written to out
+abbrev pub KeepsOut : Option (List ℕ) → Option (List ℕ) → Stop → Type 0
+KeepsOut old new Cored = Unit {0}
+KeepsOut old new WriteOut = Unit {0}
+KeepsOut old new stop = new ≡ old
+
+abbrev pub HasKeptOut : {T : Type 0} → Option (List ℕ) → Option (List ℕ) → Result T Stop → Type 0
+HasKeptOut old new (Ok _) = new ≡ old
+HasKeptOut old new (Err stop) = KeepsOut old new stop
 
 -- how many keys there were in the first pass, and how many of a later one: fewer, or one more, where it stops
 pub record IsChange (first again : ℕ) : Type 0 where
@@ -78,36 +105,30 @@ pub record IsChange (first again : ℕ) : Type 0 where
 
 -- keys that changed have such numbers
 abbrev pub HasChanged : Stop → Type 0
-HasChanged Memory = Unit {0}
-HasChanged Read = Unit {0}
-HasChanged Write = Unit {0}
-HasChanged Cored = Unit {0}
 HasChanged (Changed first again) = IsChange first again
-HasChanged NoKeys = Unit {0}
-HasChanged (TooLong line) = Unit {0}
-HasChanged TooMany = Unit {0}
+HasChanged stop = Unit {0}
 
--- the keys are refused so
-abbrev pub Refuses : BuildJob → Told → Stop → Type 0
-Refuses job told Memory = Unit {0}
-Refuses job told Read = Unit {0}
-Refuses job told Write = ⊥
-Refuses job told Cored = (told.fault ≡ None) × (0 < length told.keys) × (first_seed (rule_by job.algorithm) told.keys job.c (seeds_tried job) ≡ None) × AllCored (rule_by job.algorithm) told.keys job.c (seeds_tried job)
-Refuses job told (Changed first again) = ⊥
-Refuses job told NoKeys = (told.fault ≡ None) × (told.keys ≡ [])
-Refuses job told (TooLong line) = told.fault ≡ Some (key_fault.TooLong line)
-Refuses job told TooMany = told.fault ≡ Some key_fault.TooMany
+-- no seed gives a function of the keys
+pub record LeavesCores (job : BuildJob) (told : Told) : Type 0 where
+  pub no_fault : told.fault ≡ None
+  pub some : 0 < length told.keys
+  pub none : first_seed (rule_by job.algorithm) told.keys job.c (seeds_tried job) ≡ None
+  pub cored : AllCored (rule_by job.algorithm) told.keys job.c (seeds_tried job)
 
--- a refusal over files: one for the keys alone shows that the keys file is there
-abbrev pub IsRefused : BuildJob → Files → Stop → Type 0
-IsRefused job files Memory = Unit {0}
-IsRefused job files Read = Unit {0}
-IsRefused job files Write = ⊥
-IsRefused job files Cored = (bytes : List ℕ) × (file_at files job.keys ≡ Some bytes) × Refuses job (keys_in job.first bytes) Cored
-IsRefused job files (Changed first again) = ⊥
-IsRefused job files NoKeys = (bytes : List ℕ) × (file_at files job.keys ≡ Some bytes) × Refuses job (keys_in job.first bytes) NoKeys
-IsRefused job files (TooLong line) = (bytes : List ℕ) × (file_at files job.keys ≡ Some bytes) × Refuses job (keys_in job.first bytes) (TooLong line)
-IsRefused job files TooMany = (bytes : List ℕ) × (file_at files job.keys ≡ Some bytes) × Refuses job (keys_in job.first bytes) TooMany
+-- the keys are refused so, and this is what out had before and has now
+abbrev pub Refuses : BuildJob → Told → Option (List ℕ) → Option (List ℕ) → Stop → Type 0
+Refuses job told old new Cored = LeavesCores job told × GotReport (report_of job told.keys) old new Cored
+Refuses job told old new WriteOut = LeavesCores job told × GotReport (report_of job told.keys) old new WriteOut
+Refuses job told old new NoKeys = (told.fault ≡ None) × (told.keys ≡ [])
+Refuses job told old new (TooLong line) = told.fault ≡ Some (key_fault.TooLong line)
+Refuses job told old new TooMany = told.fault ≡ Some key_fault.TooMany
+Refuses job told old new stop = ⊥
+
+-- a refusal over files: one for the keys shows that the keys file is there
+abbrev pub IsRefused : BuildJob → Files → Option (List ℕ) → Option (List ℕ) → Stop → Type 0
+IsRefused job files old new Memory = Unit {0}
+IsRefused job files old new Read = Unit {0}
+IsRefused job files old new stop = (bytes : List ℕ) × (file_at files job.keys ≡ Some bytes) × Refuses job (keys_in job.first bytes) old new stop
 
 -- the bytes are the dump of the function of the keys file
 pub record Saves (job : BuildJob) (files : Files) (dump : List ℕ) : Type 0 where
@@ -126,14 +147,9 @@ SavesAs job files dump s = (saves : Saves job files dump) × (s ≡ summary_of s
 abbrev pub IsPart : BuildJob → List ℕ → Option Files → Option Files → Type 0
 IsPart job dump old new = (new ≡ old) ⊎ ((n : ℕ) × (new ≡ with_file job.function (take n dump) old))
 
--- what each end of a build leaves of the files
-abbrev pub Leaves : BuildJob → Option Files → Option Files → Result Summary Stop → Type 0
-Leaves job old new (Ok s) = (dump : List ℕ) × (new ≡ with_file job.function dump old) × ForSome old (λ files. SavesAs job files dump s)
-Leaves job old new (Err Memory) = (new ≡ old) ⊎ (new ≡ with_file job.function [] old)
-Leaves job old new (Err Read) = new ≡ old
-Leaves job old new (Err Write) = (dump : List ℕ) × IsPart job dump old new × ForSome old (λ files. Saves job files dump)
-Leaves job old new (Err Cored) = (new ≡ old) × ForSome old (λ files. IsRefused job files Cored)
-Leaves job old new (Err (Changed first again)) = (new ≡ old) × ForSome old (λ files. IsRefused job files (Changed first again))
-Leaves job old new (Err NoKeys) = (new ≡ old) × ForSome old (λ files. IsRefused job files NoKeys)
-Leaves job old new (Err (TooLong line)) = (new ≡ old) × ForSome old (λ files. IsRefused job files (TooLong line))
-Leaves job old new (Err TooMany) = (new ≡ old) × ForSome old (λ files. IsRefused job files TooMany)
+-- what each end of a build leaves of the files, out having had and having this
+abbrev pub Leaves : BuildJob → Option Files → Option Files → Option (List ℕ) → Option (List ℕ) → Result Summary Stop → Type 0
+Leaves job old new out_old out_new (Ok s) = (dump : List ℕ) × (new ≡ with_file job.function dump old) × ForSome old (λ files. SavesAs job files dump s)
+Leaves job old new out_old out_new (Err Memory) = (new ≡ old) ⊎ (new ≡ with_file job.function [] old)
+Leaves job old new out_old out_new (Err Write) = (dump : List ℕ) × IsPart job dump old new × ForSome old (λ files. Saves job files dump)
+Leaves job old new out_old out_new (Err stop) = (new ≡ old) × ForSome old (λ files. IsRefused job files out_old out_new stop)

@@ -14,9 +14,10 @@ use Rattle.cm_outer.specs.declared.key_pass.KeyFault.{KeyFault}
 use Rattle.cm_outer.specs.declared.key_pass.KeyFault.TheVariants.{Read, TooLong, TooMany}
 use Rattle.cm_spec.specs.Built.{first_seed}
 use Rattle.cm_query.specs.Texts.{notes_of, text_of}
-use Rattle.cm_tool.specs.Jobs.{func_by, rule_by, seeds_tried, summary_of}
+use Rattle.cm_tool.specs.Jobs.{first_tried, func_by, rule_by, seeds_tried, summary_of}
 use Rattle.cm_tool.specs.Messages.{bad_dump, built_message, cannot_read, line_too_long, no_keys, no_seed, too_many_keys, usage_message}
 use Rattle.cm_tool.specs.Texts.{help_text, version_text}
+use Rattle.cm_witness.specs.Reports.{core_report}
 use Rattle.cm_words.specs.Meaning.{job_of}
 use Rattle.cm_words.specs.Options.{Read as Reading}
 use Rattle.cm_words.specs.declared.jobs.BuildJob.{BuildJob}
@@ -52,9 +53,17 @@ fault_message file TooMany = too_many_keys file
 abbrev pub saving : BuildJob → Files → Func → Outcome
 saving job files f = record { status = 0; out = []; err = built_message job (summary_of f); files = map.insert files job.function (dump_of f) }
 
--- that of the function under a seed, or no seed gave one
+-- the report of keys of which no seed gives a function: it shows the 2-core under the first seed
+unfoldable pub report_of : BuildJob → List (ℕ × List ℕ) → List ℕ
+report_of job keys = core_report job.algorithm (rule_by job.algorithm) keys job.c (first_tried job)
+
+-- out gets the report, and err says that there is no function
+abbrev pub reporting : BuildJob → Files → List (ℕ × List ℕ) → Outcome
+reporting job files keys = record { status = 1; out = report_of job keys; err = no_seed; files = files }
+
+-- the outcome by the first seed that gives a function, if one does
 abbrev pub with_seed : BuildJob → Files → List (ℕ × List ℕ) → Option ℕ → Outcome
-with_seed job files keys None = refusal 1 no_seed files
+with_seed job files keys None = reporting job files keys
 with_seed job files keys (Some seed) = saving job files (func_by job.algorithm job.b keys job.c seed)
 
 -- a build over keys that end with a fault, or with none

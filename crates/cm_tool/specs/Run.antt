@@ -1,5 +1,5 @@
 -- What the top call promises, in words over the command line and the files.
-use Rattle.std.specs.Prelude.{◌≡◌, ◌⊎◌, ℕ, List, [], ◌∷◌, ◌++◌, length, Option, Some, Ok, Err, true}
+use Rattle.std.specs.Prelude.{◌≡◌, ◌⊎◌, ℕ, List, [], ◌∷◌, ◌++◌, length, take, Option, Some, Ok, Err, true}
 use Rattle.cm_bdz.specs.Functions.{bdz_answer, bdz_ph_answer}
 use Rattle.cm_bdz.specs.Numbering.{AnswersApart}
 use Rattle.cm_chm.specs.Numbering.{AnswersNumbers}
@@ -9,16 +9,19 @@ use Rattle.cm_dump.specs.Spelling.{spelling_of}
 use Rattle.cm_dump.specs.declared.fault.LoadFault.{LoadFault}
 use Rattle.cm_dump.specs.declared.writer.Func.{Func}
 use Rattle.cm_dump.specs.declared.writer.Func.TheVariants as func
+use Rattle.cm_outer.specs.Causes.{Rose}
 use Rattle.cm_outer.specs.Files.{Files, file_at}
 use Rattle.cm_outer.specs.Writing.{then_bytes}
 use Rattle.cm_spec.specs.Built.{IsFirst, AllCored}
+use Rattle.cm_spec.specs.Core.{IsCore}
 use Rattle.cm_spec.specs.Lists.{has}
+use Rattle.cm_spec.specs.Rounds.{rest_of}
 use Rattle.cm_tool.specs.Asked.{AskedPart, GotNothing, Spells, keys_at}
 use Rattle.cm_tool.specs.Ends.{Says}
-use Rattle.cm_tool.specs.Jobs.{rule_by, seeds_tried}
+use Rattle.cm_tool.specs.Jobs.{first_graph, rule_by, seeds_tried}
 use Rattle.cm_tool.specs.Leaves.{IsChange, IsPart}
 use Rattle.cm_tool.specs.Messages.{bad_dump, built_message, no_seed, out_of_memory, cannot_read, cannot_write, cannot_write_out, keys_changed, no_keys, line_too_long, too_many_keys, usage_message}
-use Rattle.cm_tool.specs.Outcome.{Outcome, job_outcome, keys_in, saving}
+use Rattle.cm_tool.specs.Outcome.{Outcome, job_outcome, keys_in, report_of, reporting, saving}
 use Rattle.cm_tool.specs.Texts.{help_text, version_text}
 use Rattle.cm_tool.specs.declared.built.Summary.{Summary}
 use Rattle.cm_algorithm.specs.declared.algorithm.Algorithm.{Algorithm}
@@ -34,61 +37,41 @@ use Rattle.cm_words.specs.declared.jobs.Job.TheVariants.{Help, Version, Build, Q
 abbrev pub IsStatus : ℕ → Type 0
 IsStatus status = has (0 ∷ 1 ∷ 2 ∷ 3 ∷ 4 ∷ 5 ∷ 6 ∷ 7 ∷ 8 ∷ []) status ≡ true
 
--- this holds of the build, where the words ask for one
+-- this holds of the build, if the words ask for one
 abbrev pub ForBuild : Reading Job → (BuildJob → Type 0) → Type 0
-ForBuild (Err fault) P = Unit {0}
-ForBuild (Ok Help) P = Unit {0}
-ForBuild (Ok Version) P = Unit {0}
 ForBuild (Ok (Build job)) P = P job
-ForBuild (Ok (Query job)) P = Unit {0}
+ForBuild asked P = Unit {0}
 
--- this holds of the query, where they ask for one
+-- this holds of the query, if they ask for one
 abbrev pub ForQuery : Reading Job → (QueryJob → Type 0) → Type 0
-ForQuery (Err fault) P = Unit {0}
-ForQuery (Ok Help) P = Unit {0}
-ForQuery (Ok Version) P = Unit {0}
-ForQuery (Ok (Build job)) P = Unit {0}
 ForQuery (Ok (Query job)) P = P job
+ForQuery asked P = Unit {0}
 
--- this holds of the text that they ask for, where they do
+-- this holds of the text that they ask for, if they do
 abbrev pub ForText : Reading Job → (List ℕ → Type 0) → Type 0
-ForText (Err fault) P = Unit {0}
 ForText (Ok Help) P = P help_text
 ForText (Ok Version) P = P version_text
-ForText (Ok (Build job)) P = Unit {0}
-ForText (Ok (Query job)) P = Unit {0}
+ForText asked P = Unit {0}
 
 -- they ask for a build, of which this holds
 abbrev pub IfBuild : Reading Job → (BuildJob → Type 0) → Type 0
-IfBuild (Err fault) P = ⊥
-IfBuild (Ok Help) P = ⊥
-IfBuild (Ok Version) P = ⊥
 IfBuild (Ok (Build job)) P = P job
-IfBuild (Ok (Query job)) P = ⊥
+IfBuild asked P = ⊥
 
 -- this holds, unless they ask for a build
 abbrev pub UnlessBuild : Reading Job → Type 0 → Type 0
-UnlessBuild (Err fault) P = P
-UnlessBuild (Ok Help) P = P
-UnlessBuild (Ok Version) P = P
 UnlessBuild (Ok (Build job)) P = Unit {0}
-UnlessBuild (Ok (Query job)) P = P
+UnlessBuild asked P = P
 
 -- this holds, unless they ask for a query
 abbrev pub UnlessQuery : Reading Job → Type 0 → Type 0
-UnlessQuery (Err fault) P = P
-UnlessQuery (Ok Help) P = P
-UnlessQuery (Ok Version) P = P
-UnlessQuery (Ok (Build job)) P = P
 UnlessQuery (Ok (Query job)) P = Unit {0}
+UnlessQuery asked P = P
 
--- this holds, unless they ask for what is written to out
-abbrev pub UnlessOut : Reading Job → Type 0 → Type 0
-UnlessOut (Err fault) P = P
-UnlessOut (Ok Help) P = Unit {0}
-UnlessOut (Ok Version) P = Unit {0}
-UnlessOut (Ok (Build job)) P = P
-UnlessOut (Ok (Query job)) P = Unit {0}
+-- this holds, unless they ask for a job
+abbrev pub UnlessJob : Reading Job → Type 0 → Type 0
+UnlessJob (Err fault) P = P
+UnlessJob asked P = Unit {0}
 
 -- the outcome is what came
 pub record Reaches (found : Option Outcome) (status : ℕ) (out_old out_new err_old err_new : Option (List ℕ)) (err_before err_now : ℕ) (files_new : Option Files) : Type 0 where
@@ -121,25 +104,32 @@ IsBy algorithm f = ⊥
 abbrev pub SavedNumbers : Files → Option Files → BuildJob → Type 0
 SavedNumbers files new job = (bytes dump : List ℕ) × (f : Func) × (after : Files) × (file_at files job.keys ≡ Some bytes) × (new ≡ Some after) × (file_at after job.function ≡ Some dump) × (spelling_of dump ≡ Ok f) × IsBy job.algorithm f × AnswersOf (keys_in job.first bytes).keys f
 
--- under every seed the graph of the keys has a 2-core with an edge
-abbrev pub IsCored : Files → BuildJob → Type 0
-IsCored files job = (bytes : List ℕ) × (file_at files job.keys ≡ Some bytes) × AllCored (rule_by job.algorithm) (keys_in job.first bytes).keys job.c (seeds_tried job)
+-- under every seed the graph of the keys has a 2-core with an edge, and the report shows that of the first: what peeling leaves
+pub record IsCored (files : Files) (job : BuildJob) : Type 0 where
+  pub bytes : List ℕ
+  pub there : file_at files job.keys ≡ Some bytes
+  pub cored : AllCored (rule_by job.algorithm) (keys_in job.first bytes).keys job.c (seeds_tried job)
+  pub core : IsCore (first_graph job (keys_in job.first bytes).keys) (rest_of (first_graph job (keys_in job.first bytes).keys))
 
--- the outcome saves a function, and the function file holds a front of its dump, or the files are as before
-abbrev pub SavedPart : Files → Option Files → Option Files → BuildJob → Type 0
-SavedPart files old new job = (f : Func) × (job_outcome files (Ok (Build job)) ≡ Some (saving job files f)) × IsPart job (dump_of f) old new
+-- the outcome saves a function, of whose dump the function file holds a prefix, or the files are as before; out got nothing
+abbrev pub SavedPart : Files → Option Files → Option Files → Option (List ℕ) → Option (List ℕ) → BuildJob → Type 0
+SavedPart files old new out_old out_new job = (f : Func) × (job_outcome files (Ok (Build job)) ≡ Some (saving job files f)) × IsPart job (dump_of f) old new × (out_new ≡ out_old)
+
+-- the outcome shows a report, of which out got a prefix; the files are as before
+abbrev pub ReportedPart : Files → Option Files → Option Files → Option (List ℕ) → Option (List ℕ) → BuildJob → Type 0
+ReportedPart files old new out_old out_new job = (keys : List (ℕ × List ℕ)) × (n : ℕ) × (job_outcome files (Ok (Build job)) ≡ Some (reporting job files keys)) × (out_new ≡ then_bytes out_old (take n (report_of job keys))) × (new ≡ old)
 
 -- A query that a fault or want of memory cut short. Out and err got nothing; or else the first keys were answered, with their notes, and out may have a front of the text of one key more.
 abbrev pub AnsweredPart : Files → Option (List ℕ) → Option (List ℕ) → List ℕ → QueryJob → Type 0
 AnsweredPart files old new notes job = GotNothing old new notes
     ⊎ ((f : Func) × (given : ℕ) × (rest : ℕ) × Spells files job.function f × AskedPart (answer_by f) (keys_at files job) old new notes given rest)
 
--- the message of a build that goes with a status
-pub record IsBuildMessage (job : BuildJob) (status : ℕ) (text : List ℕ) : Type 0 where
+-- the message of a build that goes with a status and the count of out before and now
+pub record IsBuildMessage (job : BuildJob) (before now status : ℕ) (text : List ℕ) : Type 0 where
   pub done : status ≡ 0 → (s : Summary) × (text ≡ built_message job s)
   pub cored : status ≡ 1 → text ≡ no_seed
   pub read : status ≡ 4 → text ≡ cannot_read job.keys
-  pub write : status ≡ 5 → text ≡ cannot_write job.function
+  pub write : status ≡ 5 → ((now ≡ before) × (text ≡ cannot_write job.function)) ⊎ (Rose before now × (text ≡ cannot_write_out))
   pub memory : status ≡ 6 → text ≡ out_of_memory
   pub changed : status ≡ 7 → (first : ℕ) × (again : ℕ) × IsChange first again × (text ≡ keys_changed job.keys first again)
   pub keys : status ≡ 8 → (text ≡ no_keys job.keys) ⊎ (text ≡ too_many_keys job.keys) ⊎ ((line : ℕ) × (text ≡ line_too_long job.keys line))
@@ -173,10 +163,10 @@ pub record IsUsageMessage (fault : UsageFault) (status : ℕ) (text : List ℕ) 
   pub refused : status ≡ 2 → text ≡ usage_message fault
   pub memory : status ≡ 6 → text ≡ out_of_memory
 
--- the message of what the words ask for
-abbrev pub IsMessage : Reading Job → ℕ → List ℕ → Type 0
-IsMessage (Err fault) status text = IsUsageMessage fault status text
-IsMessage (Ok Help) status text = IsPrintMessage status text
-IsMessage (Ok Version) status text = IsPrintMessage status text
-IsMessage (Ok (Build job)) status text = IsBuildMessage job status text
-IsMessage (Ok (Query job)) status text = IsQueryMessage job status text
+-- the message of what the words ask for, with the count of out before and now
+abbrev pub IsMessage : Reading Job → ℕ → ℕ → ℕ → List ℕ → Type 0
+IsMessage (Err fault) before now status text = IsUsageMessage fault status text
+IsMessage (Ok Help) before now status text = IsPrintMessage status text
+IsMessage (Ok Version) before now status text = IsPrintMessage status text
+IsMessage (Ok (Build job)) before now status text = IsBuildMessage job before now status text
+IsMessage (Ok (Query job)) before now status text = IsQueryMessage job status text

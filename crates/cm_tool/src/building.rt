@@ -6,15 +6,16 @@ ghost use Rattle.cm_outer.specs.Causes.{IsSent};
 ghost use Rattle.cm_outer.specs.Files.{file_at, with_file};
 ghost use Rattle.cm_tool.specs.Ends.{Says};
 ghost use Rattle.cm_tool.specs.Jobs.{seeds_of};
-ghost use Rattle.cm_tool.specs.Leaves.{HasChanged, HasStopCause, IsFunctionOf, IsRefused, Leaves, stop_from, stop_from_key};
+ghost use Rattle.cm_tool.specs.Leaves.{GotReport, HasChanged, HasKeptOut, HasOutCause, HasStopCause, IsFunctionOf, IsOutCause, IsRefused, KeepsOut, Leaves, StopsFor, stop_from_key, text_of};
 ghost use Rattle.cm_tool.specs.Outcome.{job_outcome};
-ghost use Rattle.cm_tool.specs.Run.{IsBuildMessage, IsCored, IsStatus, Reaches, SavedNumbers, SavedPart, TookFirst};
+ghost use Rattle.cm_tool.specs.Run.{IsBuildMessage, IsCored, IsStatus, Reaches, ReportedPart, SavedNumbers, SavedPart, TookFirst};
 ghost use Rattle.cm_words.specs.Limits.{IsBuild};
 ghost use Rattle.cm_words.specs.declared.jobs.Job.TheVariants.{Build};
 
 use crate::built::{Summary, sum_up};
 use crate::functions::func_of;
 use crate::laws::saved_numbers;
+use crate::printing::send_text;
 use crate::report::{report, say_built};
 use crate::stop::Stop;
 use crate::storing::store;
@@ -22,7 +23,9 @@ use arrayvec::ArrayVec;
 use cm_algo::BuildFault;
 use cm_dump::Func;
 use cm_keys::Keys;
-use cm_outer::{Disk, DiskFault, KeyFault, Sink};
+use cm_outer::{Disk, DiskFault, Failed, KeyFault, Sink};
+use cm_peel::rest_is_core;
+use cm_witness::Certificate;
 use cm_words::BuildJob;
 use std::alloc::Global;
 use std::marker::Brand;
@@ -51,28 +54,52 @@ fn stop_of_key(fault: KeyFault) -> Stop
     }
 }
 
-/// Why a refused build stops a job.
-fn stop_of(fault: BuildFault) -> Stop
-    ensures stop { result ≡ stop_from fault }
+/// Writes a certificate to out and sends it on, which stops a build.
+fn show<O: Sink>(certificate: &Certificate, out: &mut O) -> Stop
+    ensures shown { GotReport (text_of certificate.now) (O.written out.old) (O.written out.new) result }
+    ensures cause { IsOutCause (O.faults out.old) (O.faults out.new) result }
+    ensures sent { IsSent (O.waits out.new) (O.faults out.old) (O.faults out.new) }
+{
+    let written = certificate.write(out);
+    match send_text(written, out) {
+        Ok(()) => Stop::Cored,
+        Err(Failed) => Stop::WriteOut,
+    }
+}
+
+/// Why a refused build stops a job. A certificate is written to out first.
+fn stop_of<O: Sink>(fault: BuildFault, out: &mut O) -> Stop
+    ensures stops { StopsFor fault (O.written out.old) (O.written out.new) result }
+    ensures cause { IsOutCause (O.faults out.old) (O.faults out.new) result }
+    ensures out { KeepsOut (O.written out.old) (O.written out.new) result }
+    ensures sent { O.waits out.old ≡ 0 → IsSent (O.waits out.new) (O.faults out.old) (O.faults out.new) }
 {
     match fault {
         BuildFault::Memory => Stop::Memory,
         BuildFault::NoKeys => Stop::NoKeys,
-        BuildFault::Cored { seed: _ } => Stop::Cored,
+        BuildFault::Cored(certificate) => show(&certificate, out),
         BuildFault::Key(fault) => stop_of_key(fault),
         BuildFault::Changed { first, now } => Stop::Changed { first, now },
     }
 }
 
-/// Builds the function of a keys file.
-fn function_of<D: Disk>(alloc: Global, job: &BuildJob, disk: &mut D) -> Result<Func, Stop>
+/// Builds the function of a keys file. Out gets the report of a build of which no seed gives a function.
+fn function_of<D: Disk, O: Sink>(
+    alloc: Global,
+    job: &BuildJob,
+    disk: &mut D,
+    out: &mut O,
+) -> Result<Func, Stop>
     requires job { IsBuild job.now }
     ensures files { D.files disk.new ≡ D.files disk.old }
     ensures cause { HasStopCause (D.read_faults disk.old) (D.read_faults disk.new) (D.write_faults disk.old) (D.write_faults disk.new) result }
     ensures made { IfOk result (λ f. ForSome (D.files disk.old) (λ files. (bytes : List ℕ) × (file_at files job.now.keys ≡ Some bytes) × IsFunctionOf job.now bytes f)) }
     ensures valid { IfOk result IsFunction }
-    ensures refused { IfErr result (λ stop. ForSome (D.files disk.old) (λ files. IsRefused job.now files stop)) }
+    ensures refused { IfErr result (λ stop. ForSome (D.files disk.old) (λ files. IsRefused job.now files (O.written out.old) (O.written out.new) stop)) }
     ensures changed { IfErr result HasChanged }
+    ensures out { HasKeptOut (O.written out.old) (O.written out.new) result }
+    ensures out_cause { HasOutCause (O.faults out.old) (O.faults out.new) result }
+    ensures sent { O.waits out.old ≡ 0 → IsSent (O.waits out.new) (O.faults out.old) (O.faults out.new) }
 {
     let reader = match disk.open(job.keys.as_str()) {
         Ok(reader) => reader,
@@ -91,18 +118,26 @@ fn function_of<D: Disk>(alloc: Global, job: &BuildJob, disk: &mut D) -> Result<F
     disk.shut(keys.into_source());
     match outcome {
         Ok(function) => Ok(function),
-        Err(fault) => Err(stop_of(fault)),
+        Err(fault) => Err(stop_of(fault, out)),
     }
 }
 
 /// Builds the function of a keys file, and saves it as the function file. This is created only after the build has succeeded.
-fn build_file<D: Disk>(alloc: Global, job: &BuildJob, disk: &mut D) -> Result<Summary, Stop>
+fn build_file<D: Disk, O: Sink>(
+    alloc: Global,
+    job: &BuildJob,
+    disk: &mut D,
+    out: &mut O,
+) -> Result<Summary, Stop>
     requires job { IsBuild job.now }
     ensures cause { HasStopCause (D.read_faults disk.old) (D.read_faults disk.new) (D.write_faults disk.old) (D.write_faults disk.new) result }
-    ensures leaves { Leaves job.now (D.files disk.old) (D.files disk.new) result }
+    ensures leaves { Leaves job.now (D.files disk.old) (D.files disk.new) (O.written out.old) (O.written out.new) result }
     ensures changed { IfErr result HasChanged }
+    ensures out { HasKeptOut (O.written out.old) (O.written out.new) result }
+    ensures out_cause { HasOutCause (O.faults out.old) (O.faults out.new) result }
+    ensures sent { O.waits out.old ≡ 0 → IsSent (O.waits out.new) (O.faults out.old) (O.faults out.new) }
 {
-    let function = match function_of(alloc, job, disk) {
+    let function = match function_of(alloc, job, disk, out) {
         Ok(function) => function,
         Err(stop) => return Err(stop),
     };
@@ -114,36 +149,45 @@ fn build_file<D: Disk>(alloc: Global, job: &BuildJob, disk: &mut D) -> Result<Su
 }
 
 /// Does a build, and answers its status.
-pub(crate) fn run_build<D: Disk, E: Sink>(
+pub(crate) fn run_build<D: Disk, O: Sink, E: Sink>(
     alloc: Global,
     job: &BuildJob,
     disk: &mut D,
+    out: &mut O,
     err: &mut E,
 ) -> u8
     requires job { IsBuild job.now }
     ensures status { IsStatus result }
     ensures known { (result ≢ 2) × (result ≢ 3) }
     ensures read { D.read_faults disk.old < 2 ^ 63 → ((result ≡ 4) ↔ (D.read_faults disk.old < D.read_faults disk.new)) }
-    ensures write { D.write_faults disk.old < 2 ^ 63 → ((result ≡ 5) ↔ (D.write_faults disk.old < D.write_faults disk.new)) }
-    ensures outcome { (out : Option (List ℕ)) → result ≢ 4 → result ≢ 5 → result ≢ 6 → ForSome (D.files disk.old) (λ files.
-        Reaches (job_outcome files (Ok (Build job.now))) result out out (E.written err.old) (E.written err.new) (E.faults err.old) (E.faults err.new) (D.files disk.new)) }
+    ensures write { D.write_faults disk.old < 2 ^ 63 → O.faults out.old < 2 ^ 63 →
+        ((result ≡ 5) ↔ ((D.write_faults disk.old < D.write_faults disk.new) ⊎ (O.faults out.old < O.faults out.new))) }
+    ensures outcome { result ≢ 4 → result ≢ 5 → result ≢ 6 → ForSome (D.files disk.old) (λ files.
+        Reaches (job_outcome files (Ok (Build job.now))) result (O.written out.old) (O.written out.new) (E.written err.old) (E.written err.new) (E.faults err.old) (E.faults err.new) (D.files disk.new)) }
     ensures first { result ≡ 0 → ForSome (D.files disk.old) (λ files. TookFirst files job.now) }
     ensures cored { result ≡ 1 → ForSome (D.files disk.old) (λ files. IsCored files job.now) }
     ensures numbers { result ≡ 0 → ForSome (D.files disk.old) (λ files. SavedNumbers files (D.files disk.new) job.now) }
     ensures unchanged { ForSome (D.files disk.old) (λ _. result ≢ 7) }
     ensures missing { ForSome (D.files disk.old) (λ files. job_outcome files (Ok (Build job.now)) ≡ None → (result ≡ 4) ⊎ (result ≡ 6)) }
     ensures kept { result ≢ 0 → result ≢ 5 → result ≢ 6 → D.files disk.new ≡ D.files disk.old }
-    ensures part { result ≡ 5 → ForSome (D.files disk.old) (λ files. SavedPart files (D.files disk.old) (D.files disk.new) job.now) }
+    ensures part { result ≡ 5 → ForSome (D.files disk.old) (λ files. SavedPart files (D.files disk.old) (D.files disk.new) (O.written out.old) (O.written out.new) job.now
+        ⊎ ReportedPart files (D.files disk.old) (D.files disk.new) (O.written out.old) (O.written out.new) job.now) }
     ensures memory { result ≡ 6 → (D.files disk.new ≡ D.files disk.old) ⊎ (D.files disk.new ≡ with_file job.now.function [] (D.files disk.old)) }
+    ensures out { result ≢ 1 → result ≢ 5 → O.written out.new ≡ O.written out.old }
+    ensures sent { O.waits out.old ≡ 0 → IsSent (O.waits out.new) (O.faults out.old) (O.faults out.new) }
     ensures err_sent { E.waits err.old ≡ 0 → IsSent (E.waits err.new) (E.faults err.old) (E.faults err.new) }
-    ensures err { (text : List ℕ) × IsBuildMessage job.now result text × Says text (E.written err.old) (E.written err.new) (E.faults err.old) (E.faults err.new) }
+    ensures err { (text : List ℕ) × IsBuildMessage job.now (O.faults out.old) (O.faults out.new) result text × Says text (E.written err.old) (E.written err.new) (E.faults err.old) (E.faults err.new) }
 {
-    match build_file(alloc, job, disk) {
+    match build_file(alloc, job, disk, out) {
         Ok(summary) => {
             saved_numbers();
             say_built(job, summary, err);
             0
         }
-        Err(stop) => report(job, stop, err),
+        Err(stop) => {
+            // A law, for the proof alone.
+            rest_is_core();
+            report(job, stop, err)
+        }
     }
 }

@@ -49,8 +49,6 @@ const NAMED: &[&str] = &[
     "cmph", "-v", "-g", "-f", "jenkins", "-s", "0", "-m", "f", "keys",
 ];
 
-const ONE_SEED: &[&str] = &["cmph", "-g", "-c", "1.5", "-s", "0", "-r", "1", "keys"];
-
 const VERBOSE_BDZ: &[&str] = &["cmph", "-vv", "-g", "-a", "bdz", "-s0", "keys"];
 
 const VERBOSE_BDZ_PH: &[&str] = &["cmph", "-g", "-a", "bdz_ph", "-s=0", "-v", "keys"];
@@ -137,13 +135,6 @@ fn options(rt: HostRuntime) -> Result<(), Fail> {
             b"\na\n",
             "cmph: bdz_ph keys 2 cells 9 seed 0\n",
             &BDZ_PH_TWO,
-        ),
-        // Keys that a build by CHM needs a second seed for.
-        Case::refused(
-            ONE_SEED,
-            b"a\nb\n",
-            1,
-            "cmph: no seed of the list gives an empty core\n",
         ),
     ];
     check_all(&rt, rt.alloc(), &cases)?;

@@ -1,7 +1,7 @@
 //! Functions of the algorithms, built over a pass of keys.
-ghost use Rattle.std.specs.Prelude.{◌≡◌, ◌<◌, ◌≤◌, length, count_by, IfOk, IfErr};
+ghost use Rattle.std.specs.Prelude.{◌≡◌, ◌<◌, ◌≤◌, length, slice_index, count_by, IfOk, IfErr};
 ghost use Rattle.std.specs.Option.{ForSome};
-ghost use Rattle.cm_algo.specs.Fails.{FailsBuild, HasBuildCause, HasNumbers};
+ghost use Rattle.cm_algo.specs.Fails.{FailsBuild, HasBuildCause, HasForm, HasNumbers};
 ghost use Rattle.cm_dump.specs.Functions.{IsFunction};
 ghost use Rattle.cm_spec.specs.Cells.{is_busy};
 ghost use Rattle.cm_spec.specs.Rule.{IsRatio};
@@ -43,6 +43,7 @@ fn build_by<S: Scheme<K>, P: KeyPass, const K: usize, L: Ledger>(
     ensures first { IfOk result (λ b. ForSome (P.told keys.old) (λ told. IsBuiltFrom (S.rule scheme.now) told c seeds.now b.m b.seed (S.Table.cells b.cells))) }
     ensures fault { IfErr result (λ e. ForSome (P.told keys.old) (λ told. FailsBuild (S.rule scheme.now) told c seeds.now e)) }
     ensures numbers { IfErr result (HasNumbers (P.place keys.new)) }
+    ensures certificate { IfErr result (HasForm (S.algorithm_of scheme.now) (slice_index seeds.now 0)) }
 {
     let mut steps = Steps::<L>::new(blank);
     match build::<S, Xored<K>, P, K, L>(alloc, scheme, keys, c, seeds, &mut steps) {
@@ -70,6 +71,7 @@ pub(crate) fn func_of<P: KeyPass, L: Ledger>(
     ensures valid { IfOk result IsFunction }
     ensures fault { IfErr result (λ e. ForSome (P.told keys.old) (λ told. FailsBuild (rule_by job.now.algorithm) told job.now.c seeds.now e)) }
     ensures numbers { IfErr result (HasNumbers (P.place keys.new)) }
+    ensures certificate { IfErr result (HasForm job.now.algorithm (slice_index seeds.now 0)) }
 {
     match job.algorithm {
         Algorithm::Chm => {

@@ -1,5 +1,5 @@
 //! A law of builds. Its body calls the laws that it follows from, and does nothing else.
-ghost use Rattle.std.specs.Prelude.{◌≡◌, Option, Ok, Some};
+ghost use Rattle.std.specs.Prelude.{◌≡◌, ℕ, List, Option, Ok, Some};
 ghost use Rattle.cm_outer.specs.Files.{Files};
 ghost use Rattle.cm_tool.specs.Leaves.{Leaves};
 ghost use Rattle.cm_tool.specs.Run.{SavedNumbers};
@@ -14,7 +14,7 @@ use cm_peel::empty_rest;
 
 /// A build that came to its end left a function file that answers the keys as functions by its algorithm do.
 pub(crate) fn saved_numbers()
-    ensures { (job : BuildJob) (old new : Option Files) (summary : Summary) (files : Files) → IsBuild job → Leaves job old new (Ok summary) → old ≡ Some files → SavedNumbers files new job }
+    ensures { (job : BuildJob) (old new : Option Files) (out_old out_new : Option (List ℕ)) (summary : Summary) (files : Files) → IsBuild job → Leaves job old new out_old out_new (Ok summary) → old ≡ Some files → SavedNumbers files new job }
 {
     answers_numbers();
     answers_apart();

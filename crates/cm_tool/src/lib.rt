@@ -27,4 +27,6 @@ mod pass_tests;
 #[cfg(test)]
 mod query_tests;
 #[cfg(test)]
+mod report_tests;
+#[cfg(test)]
 mod tests;

@@ -110,7 +110,9 @@ fn copied_by<L: Ledger>(alloc: Global, count: u32, blank: Blank) -> Result<(u32,
 // the end; there is a pass to count them, and one for each seed.
 #[test]
 fn keys_are_hashed_where_they_stand(rt: HostRuntime) -> Result<(), Fail> {
-    let (seed, copied) = copied_by::<Brand>(rt.alloc(), 40_000, Blank::new(1))?;
+    let Ok((seed, copied)) = copied_by::<Brand>(rt.alloc(), 40_000, Blank::new(1)) else {
+        return Err(Fail::new("no function"));
+    };
     assert!(rt; seed < 10);
     assert!(rt;
         copied <= (seed as u64 + 2) * 8,

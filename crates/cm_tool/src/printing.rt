@@ -34,7 +34,7 @@ pub fn print_version<O: Sink>(out: &mut O) -> Result<(), Failed>
 }
 
 /// Sends on a text that was printed.
-fn send_text<O: Sink>(printed: Result<(), Failed>, out: &mut O) -> Result<(), Failed>
+pub(crate) fn send_text<O: Sink>(printed: Result<(), Failed>, out: &mut O) -> Result<(), Failed>
     ensures text { (text : List ℕ) (old : Option (List ℕ)) → Writes old (O.written out.old) text printed → Writes old (O.written out.new) text result }
     ensures cause { (before : ℕ) → HasCause before (O.faults out.old) printed → HasCause before (O.faults out.new) result }
     ensures sent { OnOk result (O.waits out.new ≡ 0) }

@@ -4,7 +4,7 @@ ghost use Rattle.cm_outer.specs.Causes.{IsSent};
 ghost use Rattle.cm_outer.specs.Noting.{Noted};
 ghost use Rattle.cm_outer.specs.Writing.{joined};
 ghost use Rattle.cm_tool.specs.Ends.{Says, status_of, message_of, query_status_of, query_message_of, usage_status_of};
-ghost use Rattle.cm_tool.specs.Messages.{bad_dump, built, built_message, cannot_read, fault_place, fault_words, keys_changed, line_too_long, out_of_memory, too_many_keys, usage_message};
+ghost use Rattle.cm_tool.specs.Messages.{bad_dump, built, built_message, cannot_read, cannot_write_out, fault_place, fault_words, keys_changed, line_too_long, out_of_memory, too_many_keys, usage_message};
 
 use crate::built::Summary;
 use crate::stop::{QueryStop, Stop};
@@ -116,6 +116,7 @@ fn explain<E: Sink>(job: &BuildJob, stop: Stop, err: &mut E, notes: &mut Notes)
             let function = job.function.as_str().as_bytes();
             notes.note_pieces(err, &[b"cmph: ", function, b": cannot write\n"]);
         }
+        Stop::WriteOut => note_out_fault(err, notes),
         Stop::Memory => note_want_of_memory(err, notes),
         Stop::Changed { first, now } => note_change(keys, first, now, err, notes),
         Stop::NoKeys => notes.note_pieces(err, &[b"cmph: ", keys, b": no keys\n"]),
@@ -131,7 +132,7 @@ fn status(stop: Stop) -> u8
     match stop {
         Stop::Cored => 1,
         Stop::Read => 4,
-        Stop::Write => 5,
+        Stop::Write | Stop::WriteOut => 5,
         Stop::Memory => 6,
         Stop::Changed { first: _, now: _ } => 7,
         Stop::NoKeys | Stop::TooLong { line: _ } | Stop::TooMany => 8,
@@ -165,7 +166,7 @@ fn explain_query<E: Sink>(job: &QueryJob, stop: QueryStop, err: &mut E, notes: &
         QueryStop::NoFunction => note_unread(function, err, notes),
         QueryStop::BadDump { fault } => explain_dump(function, fault, err, notes),
         QueryStop::Read => note_unread(keys, err, notes),
-        QueryStop::Write => notes.note_pieces(err, &[b"cmph: cannot write standard output\n"]),
+        QueryStop::Write => note_out_fault(err, notes),
         QueryStop::TooLong { line } => note_long_line(keys, line, err, notes),
         QueryStop::TooMany => note_many_keys(keys, err, notes),
     }
@@ -190,6 +191,14 @@ fn note_want_of_memory<E: Sink>(err: &mut E, notes: &mut Notes)
     ensures sent { notes.new ≡ false → E.waits err.new ≡ 0 }
 {
     notes.note_pieces(err, &[b"cmph: out of memory\n"]);
+}
+
+/// Notes that out can't be written.
+fn note_out_fault<E: Sink>(err: &mut E, notes: &mut Notes)
+    ensures noted { Noted notes.old notes.new (E.written err.old) (E.written err.new) (E.faults err.old) (E.faults err.new) cannot_write_out }
+    ensures sent { notes.new ≡ false → E.waits err.new ≡ 0 }
+{
+    notes.note_pieces(err, &[b"cmph: cannot write standard output\n"]);
 }
 
 /// Notes that a file can't be opened, read or rewound.

@@ -11,6 +11,8 @@ pub(crate) enum Stop {
     Read,
     /// The function file can't be created, written or closed.
     Write,
+    /// Out can't be written.
+    WriteOut,
     /// Under every seed the graph has a 2-core with an edge.
     Cored,
     /// The first pass gave so many keys, and a later one so many.

@@ -7,7 +7,7 @@ use std::process::Abort;
 use std::test::Fail;
 
 /// The function of `a` and `b`: five vertices, seed 1, cells 0 1 0 0 0.
-const LETTERS: [u8; 25] = [
+pub(crate) const LETTERS: [u8; 25] = [
     0x43, 0x4d, 0x50, 0x48, 0x44, 0x4d, 0x50, 0x31, 1, 0, 0, 0, 2, 0, 0, 0, 0x10, 0xe4, 0x1f, 0, 1,
     0, 0, 0, 2,
 ];
@@ -196,18 +196,7 @@ fn functions(rt: HostRuntime) -> Result<(), Fail> {
 
 #[test]
 fn refused_keys(rt: HostRuntime) -> Result<(), Fail> {
-    let no_seed = "cmph: no seed of the list gives an empty core\n";
-    let mut kept = Case::refused(PLAIN, b"a\na\n", 1, no_seed);
-    kept.dump = Some(b"older");
-    kept.file = Some(b"older");
-    let cases = [
-        Case::refused(PLAIN, b"\n\n", 1, no_seed),
-        Case::refused(PLAIN, b"a\nb\na\n", 1, no_seed),
-        Case::refused(PLAIN, b"", 8, "cmph: keys: no keys\n"),
-        // A refusal keeps the older file.
-        kept,
-    ];
-    check_all(&rt, rt.alloc(), &cases)?;
+    Case::refused(PLAIN, b"", 8, "cmph: keys: no keys\n").check(&rt, rt.alloc())?;
     Ok(())
 }
 

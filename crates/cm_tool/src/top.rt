@@ -6,7 +6,7 @@ ghost use Rattle.cm_outer.specs.Files.{with_file};
 ghost use Rattle.cm_outer.specs.Writing.{then_bytes};
 ghost use Rattle.cm_tool.specs.Ends.{Says};
 ghost use Rattle.cm_tool.specs.Outcome.{outcome_of};
-ghost use Rattle.cm_tool.specs.Run.{IsStatus, ForBuild, ForQuery, ForText, IfBuild, UnlessBuild, UnlessOut, UnlessQuery, Reaches, TookFirst, SavedNumbers, IsCored, SavedPart, IsCutShort, IsMessage};
+ghost use Rattle.cm_tool.specs.Run.{IsStatus, ForBuild, ForQuery, ForText, IfBuild, UnlessBuild, UnlessJob, UnlessQuery, Reaches, TookFirst, SavedNumbers, IsCored, SavedPart, ReportedPart, IsCutShort, IsMessage};
 ghost use Rattle.cm_words.specs.Meaning.{job_of};
 
 use crate::building::run_build;
@@ -41,7 +41,8 @@ pub fn run<D: Disk, O: Sink, E: Sink>(
     ensures outcome { result ≢ 4 → result ≢ 5 → result ≢ 6 → ForSome (D.files disk.old) (λ files.
         Reaches (outcome_of (map string_bytes words.now) files) result (O.written out.old) (O.written out.new) (E.written err.old) (E.written err.new) (E.faults err.old) (E.faults err.new) (D.files disk.new)) }
 
-    // A build takes the first seed whose graph has an empty 2-core, and is refused where there is none.
+    // A build takes the first seed whose graph has an empty 2-core. It is refused if there is none, and its report shows the 2-core
+    // of the first seed.
     ensures first { result ≡ 0 → ForSome (D.files disk.old) (λ files. ForBuild (job_of (map string_bytes words.now)) (TookFirst files)) }
     ensures cored { result ≡ 1 → ForSome (D.files disk.old) (λ files. ForBuild (job_of (map string_bytes words.now)) (IsCored files)) }
 
@@ -57,13 +58,16 @@ pub fn run<D: Disk, O: Sink, E: Sink>(
 
     // What a refusal leaves of the files. Only a build changes them.
     ensures kept { result ≢ 0 → result ≢ 5 → result ≢ 6 → D.files disk.new ≡ D.files disk.old }
-    ensures part { result ≡ 5 → ForSome (D.files disk.old) (λ files. ForBuild (job_of (map string_bytes words.now)) (SavedPart files (D.files disk.old) (D.files disk.new))) }
+    ensures part { result ≡ 5 → ForSome (D.files disk.old) (λ files. ForBuild (job_of (map string_bytes words.now)) (λ job.
+        SavedPart files (D.files disk.old) (D.files disk.new) (O.written out.old) (O.written out.new) job
+        ⊎ ReportedPart files (D.files disk.old) (D.files disk.new) (O.written out.old) (O.written out.new) job)) }
     ensures memory { result ≡ 6 → (D.files disk.new ≡ D.files disk.old) ⊎ IfBuild (job_of (map string_bytes words.now)) (λ job. D.files disk.new ≡ with_file job.function [] (D.files disk.old)) }
     ensures asked { UnlessBuild (job_of (map string_bytes words.now)) ((D.files disk.new ≡ D.files disk.old) × (D.write_faults disk.new ≡ D.write_faults disk.old)) }
 
-    // Only a query, the help and the version are written to out, and nothing where memory is wanting. Of the help or the version
-    // out gets a front.
-    ensures out { UnlessOut (job_of (map string_bytes words.now)) ((O.written out.new ≡ O.written out.old) × (O.faults out.new ≡ O.faults out.old)) }
+    // Only a query, the help, the version and the report of a refused build are written to out, and nothing if memory runs out. Of
+    // the help or the version out gets a prefix.
+    ensures out { UnlessJob (job_of (map string_bytes words.now)) ((O.written out.new ≡ O.written out.old) × (O.faults out.new ≡ O.faults out.old)) }
+    ensures built { result ≢ 1 → result ≢ 5 → ForBuild (job_of (map string_bytes words.now)) (λ _. O.written out.new ≡ O.written out.old) }
     ensures silent { result ≡ 6 → O.written out.new ≡ O.written out.old }
     ensures front { ForText (job_of (map string_bytes words.now)) (λ text. (n : ℕ) × (O.written out.new ≡ then_bytes (O.written out.old) (take n text))) }
 
@@ -76,7 +80,7 @@ pub fn run<D: Disk, O: Sink, E: Sink>(
     ensures err_sent { E.waits err.old ≡ 0 → IsSent (E.waits err.new) (E.faults err.old) (E.faults err.new) }
 
     // Err gets a query's notes and the message of the status, or a front of them where err itself fails.
-    ensures err { (notes : List ℕ) × (text : List ℕ) × UnlessQuery (job_of (map string_bytes words.now)) (notes ≡ []) × IsMessage (job_of (map string_bytes words.now)) result text
+    ensures err { (notes : List ℕ) × (text : List ℕ) × UnlessQuery (job_of (map string_bytes words.now)) (notes ≡ []) × IsMessage (job_of (map string_bytes words.now)) (O.faults out.old) (O.faults out.new) result text
         × Says (notes ++ text) (E.written err.old) (E.written err.new) (E.faults err.old) (E.faults err.new) }
 {
     match read_words(alloc, words) {
@@ -88,7 +92,7 @@ pub fn run<D: Disk, O: Sink, E: Sink>(
             let printed = print_version(out);
             end_of_text(printed, out, err)
         }
-        Ok(Job::Build(job)) => run_build(alloc, &job, disk, err),
+        Ok(Job::Build(job)) => run_build(alloc, &job, disk, out, err),
         Ok(Job::Query(job)) => run_query(alloc, &job, disk, out, err),
         Err(fault) => report_usage(fault, err),
     }

@@ -1,8 +1,8 @@
-use Rattle.std.proofs.Common.{rules, arith, ◌≡◌, ◌≢◌, ℕ, ◌<◌, [], List, length, sym, ap, ◌∙◌}
+use Rattle.std.proofs.Common.{rules, arith, ◌≡◌, ℕ, [], List, length, sym, ap, ◌∙◌}
 use Rattle.cm_spec.specs.Cells.{plan_of, cells_of}
 use Rattle.cm_spec.specs.Rounds.{rest_of}
 use Rattle.cm_spec.specs.Rule.{IsCount, IsSize}
-use Rattle.cm_algo.proofs.OneSeed.{IsHashed, hashed_from, given_from, left_from, not_nil, no_keys}
+use Rattle.cm_algo.proofs.OneSeed.{IsHashed, hashed_from, given_from, graph_from, no_keys}
 use Rattle.cm_algo.proofs.Tags.{kept_or_zero}
 use Rattle.cm_algo.proofs.seeds.attempt.Goals as goal
 
@@ -20,8 +20,8 @@ assign-requires g c =
     let law = g.met.S.Scheme.laws c.args.scheme.now in
     (omega (arith, law.two_or_three.1), (omega (arith, law.two_or_three.1), (c.in_ok-peeled.ensures.peeling, (none, many))))
 
-pub returns-then-is_empty-clause-made : goal.returns-then-is_empty-clause-made
-returns-then-is_empty-clause-made g c = λ told is.
+pub returns-in_ok-table-clause-made : goal.returns-in_ok-table-clause-made
+returns-in_ok-table-clause-made g c = λ told is.
     let nil : c.rest.result.now ≡ [] = no_keys c.rest.result.now (search rules) in
     let none : rest_of c.hash_all.new.edges.edges ≡ [] = sym c.in_ok-peeled.ensures.peeling.rest ∙ (sym c.rest.ensures ∙ nil) in
     let size : c.in_ok-edges.edges.vertices ≡ (g.S.Scheme.rule c.args.scheme.now).size c.args.m c.args.c = c.in_ok-edges.ensures.vertices ∙ c.size.ensures.size in
@@ -32,12 +32,7 @@ returns-then-is_empty-clause-made g c = λ told is.
     (c.hash_all.ensures.vertices ∙ size) h none
     (c.in_ok-table.ensures.cells ∙ ap (λ (ts : List ℕ). cells_of (plan_of (g.S.Scheme.rule c.args.scheme.now) c.hash_all.new.edges.vertices c.hash_all.new.edges.edges ts)) c.deref.ensures.value)
 
-pub returns-clause-left : goal.returns-clause-left
-returns-clause-left g c = λ told is.
-    let long : 0 < length c.rest.result.now = search rules in
-    let some : rest_of c.hash_all.new.edges.edges ≢ [] = λ e. not_nil c.rest.result.now long (c.rest.ensures ∙ (c.in_ok-peeled.ensures.peeling.rest ∙ e)) in
+pub returns-else-is_empty-clause-left : goal.returns-else-is_empty-clause-left
+returns-else-is_empty-clause-left g c = λ told is.
     let size : c.in_ok-edges.edges.vertices ≡ (g.S.Scheme.rule c.args.scheme.now).size c.args.m c.args.c = c.in_ok-edges.ensures.vertices ∙ c.size.ensures.size in
-    let h : IsHashed (g.S.Scheme.rule c.args.scheme.now) told.keys c.args.m c.args.c c.args.seed c.hash_all.new.edges.edges c.hash_all.new.tags.items =
-    hashed_from (g.S.Scheme.rule c.args.scheme.now) told.keys c.args.m c.args.c c.args.seed c.in_ok-edges.edges.vertices c.hash_all.new.edges.edges c.hash_all.new.tags.items
-    size (c.in_ok-hash_all.ensures.edges told is) (kept_or_zero (g.S.Scheme.rule c.args.scheme.now) c.args.seed told.keys g.S.Scheme.KEEPS_TAGS c.hash_all.new.tags.items (λ b. c.in_ok-hash_all.ensures.tags b told is) c.in_ok-hash_all.ensures.untagged (g.met.S.Scheme.untagged c.args.scheme.now)) c.in_ok-hash_all.ensures.long in
-    left_from (g.S.Scheme.rule c.args.scheme.now) told.keys c.args.m c.args.c c.args.seed c.hash_all.new.edges.edges c.hash_all.new.tags.items h some
+    graph_from (g.S.Scheme.rule c.args.scheme.now) told.keys c.args.m c.args.c c.args.seed c.in_ok-edges.edges.vertices c.hash_all.new.edges.edges size (c.in_ok-hash_all.ensures.edges told is) c.in_ok-hash_all.ensures.long

@@ -4,7 +4,7 @@ use Rattle.cm_tool.proofs.Builds.{leaves_refused}
 use Rattle.cm_tool.proofs.building.build_file.Goals as goal
 
 pub returns-in-Err-clause-leaves : goal.returns-in-Err-clause-leaves
-returns-in-Err-clause-leaves g c = leaves_refused c.args.job.now _ _ c.in-Err.stop c.function_of.ensures.files c.in-Err.ensures.refused
+returns-in-Err-clause-leaves g c = leaves_refused c.args.job.now _ _ _ _ c.in-Err.stop c.function_of.ensures.files c.in-Err.ensures.refused
 
 pub returns-in-Ok-store-clause-leaves : goal.returns-in-Ok-store-clause-leaves
 returns-in-Ok-store-clause-leaves g c =

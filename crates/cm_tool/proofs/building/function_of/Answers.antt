@@ -23,7 +23,8 @@ returns-in-Err-clause-refused g c = λ files is.
     let told = c.new-keys.ensures.told ∙ ap (λ (known : Option (List ℕ)). option_map (keys_in job.first) known) opened.tells in
     let tried : c.as_slice.result.now ≡ seeds_tried job = search rules in
     let fails = rw tried at (c.in-Err.ensures.fault (keys_in job.first opened.bytes) told) in
-    rw c.stop_of.ensures.stop (refused_from job files opened.bytes c.in-Err.fault (rw path at opened.there) fails)
+    let form = rw tried at c.in-Err.ensures.certificate in
+    refused_from job files opened.bytes c.in-Err.fault _ _ c.stop_of.result (rw path at opened.there) fails form c.stop_of.ensures.stops
 
 pub returns-in-Err-clause-changed : goal.returns-in-Err-clause-changed
-returns-in-Err-clause-changed g c = rw c.stop_of.ensures.stop (has_changed _ c.in-Err.fault c.in-Err.ensures.numbers)
+returns-in-Err-clause-changed g c = has_changed _ c.in-Err.fault _ _ c.stop_of.result c.in-Err.ensures.numbers c.stop_of.ensures.stops

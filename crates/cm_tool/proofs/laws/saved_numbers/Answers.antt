@@ -31,7 +31,7 @@ answers_of BdzPh b c seed keys known laws none = (tt, laws.bdz_ph none)
 answers_of Brz b c seed keys known laws none = absurd (known refl)
 
 pub returns : goal.returns
-returns c = λ job old new s files build leaves is.
+returns c = λ job old new out_old out_new s files build leaves is.
     let saves = (leaves.2 files is).0 in
     let made = saves.made in
     let keys = (keys_in job.first saves.bytes).keys in

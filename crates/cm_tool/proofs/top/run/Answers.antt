@@ -47,7 +47,7 @@ returns-in-Ok-Version-clause-err g c =
 
 pub returns-in-Ok-Build-clause-outcome : goal.returns-in-Ok-Build-clause-outcome
 returns-in-Ok-Build-clause-outcome g c = λ a b d files is.
-    rw (asks _ _ _ c.in-Ok-Build.ensures.job c.in-Ok-Build.field-0-is) (c.run_build.ensures.outcome _ a b d files is)
+    rw (asks _ _ _ c.in-Ok-Build.ensures.job c.in-Ok-Build.field-0-is) (c.run_build.ensures.outcome a b d files is)
 
 pub returns-in-Ok-Query-clause-outcome : goal.returns-in-Ok-Query-clause-outcome
 returns-in-Ok-Query-clause-outcome g c = λ a b d files is.
@@ -65,4 +65,4 @@ returns-in-Err-clause-cut g c = λ either files is.
 
 pub returns-in-Err-clause-err : goal.returns-in-Err-clause-err
 returns-in-Err-clause-err g c =
-    ([], usage_message c.in-Err.fault, unless_query _ refl, rw c.report_usage.ensures.status (usage_said _ c.in-Err.fault c.in-Err.ensures.fault), c.report_usage.ensures.says)
+    ([], usage_message c.in-Err.fault, unless_query _ refl, rw c.report_usage.ensures.status (usage_said _ c.in-Err.fault _ _ refl c.in-Err.ensures.fault), c.report_usage.ensures.says)

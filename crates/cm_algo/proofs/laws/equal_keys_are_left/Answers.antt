@@ -1,0 +1,5 @@
+use Rattle.cm_algo.proofs.EqualKeys.{equal_is_left}
+use Rattle.cm_algo.proofs.laws.equal_keys_are_left.Goals as goal
+
+pub returns : goal.returns
+returns c = equal_is_left
