@@ -46,7 +46,7 @@ BAR, GAP, HEAD = 12, 4, 34
 
 def named(row: dict) -> str:
     count = f"{int(row['keys']):,}"
-    return f"{count} made keys" if row["set"].isdigit() else f"{count} {Path(row['set']).name}"
+    return f"{count} generated keys" if row["set"].isdigit() else f"{count} {Path(row['set']).name}"
 
 
 def read(path: Path) -> list[dict]:

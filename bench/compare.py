@@ -3,12 +3,12 @@
 
     bench/compare.py [--name NAME] [--rounds N] [SET ..]
 
-A SET is a number of made keys, `words` (Debian's word list), `paths` (paths of files of this machine), or the path of a
-file of keys. Every tool builds a function over the same keys and answers them all, by turns, N times (3). The least
+A SET is a number of generated keys, `words` (Debian's word list), `paths` (paths of files of this machine), or the path of a
+file of keys. Every tool builds a function over the same keys and answers them all, in N interleaved runs (3). The least
 processor time counts, and the greatest memory.
 
 For equal work each tool takes a seed whose first graph works. This program tries seeds from 1 on, so the keys are chosen:
-the first block of made keys that seed 1 serves, or a file without its last few lines. For the C tool the seed is chosen.
+the first block of generated keys that seed 1 serves, or a file without its last few lines. For the C tool the seed is chosen.
 
 It prints one table: seconds of processor time, peaks of memory and sizes for each key, and in brackets the ratio to the
 C tool. It leaves the table in bench/results/NAME.md, its numbers in bench/results/NAME.csv, and bars of the ratios to the
@@ -175,7 +175,7 @@ def lines_of_paths() -> list[bytes]:
 
 
 def lines_of(name: str) -> list[bytes] | None:
-    """The lines of a set that isn't made, each once, or nothing where it isn't there."""
+    """The lines of a set that isn't generated, each once, or nothing where it isn't there."""
     if name == "paths":
         return lines_of_paths()
     path = WORDS if name == "words" else Path(name)
@@ -296,7 +296,7 @@ def table(rows: list[dict]) -> str:
     lines = ["| keys | algorithm | " + " | ".join(MEASURES) + " | to plain Rust: build | query |"]
     lines.append("|---" * (len(MEASURES) + 4) + "|")
     for (name, count, algorithm), group in groups.items():
-        cells = [f"{count:,} {'made' if name.isdigit() else Path(name).name}", algorithm, *map(shown, group.values())]
+        cells = [f"{count:,} {'generated' if name.isdigit() else Path(name).name}", algorithm, *map(shown, group.values())]
         lines.append("| " + " | ".join([*cells, *(ratio(group[of], "plain") for of in MEASURES[:2])]) + " |")
     return "\n".join(lines)
 
@@ -339,7 +339,7 @@ def main() -> None:
             for algorithm in taken:
                 rows += measure(name, algorithm, asked.rounds, tool, scratch)
     facts = (
-        f"{machine()}; the least processor time and the greatest memory of {asked.rounds} runs, by turns. "
+        f"{machine()}; the least processor time and the greatest memory of {asked.rounds} interleaved runs. "
         "In brackets: the ratio to the C tool. "
         f"Load average {load:.1f} at the start, {os.getloadavg()[0]:.1f} at the end."
     )
