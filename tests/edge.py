@@ -258,6 +258,24 @@ def _(room):
     same("the function file", room.has("keys.mph"), False)
 
 
+@case("status 6: memory that runs out anywhere before a report writes none of it")
+def _(room):
+    room.put("keys", b"\n" * 100000)
+    room.put("keys.mph", b"older")
+    refused = 0
+    for most in range(4 << 20, 32 << 20, 1 << 18):
+        left = room.run("-g", "keys", before=limited(resource.RLIMIT_AS, most))
+        same("the function file", room.get("keys.mph"), b"older")
+        if left.status != 6:
+            same("the status", left.status, 1)
+            same("the first line", left.out.split(b"\n")[0], b"core chm seed 1 edges 100000")
+            same("some limits", refused > 5, True)
+            return
+        ends(left, 6, b"", said("out of memory"))
+        refused += 1
+    raise Wrong("no limit of memory gives status 1")
+
+
 @case("status 3: a header that claims more than there is memory for")
 def _(room):
     room.put("keys", TWO)
