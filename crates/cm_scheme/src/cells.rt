@@ -7,6 +7,7 @@ ghost use Rattle.cm_spec.specs.Graph.{ends_at};
 ghost use Rattle.cm_spec.specs.Rounds.{rest_of, pivot_of};
 ghost use Rattle.cm_spec.specs.Rule.{Rule, IsCount};
 
+use crate::divisor::Divisor;
 use crate::scheme::Scheme;
 use cm_bits::{Cells, filled};
 use cm_graph::Edges;
@@ -34,16 +35,16 @@ fn sum_others<C: Cells, const K: usize>(table: &C, ends: [u32; K], v: u32) -> u6
 
 /// The number below the modulus that brings the sum to the target, which is below the modulus too.
 #[tactic(auto, unfolding(cm_spec::specs::Cells::completing))]
-fn complete(modulus: u32, target: u32, sum: u64) -> u32
-    requires target { target < modulus }
-    ensures value { result ≡ completing modulus target sum }
-    ensures below { result < modulus }
+fn complete(modulus: &Divisor, target: u32, sum: u64) -> u32
+    requires target { target < modulus.now }
+    ensures value { result ≡ completing modulus.now target sum }
+    ensures below { result < modulus.now }
 {
-    let left = (sum % modulus as u64) as u32;
+    let left = modulus.rem_wide(sum);
     if target >= left {
         target - left
     } else {
-        target + (modulus - left)
+        target + (modulus.value() - left)
     }
 }
 
@@ -52,16 +53,16 @@ fn settle<C: Cells, const K: usize>(
     table: &mut C,
     ends: [u32; K],
     position: u32,
-    modulus: u32,
+    modulus: &Divisor,
     target: u32,
 )
     requires small { K ≤ 3 }
     requires position { position < K }
-    requires modulus { (0 < modulus) × (modulus ≤ C.bound_of table.old) }
-    requires target { target < modulus }
+    requires modulus { modulus.now ≤ C.bound_of table.old }
+    requires target { target < modulus.now }
     requires within { All (λ u. u < length (C.cells table.old)) ends }
     ensures bound { C.bound_of table.new ≡ C.bound_of table.old }
-    ensures cells { C.cells table.new ≡ slice_set (C.cells table.old) (slice_index ends.entry position) (completing modulus target (sum_but (C.cells table.old) (slice_index ends.entry position) ends.entry)) }
+    ensures cells { C.cells table.new ≡ slice_set (C.cells table.old) (slice_index ends.entry position) (completing modulus.now target (sum_but (C.cells table.old) (slice_index ends.entry position) ends.entry)) }
 {
     let v = ends[position as usize];
     let value = complete(modulus, target, sum_others(table, ends, v));
@@ -103,16 +104,16 @@ fn settle_each<C: Cells, const K: usize>(
     ends: &[[u32; K]],
     positions: &[u32],
     targets: &[u32],
-    modulus: u32,
+    modulus: &Divisor,
 )
     requires small { K ≤ 3 }
-    requires modulus { (0 < modulus) × (modulus ≤ C.bound_of table.old) }
+    requires modulus { modulus.now ≤ C.bound_of table.old }
     requires within { All (λ each. All (λ u. u < length (C.cells table.old)) each) ends.now }
     requires positions { All (λ position. position < K) positions.now }
-    requires targets { All (λ target. target < modulus) targets.now }
+    requires targets { All (λ target. target < modulus.now) targets.now }
     requires long { (length positions.now ≡ length ends.now) × (length targets.now ≡ length ends.now) }
     ensures bound { C.bound_of table.new ≡ C.bound_of table.old }
-    ensures cells { (p : Plan) (chunk : List ℕ) → p.modulus ≡ modulus → ends.now ≡ map (ends_at p.edges) chunk → positions.now ≡ map (pivot_of p.edges) chunk → targets.now ≡ map p.target chunk → C.cells table.new ≡ one_by_one p (C.cells table.old) chunk }
+    ensures cells { (p : Plan) (chunk : List ℕ) → p.modulus ≡ modulus.now → ends.now ≡ map (ends_at p.edges) chunk → positions.now ≡ map (pivot_of p.edges) chunk → targets.now ≡ map p.target chunk → C.cells table.new ≡ one_by_one p (C.cells table.old) chunk }
 {
     let mut i = ends.len();
     'edges: while i > 0 {
@@ -143,13 +144,13 @@ fn settle_chunk<S: Scheme<K>, const K: usize>(
     let mut ends = [[0; K]; CHUNK];
     let mut positions = [0; CHUNK];
     let mut targets = [0; CHUNK];
-    let modulus = scheme.modulus(edges.len());
+    let modulus = Divisor::new(scheme.modulus(edges.len()));
     let ends = &mut ends[..chunk.len()];
     let positions = &mut positions[..chunk.len()];
     let targets = &mut targets[..chunk.len()];
     edges.gather(chunk, ends);
     look_up(scheme, peeled, tags, chunk, positions, targets);
-    settle_each(table, ends, positions, targets, modulus);
+    settle_each(table, ends, positions, targets, &modulus);
 }
 
 /// The cells of a peeled graph of which nothing is left. The tags are those of the edges, in order; an edge past the last of

@@ -59,4 +59,16 @@ impl Divisor {
             left as u32
         }
     }
+
+    /// The remainder of any `x` by this number. Only for `2^32` and more it takes a division.
+    #[inline]
+    pub fn rem_wide(&self, x: u64) -> u32
+        ensures remainder { result ≡ x % self.now }
+        ensures below { result < self.now }
+    {
+        match u32::try_from(x) {
+            Ok(small) => self.rem(small),
+            Err(_) => (x % self.n as u64) as u32,
+        }
+    }
 }

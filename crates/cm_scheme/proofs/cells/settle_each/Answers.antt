@@ -22,7 +22,7 @@ edges-preserved g c =
       within = omega (arith, inv.within);
       cells = λ p chunk mo en po ta.
           let long : length c.args.ends.now ≡ length chunk = ap length en ∙ length-map chunk (ends_at p.edges) in
-          settle_step p (g.C.Cells.cells c.args.table.now) (g.C.Cells.cells c.edges.table) _ chunk c.index-ends-i.result c.edges.i (get_or c.args.positions.now i 0) (get_or c.args.targets.now i 0) c.args.modulus
+          settle_step p (g.C.Cells.cells c.args.table.now) (g.C.Cells.cells c.edges.table) _ chunk c.index-ends-i.result c.edges.i (get_or c.args.positions.now i 0) (get_or c.args.targets.now i 0) c.args.modulus.now
           (inv.cells p chunk mo en po ta) c.settle.ensures.cells
           (c.index-ends-i.is ∙ (get_or_default c.args.ends.now i _ [] low ∙ at_place (ends_at p.edges) chunk c.args.ends.now i [] en low))
           (at_place (pivot_of p.edges) chunk c.args.positions.now i 0 po (omega (arith, low, c.requires.long.0)))
