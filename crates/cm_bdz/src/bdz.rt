@@ -1,5 +1,5 @@
 //! Functions by BDZ.
-ghost use Rattle.std.specs.Prelude.{◌≡◌, ◌≢◌, ℕ, ◌*◌, ◌^◌, ◌<◌, ◌≤◌, length, count_by, IfOk, IfErr, OnErr, Err};
+ghost use Rattle.std.specs.Prelude.{◌≡◌, ◌≢◌, ◌↔◌, ℕ, ◌*◌, ◌^◌, ◌<◌, ◌≤◌, length, count_by, IfOk, IfErr, OnErr, Err};
 ghost use Rattle.cm_bdz.specs.Functions.{IsThirds};
 ghost use Rattle.cm_rank.specs.Ranks.{StandsFor};
 ghost use Rattle.cm_spec.specs.Bdz.{bdz_size, bdz_rule};
@@ -65,6 +65,17 @@ fn count_busy(cells: &Crumbs) -> u32
     cells.count_busy(3, 0, cells.len())
 }
 
+/// Why there is no function where memory is wanting for the ranks: a wrong count is told before that.
+fn fault_without_ranks(built: &Built<Crumbs>) -> PartsFault
+    ensures { result ≡ PartsFault.BadCount ↔ count_by (is_busy 3) (⟦<Crumbs as Cells>⟧.cells built.now.cells) ≢ built.now.m }
+{
+    if count_busy(&built.cells) == built.m {
+        PartsFault::Memory
+    } else {
+        PartsFault::BadCount
+    }
+}
+
 impl Bdz {
     /// The function of what a build gave: from 1 to 16,777,216 keys, a ratio from 1,000,000 to 10,000,000 millionths, as many
     /// cells as the graph has vertices, of which as many are not 3 as there are keys, and ranks of every `2^b`-th cell, with b
@@ -82,19 +93,20 @@ impl Bdz {
         ensures counted { count_by (is_busy 3) (⟦<Crumbs as Cells>⟧.cells built.cells) ≢ built.m → result ≡ Err PartsFault.BadCount }
         ensures bad_count { result ≡ Err PartsFault.BadCount → count_by (is_busy 3) (⟦<Crumbs as Cells>⟧.cells built.cells) ≢ built.m }
     {
-        if count_busy(&built.cells) != built.m {
+        // The ranks end with the count, so that the cells are looked at once.
+        let Ok(ranks) = RankTable::build(alloc, &built.cells, 3, b) else {
+            return Err(fault_without_ranks(&built));
+        };
+        if ranks.total(&built.cells) != built.m {
             return Err(PartsFault::BadCount);
         }
         let third = Divisor::new(built.cells.len() / 3);
-        match RankTable::build(alloc, &built.cells, 3, b) {
-            Ok(ranks) => Ok(Bdz {
-                built,
-                third,
-                ranks,
-                b,
-            }),
-            Err(_) => Err(PartsFault::Memory),
-        }
+        Ok(Bdz {
+            built,
+            third,
+            ranks,
+            b,
+        })
     }
 
     /// How many keys the function was built over.

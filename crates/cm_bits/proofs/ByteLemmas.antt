@@ -1,9 +1,10 @@
 -- The digits of a byte, by trying each byte.
-use Rattle.std.specs.Prelude.{◌≡◌, ℕ, ◌+◌, ◌-◌, ◌*◌, ◌/◌, ◌%◌, ◌^◌, ◌<◌, Bool, true, false, nat_eq, nat_lt, not, bit_and, bit_or, slice_index, refl}
-use Rattle.std.proofs.Common.{sym}
-use Rattle.std.proofs.lemmas.Bool.{eqb-true, ltb-true}
+use Rattle.std.specs.Prelude.{◌≡◌, ℕ, ◌+◌, ◌-◌, ◌*◌, ◌/◌, ◌%◌, ◌^◌, ◌<◌, ◌≤◌, Bool, true, false, nat_eq, nat_le, nat_lt, not, bit_and, bit_or, List, position, slice_index, None, refl}
+use Rattle.std.proofs.Common.{arith, sym}
+use Rattle.std.proofs.lemmas.Bool.{eqb-true, lt-leb, ltb-true}
 use Rattle.cm_bits.specs.declared.packings.TheConstants.{DIGITS}
 use Rattle.cm_bits.specs.ByteLaws.{all_below, passes}
+use Rattle.cm_bits.proofs.FaultLemmas.{finds_none}
 
 passes_both : (f : ℕ → ℕ → Bool) (m n j k : ℕ) → all_below (λ a. all_below (f a) n) m ≡ true → j < m → k < n → f j k ≡ true
 passes_both f m n j k e l h = passes (f j) n k (passes (λ a. all_below (f a) n) m j e l) h
@@ -62,3 +63,7 @@ trit_room b i v l h k = ltb-true _ _ (passes_both (λ i v. nat_lt (v * 3 ^ i) 24
 pub trits_from : (b i : ℕ) → b < 256 → i < 5 → nat_lt b (3 ^ i) ≡ nat_eq (b / 3 ^ i) 0
 unfolding all_below
 trits_from b i l h = same_test _ _ (passes_both (λ b i. both_or_neither (nat_lt b (3 ^ i)) (nat_eq (b / 3 ^ i) 0)) 256 5 b i refl l h)
+
+-- no byte is at least a number that they are all below
+pub none_from : (bytes : List ℕ) (most low : ℕ) → ((k : ℕ) → slice_index bytes k ≤ most) → most < low → position (λ b. nat_le low b) bytes ≡ None
+none_from bytes most low h l = finds_none (λ b. nat_le low b) bytes (λ k m. lt-leb low (slice_index bytes k) (omega (arith, h k)))

@@ -1,11 +1,11 @@
 -- When bytes are an image of cells of w bits.
-use Rattle.std.specs.Prelude.{◌≡◌, ◌≢◌, ℕ, suc, ◌+◌, ◌-◌, ◌*◌, ◌/◌, ◌%◌, ◌^◌, ◌<◌, ◌≤◌, List, ◌++◌, length, slice_index, replicate, refl, nat_le, Option, Some, None}
+use Rattle.std.specs.Prelude.{◌≡◌, ◌≢◌, ℕ, suc, ◌+◌, ◌-◌, ◌*◌, ◌/◌, ◌%◌, ◌^◌, ◌<◌, ◌≤◌, List, ◌++◌, length, slice_index, replicate, take, refl, nat_le, Option, Some, None}
 use Rattle.std.specs.List.{position, position_or_len}
 use Rattle.std.proofs.Common.{arith, ap, sym, ◌∙◌, inl, inr, lit<}
 use Rattle.std.proofs.Math.Nat.{pow-suc, zero-div, div-div-eq-div-mul, mod-eq_of_lt, div-eq_of_lt, one-le-pow, div-add-mod}
 use Rattle.std.proofs.lemmas.Nat.{mod_below, div_below, pow_pos}
 use Rattle.std.proofs.lemmas.Bool.{cases_lt, leb-false, lt-leb, le-leb}
-use Rattle.std.proofs.lemmas.List.{get_or_past, get_or_append_left, get_or-append_right, length-append}
+use Rattle.std.proofs.lemmas.List.{get_or_past, get_or_append_left, get_or-append_right, length-append, take_at}
 use Rattle.std.proofs.lemmas.List.FromFn.{fill_by_all}
 use Rattle.std.proofs.lemmas.List.Sums.{fails_before_first}
 use Rattle.cm_spec.specs.Image.{digits_sum, fields_len, fields_byte}
@@ -143,6 +143,17 @@ fields_read w n bound bytes held len h is e =
       in_bound = rw number (sound_cells w n bound (bytes_number bytes) both.0);
       image = rw number (image-fields w n bytes len h clear);
     }
+
+-- the same of bytes that are given with zeros after them
+pub fields_given : (w n bound len : ℕ) (bytes held given : List ℕ) → length bytes ≡ fields_len w n → len ≡ length bytes → held ≡ bytes ++ replicate 8 0 → given ≡ held → ((k : ℕ) → slice_index given k < 256) → fields_fault w n bound (take len given) ≡ None → FieldsRead w n bound bytes held
+fields_given w n bound len bytes held given size is zeros same fit e =
+    let whole : given ≡ bytes ++ replicate 8 0 = same ∙ zeros in
+    let first : take len given ≡ bytes = ap (take len) whole ∙ take_at bytes (replicate 8 0) len (sym is) in
+    let small : (k : ℕ) → slice_index bytes k < 256 = λ k. elim (cases_lt k (length bytes)) [
+      | inl l ↦ let here : slice_index given k ≡ slice_index bytes k = ap (λ bs. slice_index bs k) whole ∙ get_or_append_left bytes (replicate 8 0) 0 k l in omega (arith, fit k, here)
+      | inr l ↦ rw (get_or_past bytes k 0 l) (lit< tt)
+    ] in
+    fields_read w n bound bytes held size small zeros (rw first at e)
 
 -- bytes with zeros after them have the same cells
 pub spare_search : (w n bound : ℕ) (r : Option ℕ) (bytes held : List ℕ) → held ≡ bytes ++ replicate 8 0 → r ≡ position (λ c. nat_le bound c) (field_cells w n (bytes_number held)) → position (λ c. nat_le bound c) (field_cells w n (bytes_number bytes)) ≡ r

@@ -1,12 +1,12 @@
 -- How cells of w bits are written and read.
-use Rattle.std.specs.Prelude.{◌≡◌, ℕ, suc, ◌+◌, ◌-◌, ◌*◌, ◌/◌, ◌%◌, ◌^◌, ◌<◌, ◌≤◌, Bool, List, length, slice_index, replicate, set, get_or, nat_le, bit_and}
+use Rattle.std.specs.Prelude.{◌≡◌, ℕ, suc, ◌+◌, ◌-◌, ◌*◌, ◌/◌, ◌%◌, ◌^◌, ◌<◌, ◌≤◌, Bool, List, length, slice_index, replicate, set, get_or, nat_le, bit_and, ◌↔◌}
 use Rattle.std.specs.List.{position_or_len, range_with_len}
-use Rattle.std.proofs.Common.{arith, ap, sym, ◌∙◌, lit<}
+use Rattle.std.proofs.Common.{arith, ap, sym, ◌∙◌, lit<, inl, inr}
 use Rattle.std.proofs.Math.Nat.{zero-div, mul_comm, mul-sub, pow-le-pow_right, div-div-eq-div-mul, mod-eq_of_lt, one-le-pow, div-add-mod, mul-le-mul_left, zero-mod}
 use Rattle.std.proofs.Math.Pow.{mod-mod-pow}
 use Rattle.std.proofs.lemmas.Nat.{mod_below, div_below, field_of, pow_pos}
 use Rattle.std.proofs.lemmas.Nat.Bits.{and_high}
-use Rattle.std.proofs.lemmas.Bool.{lt-leb, le-leb}
+use Rattle.std.proofs.lemmas.Bool.{cases_lt, lt-leb, le-leb}
 use Rattle.std.proofs.lemmas.List.{ext_get_or, length-set, get_or-set_same, get_or-set_other, length-replicate}
 use Rattle.std.proofs.lemmas.List.FromFn.{get_or-range_with_len}
 use Rattle.std.proofs.lemmas.List.Sums.{position_or_len_is}
@@ -98,6 +98,41 @@ pub field_read : (w i : ℕ) (bytes : List ℕ) → w ≤ 26 → ((k : ℕ) → 
 field_read w i bytes short fit room =
     field_at 8 w i (i * w / 8) (i * w % 8) 64 (bytes_number bytes) (window_at bytes (i * w / 8)) (omega arith) (omega arith) (window_is bytes (i * w / 8) fit room)
 
+-- the cell after it lies in the same eight bytes
+second_read : (w i : ℕ) (bytes : List ℕ) → w ≤ 26 → ((k : ℕ) → slice_index bytes k < 256) → i * w / 8 + 8 ≤ length bytes → bytes_number bytes / (2 ^ w) ^ (i + 1) % 2 ^ w ≡ window_at bytes (i * w / 8) / 2 ^ (i * w % 8 + w) % 2 ^ w
+second_read w i bytes short fit room =
+    let place : w * (i + 1) ≡ 8 * (i * w / 8) + (i * w % 8 + w) = omega arith in
+    field_at 8 w (i + 1) (i * w / 8) (i * w % 8 + w) 64 (bytes_number bytes) (window_at bytes (i * w / 8)) place (omega arith) (window_is bytes (i * w / 8) fit room)
+
+-- two cells more are below a bound
+pair_more : (w i at bit bound : ℕ) (bytes : List ℕ) → w ≤ 26 → ((k : ℕ) → slice_index bytes k < 256) → i * w / 8 + 8 ≤ length bytes → at + bit / 8 ≡ i * w / 8 → bit % 8 ≡ i * w % 8
+    → (window_at bytes (at + bit / 8) / 2 ^ (bit % 8) % 2 ^ w < bound) × (window_at bytes (at + bit / 8) / 2 ^ (bit % 8 + w) % 2 ^ w < bound)
+    → ((j : ℕ) → j < i → bytes_number bytes / (2 ^ w) ^ j % 2 ^ w < bound)
+    → (j : ℕ) → j < i + 2 → bytes_number bytes / (2 ^ w) ^ j % 2 ^ w < bound
+pair_more w i at bit bound bytes short fit room place shift both before j l = elim (cases_lt j i) [
+  | inl m ↦ before j m
+  | inr m ↦ elim (cases_lt i j) [
+    | inl n ↦ let e : j ≡ i + 1 = omega arith in rw (e, second_read w i bytes short fit room, ← place, ← shift) both.1
+    | inr n ↦ let e : j ≡ i = omega arith in rw (e, field_read w i bytes short fit room, ← place, ← shift) both.0
+  ]
+]
+
+-- both of two cells that begin at a bit of the bytes from one on are below a bound
+abbrev pub IsPairBelow : List ℕ → ℕ → ℕ → ℕ → ℕ → Type 0
+IsPairBelow bytes at bit w bound = (window_at bytes (at + bit / 8) / 2 ^ (bit % 8) % 2 ^ w < bound) × (window_at bytes (at + bit / 8) / 2 ^ (bit % 8 + w) % 2 ^ w < bound)
+
+-- a group of eight cells more is below a bound
+pub group_more : (w n g at bound : ℕ) (bytes : List ℕ) → w ≤ 26 → ((k : ℕ) → slice_index bytes k < 256) → length bytes ≡ fields_len w n + 8 → 8 * (g + 1) ≤ n → at ≡ g * w
+    → IsPairBelow bytes at 0 w bound → IsPairBelow bytes at (2 * w) w bound → IsPairBelow bytes at (4 * w) w bound → IsPairBelow bytes at (6 * w) w bound
+    → ((j : ℕ) → j < 8 * g → bytes_number bytes / (2 ^ w) ^ j % 2 ^ w < bound)
+    → (j : ℕ) → j < 8 * (g + 1) → bytes_number bytes / (2 ^ w) ^ j % 2 ^ w < bound
+group_more w n g at bound bytes short fit len inside is a b c d before j l =
+    let room : (i : ℕ) → i < n → i * w / 8 + 8 ≤ length bytes = λ i m. field_room w n i bytes len m in
+    let one = pair_more w (8 * g) at 0 bound bytes short fit (room (8 * g) (omega (arith, inside))) (omega (arith, is)) (omega arith) a before in
+    let two = pair_more w (8 * g + 2) at (2 * w) bound bytes short fit (room (8 * g + 2) (omega (arith, inside))) (omega (arith, is)) (omega arith) b one in
+    let three = pair_more w (8 * g + 2 + 2) at (4 * w) bound bytes short fit (room (8 * g + 2 + 2) (omega (arith, inside))) (omega (arith, is)) (omega arith) c two in
+    pair_more w (8 * g + 2 + 2 + 2) at (6 * w) bound bytes short fit (room (8 * g + 2 + 2 + 2) (omega (arith, inside))) (omega (arith, is)) (omega arith) d three j (omega (arith, l))
+
 -- the cell's place in the number
 field_unit : (w i : ℕ) → (2 ^ w) ^ i ≡ 256 ^ (i * w / 8) * 2 ^ (i * w % 8)
 field_unit w i =
@@ -173,23 +208,35 @@ pub AllBelow-zero : (w n len b : ℕ) (bytes : List ℕ) → 0 < b → bytes ≡
 AllBelow-zero w n len b bytes h z = rw (field_cells-zero w n len bytes z) (λ k l. rw (cell_of_zeros n k) h)
 
 -- a mask of w bits from bit s on takes the part
-pub mask_is : (x s w m : ℕ) → s < 8 → w ≤ 26 → m + 1 ≡ 2 ^ w → bit_and x (m * 2 ^ s % 2 ^ 64) ≡ x / 2 ^ s % 2 ^ w * 2 ^ s
+pub mask_is : (x s w m : ℕ) → s < 34 → w ≤ 26 → m + 1 ≡ 2 ^ w → bit_and x (m * 2 ^ s % 2 ^ 64) ≡ x / 2 ^ s % 2 ^ w * 2 ^ s
 mask_is x s w m low short e =
     let ones : m ≡ 2 ^ w - 1 = omega arith in
     let some : 1 ≤ 2 ^ w = pow_pos w in
     let power : 2 ^ (w + s) ≡ 2 ^ w * 2 ^ s = pow_add 2 w s in
-    let wide : 2 ^ (w + s) ≤ 2 ^ 34 = pow-le-pow_right (lit< tt) (let e : w + s ≤ 34 = omega arith in e) in
+    let wide : 2 ^ (w + s) ≤ 2 ^ 60 = pow-le-pow_right (lit< tt) (let e : w + s ≤ 60 = omega arith in e) in
     let mask : (2 ^ w - 1) * 2 ^ s ≡ 2 ^ (w + s) - 2 ^ s = mul_comm (2 ^ w - 1) (2 ^ s) ∙ mul-sub (2 ^ s) (2 ^ w) 1 ∙ omega arith in
     let fits : (2 ^ w - 1) * 2 ^ s % 2 ^ 64 ≡ 2 ^ (w + s) - 2 ^ s = rw mask (mod-eq_of_lt (omega arith)) in
     rw (ones, fits) (and_high x w s)
 
 -- a value of w bits moved up by s bits fits
-pub shifted_is : (v s w : ℕ) → s < 8 → w ≤ 26 → v < 2 ^ w → v * 2 ^ s % 2 ^ 64 ≡ v * 2 ^ s
+pub shifted_is : (v s w : ℕ) → s < 34 → w ≤ 26 → v ≤ 2 ^ w → v * 2 ^ s % 2 ^ 64 ≡ v * 2 ^ s
 shifted_is v s w low short h =
     let power : 2 ^ (w + s) ≡ 2 ^ w * 2 ^ s = pow_add 2 w s in
-    let wide : 2 ^ (w + s) ≤ 2 ^ 34 = pow-le-pow_right (lit< tt) (let e : w + s ≤ 34 = omega arith in e) in
-    let small : 2 ^ s * v ≤ 2 ^ s * 2 ^ w = mul-le-mul_left (2 ^ s) (let e : v ≤ 2 ^ w = omega arith in e) in
+    let wide : 2 ^ (w + s) ≤ 2 ^ 60 = pow-le-pow_right (lit< tt) (let e : w + s ≤ 60 = omega arith in e) in
+    let small : 2 ^ s * v ≤ 2 ^ s * 2 ^ w = mul-le-mul_left (2 ^ s) h in
     mod-eq_of_lt (omega arith)
+
+-- a part is below a bound where both are moved up
+pub part_below : (x s w m b : ℕ) → s < 34 → w ≤ 26 → m + 1 ≡ 2 ^ w → b ≤ 2 ^ w → (bit_and x (m * 2 ^ s % 2 ^ 64) < b * 2 ^ s % 2 ^ 64) ↔ (x / 2 ^ s % (m + 1) < b)
+part_below x s w m b low short e h =
+    let p : ℕ = x / 2 ^ s % 2 ^ w in
+    let some : 1 ≤ 2 ^ s = pow_pos s in
+    let up : p < b → p * 2 ^ s < b * 2 ^ s = λ l. (let more : 2 ^ s * (p + 1) ≤ 2 ^ s * b = mul-le-mul_left (2 ^ s) (let n : p + 1 ≤ b = omega (arith, l) in n) in omega (arith, more, some)) in
+    let down : p * 2 ^ s < b * 2 ^ s → p < b = λ l. elim (cases_lt p b) [
+      | inl n ↦ n
+      | inr n ↦ let less : 2 ^ s * b ≤ 2 ^ s * p = mul-le-mul_left (2 ^ s) n in absurd (omega (arith, less, l))
+    ] in
+    rw (e, mask_is x s w m low short e, shifted_is b s w low short h) (down, up)
 
 -- a byte of the image is one of the bytes, and no spare one
 pub byte_inside : (b w n q : ℕ) (bytes : List ℕ) → w ≡ width_of b → q < fields_len (width_of b) (length (field_cells w n (bytes_number bytes))) → q < fields_len w n

@@ -1,5 +1,5 @@
 // Searches in bytes, eight bytes as one number, and parts of such a number.
-ghost use Rattle.std.specs.Prelude.{◌≡◌, ◌+◌, ◌*◌, ◌/◌, ◌%◌, ◌^◌, ◌<◌, ◌≤◌, length, position, nat_le};
+ghost use Rattle.std.specs.Prelude.{◌≡◌, ◌+◌, ◌*◌, ◌/◌, ◌%◌, ◌^◌, ◌<◌, ◌≤◌, ◌↔◌, ℕ, IsTrue, length, position, slice_index, nat_le};
 ghost use Rattle.cm_bits.specs.Held.{IsMask, PutsWindow, window_at};
 
 // The place of the first byte that is at least `low`.
@@ -7,6 +7,29 @@ pub fn first_byte_from(bytes: &[u8], low: u32) -> Option<usize>
     ensures { result ≡ position (λ b. nat_le low b) bytes.now }
 {
     bytes.iter().position(|b| *b as u32 >= low)
+}
+
+// The largest byte, or 0 where there is none.
+fn largest(bytes: &[u8]) -> u8
+    ensures { (k : ℕ) → slice_index bytes.now k ≤ result }
+{
+    let mut most = 0u8;
+    for b in bytes {
+        if *b > most {
+            most = *b;
+        }
+    }
+    most
+}
+
+// The place of the first byte that is at least `low`, fast where there is none: the largest of many bytes is found at once.
+pub fn rare_byte_from(bytes: &[u8], low: u32) -> Option<usize>
+    ensures { result ≡ position (λ b. nat_le low b) bytes.now }
+{
+    if (largest(bytes) as u32) < low {
+        return None;
+    }
+    first_byte_from(bytes, low)
 }
 
 /// The number that the eight bytes from place `at` on make, the first the lowest.
@@ -54,6 +77,17 @@ pub fn part(number: u64, shift: u64, mask: u32) -> u32
     ensures { result ≡ number / 2 ^ shift % (mask + 1) }
 {
     ((number >> shift) & mask as u64) as u32
+}
+
+// Whether a part of that many bits is below the bound. The number isn't shifted but the mask and the bound, which a loop does once.
+#[inline]
+pub fn is_part_below(number: u64, shift: u64, mask: u32, bound: u32) -> bool
+    requires shift { shift < 34 }
+    requires ones { IsMask mask }
+    requires bound { bound ≤ mask + 1 }
+    ensures { IsTrue result ↔ (number / 2 ^ shift % (mask + 1) < bound) }
+{
+    number & ((mask as u64) << shift) < (bound as u64) << shift
 }
 
 // The number with another such part.

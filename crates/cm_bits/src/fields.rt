@@ -1,22 +1,20 @@
 // Cells of as many bits as the bound needs, one after another.
-ghost use Rattle.std.specs.Prelude.{◌≡◌, ◌+◌, ◌*◌, ◌/◌, ◌%◌, ◌^◌, ◌<◌, ◌≤◌, ◌++◌, length, slice_index, replicate, position, nat_le, IfOk, ℕ};
+ghost use Rattle.std.specs.Prelude.{◌≡◌, ◌+◌, ◌*◌, ◌/◌, ◌%◌, ◌^◌, ◌<◌, ◌≤◌, ◌↔◌, ◌++◌, IsTrue, length, slice_index, replicate, position, nat_le, IfOk, ℕ};
 ghost use Rattle.cm_bits.specs.Bound.{AllBelow};
 ghost use Rattle.cm_bits.specs.Fault.{bytes_number, field_cells, fields_fault};
 ghost use Rattle.cm_bits.specs.FieldsLaws.{same_fields_bound, field_room_for, field_byte_lt, fields_fault-image};
-ghost use Rattle.cm_bits.specs.Held.{IsFields};
+ghost use Rattle.cm_bits.specs.Held.{IsFields, window_at};
 ghost use Rattle.cm_spec.specs.Image.{width_of, fields_byte, fields_len};
 ghost use Rattle.cm_bits.specs.declared.TheConstants.{MAX_CELLS, MAX_FIELD_BOUND};
 
-use crate::bytes::{first_byte_from, ones, part, put_window, window, with_part};
-use crate::{Cells, ImageFault};
+use crate::bytes::{first_byte_from, is_part_below, ones, part, put_window, window, with_part};
+use crate::{Cells, ImageFault, SPARE};
 use std::alloc::{AllocError, Global};
-
-// How many zero bytes follow the image, so that eight bytes can be read from each of its bytes on.
-const SPARE: usize = 8;
 
 /// A table of numbers of as many bits as its bound needs, from 1 to 26.
 #[derive(Drop)]
 pub struct Fields {
+    // The image and `SPARE` zeros, so that eight bytes can be read from each of its bytes on.
     bytes: Vec<u8>,
     n: u32,
     bound: u32,
@@ -105,11 +103,19 @@ impl Cells for Fields {
     }
 
     fn from_image(alloc: Global, n: u32, bound: u32, bytes: &[u8]) -> Result<Fields, ImageFault> {
-        let width = width(bound);
-        let Ok(held) = with_spare(alloc, bytes) else {
+        let Ok(copy) = with_room(alloc, bytes) else {
             return Err(ImageFault::Memory);
         };
-        if let Some(fault) = fault_in(&held, bytes, n, width, bound) {
+        Self::from_bytes(alloc, n, bound, copy)
+    }
+
+    fn from_bytes(alloc: Global, n: u32, bound: u32, bytes: Vec<u8>) -> Result<Fields, ImageFault> {
+        let width = width(bound);
+        let len = bytes.len();
+        let Ok(held) = with_spare(bytes) else {
+            return Err(ImageFault::Memory);
+        };
+        if let Some(fault) = fault_in(&held, &held[..len], n, width, bound) {
             return Err(fault);
         }
         Ok(Fields {
@@ -130,13 +136,22 @@ fn image_bytes(n: u32, width: u32) -> u64
     (n as u64 * width as u64).div_ceil(8)
 }
 
-// The bytes, and as many zeros after them as a table keeps.
-fn with_spare(alloc: Global, bytes: &[u8]) -> Result<Vec<u8>, AllocError>
+// The bytes, with room for as many more as a table keeps.
+fn with_room(alloc: Global, bytes: &[u8]) -> Result<Vec<u8>, AllocError>
     requires { length bytes.now < 2 ^ 60 }
-    ensures { IfOk result (λ v. v.items ≡ bytes.now ++ replicate 8 0) }
+    ensures { IfOk result (λ v. v.items ≡ bytes.now) }
 {
-    let mut held = Vec::with_capacity(alloc, bytes.len() + SPARE)?;
-    held.extend_from_slice(bytes)?;
+    let mut copy = Vec::with_capacity(alloc, bytes.len() + SPARE)?;
+    copy.extend_from_slice(bytes)?;
+    Ok(copy)
+}
+
+// The bytes, and as many zeros after them as a table keeps.
+fn with_spare(bytes: Vec<u8>) -> Result<Vec<u8>, AllocError>
+    requires { length bytes.items < 2 ^ 60 }
+    ensures { IfOk result (λ v. v.items ≡ bytes.items ++ replicate 8 0) }
+{
+    let mut held = bytes;
     held.extend_from_slice(&[0; SPARE])?;
     Ok(held)
 }
@@ -167,6 +182,51 @@ fn clear_cells(bytes: &[u8], width: u32) -> u64
     8 * zeros as u64 / width as u64
 }
 
+// Whether two cells one after another are below the bound, the first from this bit of the bytes from `at` on.
+#[inline]
+fn is_pair_below(held: &[u8], at: usize, bit: u64, width: u32, mask: u32, bound: u32) -> bool
+    requires width { width ≤ 26 }
+    requires mask { mask + 1 ≡ 2 ^ width }
+    requires bound { bound ≤ 2 ^ width }
+    requires room { at + bit / 8 + 8 ≤ length held.now }
+    ensures { IsTrue result ↔ ((window_at held.now (at + bit / 8) / 2 ^ (bit % 8) % 2 ^ width < bound) × (window_at held.now (at + bit / 8) / 2 ^ (bit % 8 + width) % 2 ^ width < bound)) }
+{
+    let both = window(held, at + (bit / 8) as usize);
+    let shift = bit % 8;
+    part(both, shift, mask) < bound && is_part_below(both, shift + width as u64, mask, bound)
+}
+
+// How many groups of eight cells, which begin with a byte, have cells below the bound alone. All do before group `first`.
+fn groups_below(held: &[u8], first: u32, n: u32, width: u32, bound: u32) -> u32
+    requires width { width ≤ 26 }
+    requires bound { bound ≤ 2 ^ width }
+    requires order { 8 * first ≤ n }
+    requires whole { length held.now ≡ fields_len width n + 8 }
+    requires fit { (k : ℕ) → slice_index held.now k < 256 }
+    requires below { (k : ℕ) → k < 8 * first → bytes_number held.now / (2 ^ width) ^ k % 2 ^ width < bound }
+    ensures some { 8 * result ≤ n }
+    ensures below { (k : ℕ) → k < 8 * result → bytes_number held.now / (2 ^ width) ^ k % 2 ^ width < bound }
+{
+    let mask = ones(width);
+    let w = width as u64;
+    for g in first..n / 8 {
+        let at = (g as u64 * w) as usize;
+        if !is_pair_below(held, at, 0, width, mask, bound) {
+            return g;
+        }
+        if !is_pair_below(held, at, 2 * w, width, mask, bound) {
+            return g;
+        }
+        if !is_pair_below(held, at, 4 * w, width, mask, bound) {
+            return g;
+        }
+        if !is_pair_below(held, at, 6 * w, width, mask, bound) {
+            return g;
+        }
+    }
+    n / 8
+}
+
 // The lowest of n cells that is not below the bound.
 fn bad_cell(held: &[u8], n: u32, width: u32, bound: u32) -> Option<u32>
     requires some { 0 < width }
@@ -183,7 +243,8 @@ fn bad_cell(held: &[u8], n: u32, width: u32, bound: u32) -> Option<u32>
     }
     let mask = ones(width);
     let clear = clear_cells(held, width).min(n as u64) as u32;
-    for i in clear..n {
+    let groups = groups_below(held, clear / 8, n, width, bound);
+    for i in 8 * groups..n {
         if cell(held, i, width, mask) >= bound {
             return Some(i);
         }
@@ -191,7 +252,7 @@ fn bad_cell(held: &[u8], n: u32, width: u32, bound: u32) -> Option<u32>
     None
 }
 
-// Why bytes, which `held` has with zeros after them, are no image of n cells.
+// Why bytes, which `held` has with zeros after them, are no image of n cells. All that is held are bytes.
 fn fault_in(held: &[u8], bytes: &[u8], n: u32, width: u32, bound: u32) -> Option<ImageFault>
     requires room { n ≤ MAX_CELLS }
     requires some { 0 < width }
@@ -200,7 +261,8 @@ fn fault_in(held: &[u8], bytes: &[u8], n: u32, width: u32, bound: u32) -> Option
     requires bound { bound ≤ 2 ^ width }
     requires whole { length bytes.now ≡ fields_len width n }
     requires held { held.now ≡ bytes.now ++ replicate 8 0 }
-    ensures { result ≡ fields_fault width n bound bytes.now }
+    ensures fault { result ≡ fields_fault width n bound bytes.now }
+    ensures fit { (k : ℕ) → slice_index held.now k < 256 }
 {
     if let Some(i) = bad_cell(held, n, width, bound) {
         return Some(ImageFault::BadCell { cell: i });

@@ -31,9 +31,12 @@ pub const MAX_CELLS: u32 = 671_088_645;
 /// The highest bound of `Fields`: its cells have at most 26 bits.
 pub const MAX_FIELD_BOUND: u32 = 67_108_864;
 
+/// How many bytes a table may keep past those of its image. Where a vector has room for so many more, `from_bytes` moves none.
+pub const SPARE: usize = 8;
+
 /// A table of cells: a list of numbers below a bound, neither of whose length and bound a call changes.
 ///
-/// Cells and bytes are counted from 0. Only `zeroed` and `from_image` take memory.
+/// Cells and bytes are counted from 0. Only `zeroed`, `from_image` and `from_bytes` take memory.
 pub trait Cells: Sized {
     // The bound, and the list of the numbers.
     ghost bound_of: { Self → ℕ };
@@ -109,6 +112,21 @@ pub trait Cells: Sized {
         ensures len { IfOk result (λ t. length (cells t) ≡ n) }
         ensures image { IfOk result (λ t. bytes.now ≡ list_of (image_byte bound (cells t)) (image_size n bound)) }
         ensures fault { IfErr result (λ e. (e ≡ Memory) ⊎ (image_fault n bound bytes.now ≡ Some e)) };
+
+    /// The same of bytes that are handed over. A table that keeps its image keeps these bytes, and so takes no memory if the
+    /// vector has room for `SPARE` more.
+    fn from_bytes(alloc: Global, n: u32, bound: u32, bytes: Vec<u8>) -> Result<Self, ImageFault>
+        requires room { n ≤ MAX_CELLS }
+        requires fit { fits bound }
+        requires whole { length bytes.items ≡ image_size n bound }
+        ensures sound { IsOk result → image_fault n bound bytes.items ≡ None }
+        ensures bound { IfOk result (λ t. bound_of t ≡ bound) }
+        ensures len { IfOk result (λ t. length (cells t) ≡ n) }
+        ensures image { IfOk result (λ t. bytes.items ≡ list_of (image_byte bound (cells t)) (image_size n bound)) }
+        ensures fault { IfErr result (λ e. (e ≡ Memory) ⊎ (image_fault n bound bytes.items ≡ Some e)) }
+    {
+        Self::from_image(alloc, n, bound, &bytes)
+    }
 
     // The numbers are below the bound.
     ghost in_bound: { (t : Self) → AllBelow (bound_of t) (cells t) };

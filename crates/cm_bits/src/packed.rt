@@ -8,7 +8,7 @@ ghost use Rattle.cm_spec.specs.Image.{packed_byte, packed_len};
 ghost use Rattle.cm_spec.specs.Lists.{list_of};
 ghost use Rattle.cm_bits.specs.declared.TheConstants.{MAX_CELLS};
 
-use crate::bytes::first_byte_from;
+use crate::bytes::rare_byte_from;
 use crate::{Cells, ImageFault};
 use std::alloc::{AllocError, Global};
 use std::marker::PhantomData;
@@ -148,12 +148,21 @@ impl<B: Packing> Cells for Packed<B> {
         bound: u32,
         bytes: &[u8],
     ) -> Result<Packed<B>, ImageFault> {
-        if let Some(fault) = fault_in::<B>(n, bytes) {
-            return Err(fault);
-        }
         let Ok(bytes) = bytes.to_vec(alloc) else {
             return Err(ImageFault::Memory);
         };
+        Self::from_bytes(alloc, n, bound, bytes)
+    }
+
+    fn from_bytes(
+        alloc: Global,
+        n: u32,
+        bound: u32,
+        bytes: Vec<u8>,
+    ) -> Result<Packed<B>, ImageFault> {
+        if let Some(fault) = fault_in::<B>(n, &bytes) {
+            return Err(fault);
+        }
         Ok(Packed {
             bytes,
             n,
@@ -169,7 +178,7 @@ fn fault_in<B: Packing>(n: u32, bytes: &[u8]) -> Option<ImageFault>
     ensures { result ≡ packed_fault B.BASE B.PER_BYTE n bytes.now }
 {
     let per_byte = B::PER_BYTE;
-    if let Some(place) = first_byte_from(bytes, B::FULL) {
+    if let Some(place) = rare_byte_from(bytes, B::FULL) {
         return Some(ImageFault::BadCell {
             cell: per_byte * place as u32,
         });

@@ -1,17 +1,31 @@
 //! An item of many bytes.
-ghost use Rattle.std.specs.Prelude.{◌≡◌, ◌+◌, ◌<◌, ◌≤◌, ◌^◌, ℕ, List, Option, OnOk, IfOk, length};
+ghost use Rattle.std.specs.Prelude.{◌≡◌, ◌+◌, ◌-◌, ◌<◌, ◌≤◌, ◌^◌, ◌++◌, ℕ, List, Option, OnOk, IfOk, length, replicate};
 ghost use Rattle.std.specs.Option.{ForSome};
 ghost use Rattle.cm_dump.specs.Reading.{Answers, IsAt, HasLoadCause, item_at};
 
 use crate::LoadFault;
 use crate::items::item;
+use cm_bits::SPARE;
 use cm_outer::Source;
-use std::alloc::Global;
+use std::alloc::{AllocError, Global};
 
 /// How many bytes are read at a time.
 const CHUNK: u64 = 65_536;
 
-/// The item of `n` bytes at this offset. Memory is taken as the bytes come, whatever `n` is, and they are read to where they stay.
+/// For how many bytes there is room from the start, so that a short item is never moved.
+const FIRST: u64 = 524_288;
+
+/// Adds zeros, up to `len` bytes, where a table can add those that it keeps past its image.
+fn room_for(all: &mut Vec<u8>, len: usize) -> Result<(), AllocError>
+    requires more { length all.old.items ≤ len }
+    requires few { len < 2 ^ 62 }
+    ensures items { OnOk result (all.new.items ≡ all.old.items ++ replicate (len - length all.old.items) 0) }
+{
+    all.reserve(len - all.len() + SPARE)?;
+    all.resize(len, 0)
+}
+
+/// The item of `n` bytes at this offset, with room for `SPARE` more. Memory is taken as the bytes come, whatever `n` is, and they are read to where they stay.
 pub(crate) fn long_item<S: Source>(
     alloc: Global,
     source: &mut S,
@@ -26,11 +40,14 @@ pub(crate) fn long_item<S: Source>(
     ensures exact { ForSome (S.told source.old) (λ bytes. Answers (λ v. v.items) result (item_at bytes at n)) }
     ensures cause { HasLoadCause (S.faults source.old) (S.faults source.new) result }
 {
-    let mut all = Vec::new(alloc);
+    let mut all = match Vec::with_capacity(alloc, n.min(FIRST) as usize + SPARE) {
+        Ok(all) => all,
+        Err(_) => return Err(LoadFault::Memory),
+    };
     let mut done = 0;
     while done < n {
         let want = (n - done).min(CHUNK);
-        match all.resize((done + want) as usize, 0) {
+        match room_for(&mut all, (done + want) as usize) {
             Err(_) => return Err(LoadFault::Memory),
             Ok(()) => {}
         }

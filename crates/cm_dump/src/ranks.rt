@@ -19,8 +19,8 @@ use cm_rank::RankTable;
 /// How many ranks are gathered before they are written: 4,096 bytes of them.
 const PIECE: u32 = 1024;
 
-/// How many ranks are read at a time: 65,536 bytes of them.
-const CHUNK: u32 = 16_384;
+/// How many ranks are read at a time: 16,384 bytes of them.
+const CHUNK: u32 = 4096;
 
 /// Gathers the ranks from number `from` up to number `until`.
 #[tactic(auto, unfolding(crate::specs::Dumps::ranks_image))]
@@ -127,7 +127,7 @@ pub(crate) fn read_ranks<S: Source>(
     ensures memory { result ≢ Err LoadFault.Memory }
 {
     let entries = ranks.entries();
-    let mut buf = [0u8; 65_536];
+    let mut buf = [0u8; 16_384];
     let mut done = 0;
     while done < entries {
         let count = (entries - done).min(CHUNK);

@@ -68,7 +68,7 @@ fn read_cells<C: Cells + Drop, S: Source>(
         Ok(bytes) => bytes,
         Err(fault) => return Err(fault),
     };
-    match C::from_image(alloc, n, bound, &bytes) {
+    match C::from_bytes(alloc, n, bound, bytes) {
         Ok(cells) => Ok(cells),
         Err(fault) => Err(placed::<C>(24, bound, fault)),
     }

@@ -1,7 +1,8 @@
 //! Ranks by samples.
-ghost use Rattle.std.specs.Prelude.{◌≡◌, ℕ, List, ◌+◌, ◌*◌, ◌^◌, ◌<◌, ◌≤◌, length, slice_index, IfOk};
+ghost use Rattle.std.specs.Prelude.{◌≡◌, ℕ, List, ◌+◌, ◌*◌, ◌^◌, ◌<◌, ◌≤◌, count_by, length, slice_index, IfOk};
 ghost use Rattle.std.specs.Int.{div_ceil};
 ghost use Rattle.cm_rank.specs.Ranks.{rank_of, StandsFor};
+ghost use Rattle.cm_spec.specs.Cells.{is_busy};
 
 use crate::counted::Counted;
 use cm_bits::Cells;
@@ -78,6 +79,21 @@ impl RankTable {
         let step = 1 << self.b;
         let block = i / step;
         self.ranks[block as usize] + count_after(cells, self.idle, self.b, block * step, i)
+    }
+
+    /// How many cells are not idle. At most `2^b` cells are looked at.
+    pub fn total<C: Counted>(&self, cells: &C) -> u32
+        requires stands { StandsFor self.now (C.cells cells.now) }
+        requires some { 0 < length (C.cells cells.now) }
+        ensures total { result ≡ count_by (is_busy self.now.idle) (C.cells cells.now) }
+    {
+        let last = cells.len() - 1;
+        let rank = self.rank(cells, last);
+        if cells.get(last) == self.idle {
+            rank
+        } else {
+            rank + 1
+        }
     }
 
     /// How many ranks there are: one for each `2^b` cells, and one for what is left of them.
