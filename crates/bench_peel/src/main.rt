@@ -1,5 +1,4 @@
-//! Measures peeling as a build does it: fills a list of edges that look random, and peels it over the incidence of 8 bytes a
-//! vertex, without levels.
+//! Measures peeling as a build does it: fills a list of edges that look random, and peels it over `Xored`, without levels.
 //!
 //! With no argument it works on small graphs and prints check sums. With the number of ends, 2 or 3, and a number of edges
 //! it works on one graph of so many, and prints also how many microseconds each work took.

@@ -1,6 +1,6 @@
 ghost use Rattle.std.specs.Prelude.{◌≡◌, ◌<◌};
 
-use cm_graph::{Edges, Incidence, Linked, Steps, Xored};
+use cm_graph::{Edges, Half, Incidence, Linked, Steps, Xored};
 use std::alloc::{AllocError, Global};
 use std::marker::Brand;
 use std::process::Abort;
@@ -77,6 +77,92 @@ fn star<I: Incidence<2> + Drop, L: Ledger>(
     Ok([all, two, last, again, both])
 }
 
+/// Removes the middle edge of a path from both sides: the places that are left alone, and how many of all are.
+fn cut_path<I: Incidence<2> + Drop, L: Ledger>(
+    alloc: Global,
+    blank: Blank,
+) -> Result<[u32; 6], AllocError>
+    requires name { blank.name ≡ L.name }
+    requires parts { blank.parts ≡ L.parts }
+    requires some { 0 < blank.parts }
+{
+    let mut steps = Steps::<L>::new(blank);
+    let mut links = I::empty(alloc, 4, 3)?;
+    links.link(0, [0, 1], &mut steps);
+    links.link(1, [1, 2], &mut steps);
+    links.link(2, [2, 3], &mut steps);
+    let halves = [
+        Half {
+            vertex: 1,
+            place: 4,
+        },
+        Half {
+            vertex: 2,
+            place: 5,
+        },
+    ];
+    let mut places = [0; 2];
+    let count = links.remove(&halves, &mut places, &mut steps);
+    let mut all = [0; 4];
+    let alone = links.list_alone(0, &mut all, &mut steps);
+    Ok([
+        count as u32,
+        places[0],
+        places[1],
+        alone as u32,
+        all[0],
+        all[3],
+    ])
+}
+
+/// Removes from one vertex of two edges with three ends the half-edge of the first.
+fn cut_fork<I: Incidence<3> + Drop, L: Ledger>(
+    alloc: Global,
+    blank: Blank,
+) -> Result<[u32; 4], AllocError>
+    requires name { blank.name ≡ L.name }
+    requires parts { blank.parts ≡ L.parts }
+    requires some { 0 < blank.parts }
+{
+    let mut steps = Steps::<L>::new(blank);
+    let mut links = I::empty(alloc, 9, 6)?;
+    links.link(5, [0, 3, 6], &mut steps);
+    links.link(2, [1, 3, 7], &mut steps);
+    let halves = [Half {
+        vertex: 3,
+        place: 21,
+    }];
+    let mut places = [0; 1];
+    let count = links.remove(&halves, &mut places, &mut steps);
+    let left = links.degree(3, &mut steps);
+    let sole = links.sole(3, &mut steps);
+    Ok([count as u32, places[0], left, sole])
+}
+
+/// Seventy edges that share the vertex 0, and another one too if they are not spread: the degree of 0, how many vertices have one
+/// half-edge, and the place of the last.
+fn crown<I: Incidence<2> + Drop, L: Ledger>(
+    alloc: Global,
+    blank: Blank,
+    spread: bool,
+) -> Result<[u32; 3], AllocError>
+    requires name { blank.name ≡ L.name }
+    requires parts { blank.parts ≡ L.parts }
+    requires some { 0 < blank.parts }
+{
+    let mut edges = Edges::<2>::new(alloc, 71);
+    for i in 0..70 {
+        let other = if spread { 1 + i } else { 1 };
+        edges.push([0, other])?;
+    }
+    let mut steps = Steps::<L>::new(blank);
+    let links = I::from_edges(alloc, &edges, &mut steps)?;
+    let shared = links.degree(0, &mut steps);
+    let mut places = [0; 71];
+    let alone = links.list_alone(0, &mut places, &mut steps);
+    Ok([shared, alone as u32, places[69]])
+}
+
 /// What an incidence of edges with two ends shows, and one of edges with three.
 fn shows<P: Incidence<2> + Drop, T: Incidence<3> + Drop>(
     rt: &impl Abort,
@@ -88,6 +174,14 @@ fn shows<P: Incidence<2> + Drop, T: Incidence<3> + Drop>(
     assert_eq!(rt; seen, [2, 2, 5, 0]);
     let seen = star::<P, Brand>(alloc, Blank::new(1))?;
     assert_eq!(rt; seen, [3, 2, 2, 0, 2]);
+    let seen = cut_path::<P, Brand>(alloc, Blank::new(1))?;
+    assert_eq!(rt; seen, [2, 1, 8, 4, 0, 9]);
+    let seen = cut_fork::<T, Brand>(alloc, Blank::new(1))?;
+    assert_eq!(rt; seen, [1, 9, 1, 2]);
+    let seen = crown::<P, Brand>(alloc, Blank::new(1), false)?;
+    assert_eq!(rt; seen, [70, 0, 0]);
+    let seen = crown::<P, Brand>(alloc, Blank::new(1), true)?;
+    assert_eq!(rt; seen, [70, 70, 277]);
     Ok(())
 }
 

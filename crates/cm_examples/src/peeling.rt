@@ -156,6 +156,24 @@ fn peels_a_triple<I: Incidence<3> + Drop>(
     Ok(())
 }
 
+/// Seventy edges that share a vertex, more than a narrow word counts: with an end of their own each, they go in one round, and
+/// where they are all equal, they stay.
+fn peels_a_crown<I: Incidence<2> + Drop>(rt: &impl Abort, alloc: Global) -> Result<(), AllocError> {
+    let mut spread = Edges::<2>::new(alloc, 71);
+    let mut equal = Edges::<2>::new(alloc, 71);
+    let mut numbers = [0; 70];
+    for i in 0..70u32 {
+        assert!(rt; add(&mut spread, 0, 1 + i)?);
+        assert!(rt; add(&mut equal, 0, 1)?);
+        numbers[i as usize] = i;
+    }
+    let gone = pairs::<I>(alloc, &spread)?;
+    assert!(rt; gives(&gone, spread.len(), &[(1, 1); 70], &numbers, &[]));
+    let left = pairs::<I>(alloc, &equal)?;
+    assert!(rt; gives(&left, equal.len(), &[(0, 0); 70], &[], &numbers));
+    Ok(())
+}
+
 #[test]
 fn small_graphs(rt: HostRuntime) -> Result<(), Fail> {
     let alloc = rt.alloc();
@@ -163,6 +181,8 @@ fn small_graphs(rt: HostRuntime) -> Result<(), Fail> {
     peels_a_path::<Linked<2>>(&rt, alloc)?;
     leaves_a_ring::<Xored<2>>(&rt, alloc)?;
     leaves_a_ring::<Linked<2>>(&rt, alloc)?;
+    peels_a_crown::<Xored<2>>(&rt, alloc)?;
+    peels_a_crown::<Linked<2>>(&rt, alloc)?;
     peels_a_triple::<Xored<3>>(&rt, alloc)?;
     peels_a_triple::<Linked<3>>(&rt, alloc)?;
     Ok(())

@@ -1,8 +1,12 @@
 pub mod Chaining
 pub mod Chains
-pub mod Changes
 pub mod Filled
+pub mod Linking
+pub mod Lone
 pub mod Places
-pub mod Relinks
+pub mod Positions
+pub mod Removing
 pub mod Shares
+pub mod Splitting
 pub mod Walks
+pub mod Words

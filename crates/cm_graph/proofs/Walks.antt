@@ -1,5 +1,5 @@
 -- The names that the walks of `src/slots.rt` cite.
-pub use Rattle.std.proofs.Common.{◌≡◌, ℕ, List, [], ◌∷◌, refl, set, replicate, Option, Some, None, length, w32, lit<}
+pub use Rattle.std.proofs.Common.{◌≡◌, ◌/◌, ◌%◌, ℕ, List, [], ◌∷◌, get_or, map, refl, set, replicate, Option, Some, None, length, w32, lit<}
 pub use Rattle.std.proofs.raw_atomic.Walks.{proved}
 pub use base.Fml.{ftrue}
 pub use mir.Syntax.{named}

@@ -1,31 +1,34 @@
--- What the degree and the xor that are kept of each vertex say of the linked edges.
-use Rattle.std.specs.Prelude.{◌≡◌, ℕ, suc, ◌+◌, ◌-◌, ◌<◌, ◌≤◌, if◌then◌else◌, List, [], ◌∷◌, length, Option, count_by, bit_xor, slice_index_or}
-use Rattle.cm_spec.specs.Graph.{touches}
-use Rattle.cm_graph.specs.Graph.{slot_touches}
-use Rattle.cm_graph.specs.declared.xored.Vertex.{Vertex}
+-- What the degree and the xor that are kept of each vertex say of its half-edges.
+use Rattle.std.specs.Prelude.{◌≡◌, ℕ, suc, ◌+◌, ◌-◌, ◌*◌, ◌/◌, ◌%◌, ◌<◌, ◌≤◌, if◌then◌else◌, List, [], ◌∷◌, length, Option, count_by, bit_xor, slice_index_or}
+use Rattle.std.specs.List.{position_or_len}
+use Rattle.cm_graph.specs.Graph.{lies_in, slot_touches}
+use Rattle.cm_graph.specs.Next.{AreApart}
+use Rattle.cm_graph.specs.declared.wide.Vertex.{Vertex}
 
--- what the slot of number e adds to the xor of v
-abbrev pub share_of : ℕ → ℕ → Option (List ℕ) → ℕ
-share_of v e slot = if slot_touches v slot then e else 0
+-- what the slot of number e adds to the xor of v: the place of its half-edge in v
+abbrev pub share_of : ℕ → ℕ → List (Option ℕ) → ℕ
+share_of v e slot = if slot_touches v slot then 4 * e + position_or_len (lies_in v) slot else 0
 
--- the xor of the numbers of the linked edges that touch v, numbered from e
-abbrev pub xor_of : ℕ → ℕ → List (Option (List ℕ)) → ℕ
+-- the xor of the places of the half-edges in v, where the slots are numbered from e
+abbrev pub xor_of : ℕ → ℕ → List (List (Option ℕ)) → ℕ
 xor_of v e [] = 0
 xor_of v e (s ∷ ss) = bit_xor (share_of v e s) (xor_of v (suc e) ss)
 
--- each vertex has its degree, and the xor of the numbers of its linked edges
-pub record AreKept (vertices : List Vertex) (slots : List (Option (List ℕ))) : Type 0 where
+-- each vertex has its degree, and the xor of the places of its half-edges
+pub record AreKept (vertices : List Vertex) (slots : List (List (Option ℕ))) : Type 0 where
   pub few : length slots ≤ 67108864
+  pub fits : length vertices < 4294967296
+  pub apart : AreApart slots
   pub degree : (v : ℕ) (x : Vertex) → v < length vertices → (slice_index_or vertices v x).degree ≡ count_by (slot_touches v) slots
-  pub edges : (v : ℕ) (x : Vertex) → v < length vertices → (slice_index_or vertices v x).edges ≡ xor_of v 0 slots
+  pub places : (v : ℕ) (x : Vertex) → v < length vertices → (slice_index_or vertices v x).places ≡ xor_of v 0 slots
 
--- a vertex with the edge e, and without it
-abbrev pub with_edge : ℕ → Vertex → Vertex
-with_edge e x = record { degree = x.degree + 1; edges = bit_xor x.edges e }
+-- a degree above a xor of 26 bits, in one number
+abbrev pub vertex_of : ℕ → Vertex
+vertex_of word = record { degree = word / 67108864; places = word % 67108864 }
 
-abbrev pub without_edge : ℕ → Vertex → Vertex
-without_edge e x = record { degree = x.degree - 1; edges = bit_xor x.edges e }
+-- a vertex with the half-edge at a place, and without it
+abbrev pub with_place : ℕ → Vertex → Vertex
+with_place q x = record { degree = x.degree + 1; places = bit_xor x.places q }
 
--- each vertex that is one of the ends is changed by f, and each other one is as before
-abbrev pub AreChanged : (Vertex → Vertex) → List ℕ → List Vertex → List Vertex → Type 0
-AreChanged f ends old new = (v : ℕ) (x : Vertex) → v < length old → slice_index_or new v x ≡ (if touches v ends then f (slice_index_or old v x) else slice_index_or old v x)
+abbrev pub without_place : ℕ → Vertex → Vertex
+without_place q x = record { degree = x.degree - 1; places = bit_xor x.places q }

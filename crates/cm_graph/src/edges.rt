@@ -1,7 +1,7 @@
 //! A list of edges over vertices, each with `K` ends.
 ghost use Rattle.std.specs.Prelude.{◌≡◌, ℕ, ◌<◌, ◌≤◌, [], ◌∷◌, ◌++◌, length, map, All, IfOk, IsOk, OnOk, OnErr, slice_get, Some};
 ghost use Rattle.cm_spec.specs.Graph.{IsEdge, AreEdges, ends_at};
-ghost use Rattle.cm_graph.specs.Graph.{IsWidth};
+ghost use Rattle.cm_graph.specs.Graph.{Graph, IsWidth};
 
 use std::alloc::{AllocError, Global};
 use std::marker::Model;
@@ -25,6 +25,25 @@ impl<const K: usize> Model for Edges<K> {
     ghost view = { λ g. record { vertices = g.vertices; room = g.room; edges = g.ends.items } };
 
     ghost invariant = { λ g. IsWidth K × (g.vertices ≤ 671088645) × (length g.ends.items ≤ 67108864) × (g.room ≤ 67108864) × (g.room ≤ vec_capacity g.ends) × AreEdges K g.vertices g.ends.items };
+}
+
+/// What lends a list of edges. `Incidence::from_edges` asks for one by this bound, since no impl at a type that has `K` itself is proved
+/// to meet a method whose arguments name `K` before `Self`.
+pub trait EdgeList<const K: usize> {
+    /// What is seen of the list.
+    ghost graph: { Self → Graph };
+
+    /// The list.
+    fn edges(&self) -> &Edges<K>
+        ensures { result.now ≡ graph self.now };
+}
+
+impl<const K: usize> EdgeList<K> for Edges<K> {
+    ghost graph = { λ g. g };
+
+    fn edges(&self) -> &Edges<K> {
+        self
+    }
 }
 
 impl<const K: usize> Edges<K> {

@@ -1,34 +1,34 @@
-//! An incidence that keeps for each vertex a chain of the places where it is an end.
-ghost use Rattle.std.specs.Prelude.{◌≡◌, ◌+◌, ◌<◌, All, length, take};
+//! An incidence that keeps for each vertex a chain of the places of its half-edges.
+ghost use Rattle.std.specs.Prelude.{◌≡◌, ◌+◌, ◌<◌, ◌≤◌, [], All, IfOk, length, replicate, true};
 ghost use Rattle.cm_spec.specs.Graph.{IsEdge};
 ghost use Rattle.cm_graph.specs.Graph.{IsFree, IsLinked, linked, unlinked};
 ghost use Rattle.cm_graph.specs.Chained.{chain_from, before_in, chain_without, next_without};
 
-use crate::incidence::Incidence;
+use crate::edges::EdgeList;
+use crate::halves::{Halves, link_each, link_edge, list_from, remove_all, unlink_edge};
+use crate::incidence::{Half, Incidence};
 use crate::slots::Slots;
 use crate::steps::Steps;
 use std::alloc::{AllocError, Global};
 use std::marker::Model;
 use std::sync::ledger::Ledger;
 
-/// How many places of linked edges a vertex has, and the first of its chain.
+/// How many half-edges lie in a vertex, and the first place of its chain.
 #[derive(Clone, Copy)]
 struct Chain {
     degree: u32,
     first: u32,
 }
 
-/// A chain for each vertex, 8 bytes, and 4 bytes for each place: position `j` of the edge `e` is the place `e * K + j`,
-/// and `next` has what follows it in the chain of the vertex there. To unlink an edge takes a walk along the chain of
-/// each end, which no step counts.
+/// A chain for each vertex, 8 bytes, and what follows each place in its chain: 4 bytes for each of four places of an edge.
 #[derive(Drop)]
-pub struct Linked<const K: usize> {
+struct Chains {
     chains: Vec<Chain>,
     next: Vec<u32>,
     slots: Slots,
 }
 
-impl<const K: usize> Model for Linked<K> {
+impl Model for Chains {
     ghost use Rattle.std.specs.Prelude.{length};
     ghost use Rattle.cm_graph.specs.Graph.{Links};
     ghost use Rattle.cm_graph.specs.Chained.{AreChained};
@@ -37,7 +37,7 @@ impl<const K: usize> Model for Linked<K> {
 
     ghost view = { λ x. record { vertices = length x.chains.items; slots = x.slots.each } };
 
-    ghost invariant = { λ x. AreChained K x.chains.items x.next.items x.slots.each };
+    ghost invariant = { λ x. AreChained x.chains.items x.next.items x.slots.each };
 }
 
 /// The place before this one in a chain that has it, but not first.
@@ -77,54 +77,96 @@ fn cut(next: &mut [u32], chain: Chain, place: u32) -> Chain
     left
 }
 
-impl<const K: usize> Linked<K> {
-    /// Chains the end at position `j` of the edge `e`, whose ends before it are chained.
-    fn put_in<L: Ledger>(&mut self, e: u32, j: usize, ends: [u32; K], steps: &mut Steps<L>)
-        requires position { j < K }
-        requires edge { IsEdge self.old.vertices ends }
-        requires linked { IsLinked self.old e (take j ends) }
-        ensures links { self.new ≡ linked self.old e (take (j + 1) ends.entry) }
-        ensures steps { steps.new ≡ steps.old + 1 }
+impl Chains {
+    /// No half-edge, over `vertices` vertices, with edge numbers below `edges`.
+    fn empty(alloc: Global, vertices: u32, edges: u32) -> Result<Self, AllocError>
+        requires edges { edges ≤ 67108864 }
+        ensures { IfOk result (λ made. made ≡ record { vertices = vertices; slots = replicate edges [] }) }
     {
-        let chain = &mut self.chains[ends[j] as usize];
-        let place = e as usize * K + j;
-        self.next[place] = chain.first;
-        chain.first = place as u32;
-        chain.degree += 1;
-        self.slots = self.slots.linked(e, &ends[..j + 1]);
-        steps.tick();
+        let none = Chain {
+            degree: 0,
+            first: 0,
+        };
+        Ok(Chains {
+            chains: vec![in alloc; none; vertices as usize]?,
+            next: vec![in alloc; 0; 4 * edges as usize]?,
+            slots: Slots::none(edges),
+        })
+    }
+}
+
+impl Halves for Chains {
+    ghost kept = { λ x. x };
+
+    ghost holds_all = { true };
+
+    fn slots(&self) -> Slots {
+        self.slots.same()
     }
 
-    /// Takes the end at position `j` of the edge `e`, whose ends after it aren't chained, out of its chain.
-    fn take_out<L: Ledger>(&mut self, e: u32, j: usize, ends: [u32; K], steps: &mut Steps<L>)
-        requires position { j < K }
-        requires edge { IsEdge self.old.vertices ends }
-        requires linked { IsLinked self.old e (take (j + 1) ends) }
-        ensures links { self.new ≡ linked self.old e (take j ends.entry) }
-        ensures steps { steps.new ≡ steps.old + 1 }
-    {
-        let v = ends[j] as usize;
-        let chain = self.chains[v];
-        let place = e as usize * K + j;
-        self.chains[v] = cut(&mut self.next, chain, place as u32);
-        self.slots = self.slots.linked(e, &ends[..j]);
-        steps.tick();
+    fn put(&mut self, half: Half, more: Slots) -> bool {
+        let chain = &mut self.chains[half.vertex as usize];
+        self.next[half.place as usize] = chain.first;
+        chain.first = half.place;
+        chain.degree += 1;
+        self.slots = more;
+        true
     }
+
+    fn take_out(&mut self, half: Half, less: Slots) {
+        let v = half.vertex as usize;
+        let chain = self.chains[v];
+        self.chains[v] = cut(&mut self.next, chain, half.place);
+        self.slots = less;
+    }
+
+    fn degree_at(&self, v: u32) -> u32 {
+        self.chains[v as usize].degree
+    }
+
+    fn place_at(&self, v: u32) -> u32 {
+        self.chains[v as usize].first
+    }
+}
+
+/// A chain for each vertex, 8 bytes, and 16 bytes for each edge: position `j` of the edge `e` is the place `4 * e + j`, and each place
+/// has what follows it in the chain of the vertex there. To remove a half-edge takes a walk along the chain of its vertex, which no step
+/// counts.
+#[derive(Drop)]
+pub struct Linked<const K: usize> {
+    table: Chains,
+}
+
+impl<const K: usize> Model for Linked<K> {
+    ghost use Rattle.cm_graph.specs.Graph.{Links, IsWidth};
+
+    ghost Value = { Links };
+
+    ghost view = { λ x. x.table };
+
+    ghost invariant = { λ x. IsWidth K };
 }
 
 impl<const K: usize> Incidence<K> for Linked<K> {
     ghost links = { λ x. x };
 
+    ghost takes = { λ _. true };
+
     fn empty(alloc: Global, vertices: u32, edges: u32) -> Result<Self, AllocError> {
-        let none = Chain {
-            degree: 0,
-            first: 0,
-        };
         Ok(Linked {
-            chains: vec![in alloc; none; vertices as usize]?,
-            next: vec![in alloc; 0; K * edges as usize]?,
-            slots: Slots::none(edges),
+            table: Chains::empty(alloc, vertices, edges)?,
         })
+    }
+
+    fn from_edges<E: EdgeList<K>, L: Ledger>(
+        alloc: Global,
+        edges: &E,
+        steps: &mut Steps<L>,
+    ) -> Result<Self, AllocError> {
+        let edges = edges.edges();
+        let mut table = Chains::empty(alloc, edges.vertices(), edges.len())?;
+        link_each(&mut table, edges, steps);
+        Ok(Linked { table })
     }
 
     fn link<L: Ledger>(&mut self, e: u32, ends: [u32; K], steps: &mut Steps<L>)
@@ -133,10 +175,7 @@ impl<const K: usize> Incidence<K> for Linked<K> {
         ensures links { self.new ≡ linked self.old e ends.entry }
         ensures steps { steps.new ≡ steps.old + K }
     {
-        self.slots = self.slots.linked(e, &[]);
-        for j in 0..K {
-            self.put_in(e, j, ends, steps);
-        }
+        link_edge(&mut self.table, e, ends, steps);
     }
 
     fn unlink<L: Ledger>(&mut self, e: u32, ends: [u32; K], steps: &mut Steps<L>)
@@ -145,19 +184,29 @@ impl<const K: usize> Incidence<K> for Linked<K> {
         ensures links { self.new ≡ unlinked self.old e }
         ensures steps { steps.new ≡ steps.old + K }
     {
-        for j in (0..K).rev() {
-            self.take_out(e, j, ends, steps);
-        }
-        self.slots = self.slots.unlinked(e);
+        unlink_edge(&mut self.table, e, ends, steps);
+    }
+
+    fn remove<L: Ledger>(
+        &mut self,
+        halves: &[Half],
+        places: &mut [u32],
+        steps: &mut Steps<L>,
+    ) -> usize {
+        remove_all(&mut self.table, halves, places, steps)
+    }
+
+    fn list_alone<L: Ledger>(&self, first: u32, places: &mut [u32], steps: &mut Steps<L>) -> usize {
+        list_from(&self.table, first, places, steps)
     }
 
     fn degree<L: Ledger>(&self, v: u32, steps: &mut Steps<L>) -> u32 {
         steps.tick();
-        self.chains[v as usize].degree
+        self.table.degree_at(v)
     }
 
     fn sole<L: Ledger>(&self, v: u32, steps: &mut Steps<L>) -> u32 {
         steps.tick();
-        self.chains[v as usize].first / K as u32
+        self.table.place_at(v) / 4
     }
 }

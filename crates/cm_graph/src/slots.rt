@@ -1,14 +1,16 @@
 //! The slots of an incidence, which only proofs read.
-ghost use Rattle.std.specs.Prelude.{◌≡◌, ℕ, List, Option, None, Some, replicate, slice_set};
+ghost use Rattle.std.specs.Prelude.{◌≡◌, ℕ, ◌/◌, ◌%◌, List, [], Option, None, replicate, slice_set, slice_index_or};
 ghost use Rattle.std.specs.Borrow.{ftrue};
+ghost use Rattle.cm_graph.specs.Graph.{halves_of};
+ghost use Rattle.cm_graph.specs.Next.{with_half};
 
 use std::marker::Model;
 
-/// For each edge number the ends of the linked edge of that number, if it is linked. It takes no bytes, and its methods
-/// do nothing at run time.
+/// For each edge number its half-edges, if the edge of that number is linked. It takes no bytes, and its methods do nothing at run
+/// time.
 #[derive(Drop)]
 pub(crate) struct Slots {
-    pub ghost each: { List (Option (List ℕ)) },
+    pub ghost each: { List (List (Option ℕ)) },
 }
 
 impl Model for Slots {
@@ -18,21 +20,35 @@ impl Model for Slots {
 impl Slots {
     /// No edge linked, with edge numbers below `_edges`.
     pub(crate) fn none(_edges: u32) -> Slots
-        ensures { result.each ≡ replicate _edges None }
+        ensures { result.each ≡ replicate _edges [] }
+    {
+        Slots {}
+    }
+
+    /// The same slots again.
+    pub(crate) fn same(&self) -> Slots
+        ensures { result.each ≡ self.now.each }
     {
         Slots {}
     }
 
     /// With an edge linked.
     pub(crate) fn linked(&self, _e: u32, _ends: &[u32]) -> Slots
-        ensures { result.each ≡ slice_set self.now.each _e (Some _ends.now) }
+        ensures { result.each ≡ slice_set self.now.each _e (halves_of _ends.now) }
     {
         Slots {}
     }
 
-    /// With an edge not linked.
-    pub(crate) fn unlinked(&self, _e: u32) -> Slots
-        ensures { result.each ≡ slice_set self.now.each _e None }
+    /// Without the half-edge at a place.
+    pub(crate) fn removed(&self, _place: u32) -> Slots
+        ensures { result.each ≡ slice_set self.now.each (_place / 4) (slice_set (slice_index_or self.now.each (_place / 4) []) (_place % 4) None) }
+    {
+        Slots {}
+    }
+
+    /// With a half-edge.
+    pub(crate) fn with(&self, _vertex: u32, _place: u32) -> Slots
+        ensures { result.each ≡ slice_set self.now.each (_place / 4) (with_half (slice_index_or self.now.each (_place / 4) []) (_place % 4) _vertex) }
     {
         Slots {}
     }

@@ -1,123 +1,255 @@
-//! An incidence that keeps for each vertex its degree, and the xor of the numbers of its linked edges.
-ghost use Rattle.std.specs.Prelude.{◌≡◌, ℕ, ◌+◌, ◌<◌, ◌≤◌, if◌then◌else◌, length, slice_index_or};
-ghost use Rattle.cm_spec.specs.Graph.{IsEdge, touches};
-ghost use Rattle.cm_graph.specs.Graph.{IsFree, IsLinked, linked, unlinked};
-ghost use Rattle.cm_graph.specs.Kept.{AreChanged, with_edge, without_edge};
+//! An incidence that keeps for each vertex its degree, and the xor of the places of its half-edges.
+ghost use Rattle.std.specs.Prelude.{◌≡◌, ◌+◌, ◌*◌, ◌<◌, ◌≤◌, All, IfOk, length, take, true};
+ghost use Rattle.std.specs.Option.{ForSome};
+ghost use Rattle.cm_spec.specs.Graph.{IsEdge};
+ghost use Rattle.cm_graph.specs.Graph.{AreHalves, IsFree, IsLinked, IsWidth, alone_from, all_linked, degree_of, linked, places_of, removed_all, sole_of, unlinked};
+ghost use Rattle.cm_graph.specs.Choice.{seen_of};
 
-use crate::incidence::Incidence;
-use crate::slots::Slots;
+use crate::blocks::link_all;
+use crate::edges::{EdgeList, Edges};
+use crate::halves::{Halves, link_edge, list_from, remove_all, unlink_edge};
+use crate::incidence::{Half, Incidence};
+use crate::narrow::{MOST_EDGES, Narrow};
 use crate::steps::Steps;
+use crate::wide::Wide;
 use std::alloc::{AllocError, Global};
 use std::marker::Model;
 use std::sync::ledger::Ledger;
 
-/// The number of a vertex's linked edges, and the xor of their numbers.
-#[derive(Clone, Copy)]
-struct Vertex {
-    degree: u32,
-    edges: u32,
+/// A word for each vertex, of 4 bytes or of 8.
+#[derive(Drop)]
+enum Table {
+    Narrow(Narrow),
+    Wide(Wide),
 }
 
-/// A degree and a xor for each vertex, 8 bytes together.
+/// All edges in words of 4 bytes, if these suffice.
+fn narrow_of<const K: usize, L: Ledger>(
+    alloc: Global,
+    edges: &Edges<K>,
+    steps: &mut Steps<L>,
+) -> Result<Option<Narrow>, AllocError>
+    ensures links { IfOk result (λ made. ForSome made (λ words. words ≡ all_linked edges.now.vertices edges.now.edges)) }
+    ensures steps { steps.new ≤ steps.old + K * length edges.now.edges }
+{
+    if edges.len() > MOST_EDGES {
+        return Ok(None);
+    }
+    let mut words = Narrow::empty(alloc, edges.vertices(), edges.len())?;
+    if link_all(alloc, &mut words, edges, steps)? {
+        Ok(Some(words))
+    } else {
+        Ok(None)
+    }
+}
+
+/// All edges in words of 8 bytes.
+fn wide_of<const K: usize, L: Ledger>(
+    alloc: Global,
+    edges: &Edges<K>,
+    steps: &mut Steps<L>,
+) -> Result<Wide, AllocError>
+    ensures links { IfOk result (λ words. words ≡ all_linked edges.now.vertices edges.now.edges) }
+    ensures steps { steps.new ≤ steps.old + K * length edges.now.edges }
+{
+    let mut words = Wide::empty(alloc, edges.vertices(), edges.len())?;
+    link_all(alloc, &mut words, edges, steps)?;
+    Ok(words)
+}
+
+impl Table {
+    /// All edges, in narrow words if these suffice. The narrow words are given back before wide ones are taken.
+    fn from_edges<const K: usize, L: Ledger>(
+        alloc: Global,
+        edges: &Edges<K>,
+        steps: &mut Steps<L>,
+    ) -> Result<Self, AllocError>
+        ensures links { IfOk result (λ made. (seen_of made).links ≡ all_linked edges.now.vertices edges.now.edges) }
+        ensures steps { steps.new ≤ steps.old + 2 * (K * length edges.now.edges) }
+    {
+        match narrow_of(alloc, edges, steps)? {
+            Some(words) => Ok(Table::Narrow(words)),
+            None => Ok(Table::Wide(wide_of(alloc, edges, steps)?)),
+        }
+    }
+
+    /// Links an edge in wide words.
+    fn link<const K: usize, L: Ledger>(&mut self, e: u32, ends: [u32; K], steps: &mut Steps<L>)
+        requires width { IsWidth K }
+        requires takes { (seen_of self.old).takes ≡ true }
+        requires free { IsFree (seen_of self.old).links e }
+        requires edge { IsEdge (seen_of self.old).links.vertices ends }
+        ensures links { (seen_of self.new).links ≡ linked (seen_of self.old).links e ends.entry }
+        ensures takes { (seen_of self.new).takes ≡ true }
+        ensures steps { steps.new ≡ steps.old + K }
+    {
+        match self {
+            Table::Narrow(_) => unreachable!(),
+            Table::Wide(words) => {
+                link_edge(words, e, ends, steps);
+            }
+        }
+    }
+
+    /// Unlinks an edge.
+    fn unlink<const K: usize, L: Ledger>(&mut self, e: u32, ends: [u32; K], steps: &mut Steps<L>)
+        requires width { IsWidth K }
+        requires linked { IsLinked (seen_of self.old).links e ends }
+        requires edge { IsEdge (seen_of self.old).links.vertices ends }
+        ensures links { (seen_of self.new).links ≡ unlinked (seen_of self.old).links e }
+        ensures takes { (seen_of self.new).takes ≡ (seen_of self.old).takes }
+        ensures steps { steps.new ≡ steps.old + K }
+    {
+        match self {
+            Table::Narrow(words) => unlink_edge(words, e, ends, steps),
+            Table::Wide(words) => unlink_edge(words, e, ends, steps),
+        }
+    }
+
+    /// Removes half-edges, and lists those that are left alone in their vertices.
+    fn remove<L: Ledger>(
+        &mut self,
+        halves: &[Half],
+        places: &mut [u32],
+        steps: &mut Steps<L>,
+    ) -> usize
+        requires vertices { All (λ h. h.vertex < (seen_of self.old).links.vertices) halves.now }
+        requires halves { AreHalves (seen_of self.old).links halves.now }
+        requires room { length halves.now ≤ length places.old }
+        ensures links { (seen_of self.new).links ≡ removed_all (seen_of self.old).links halves.now }
+        ensures takes { (seen_of self.new).takes ≡ (seen_of self.old).takes }
+        ensures few { result ≤ length halves.now }
+        ensures places { take result places.new ≡ places_of (seen_of self.new).links halves.now }
+        ensures steps { steps.new ≡ steps.old + 2 * length halves.now }
+    {
+        match self {
+            Table::Narrow(words) => remove_all(words, halves, places, steps),
+            Table::Wide(words) => remove_all(words, halves, places, steps),
+        }
+    }
+
+    /// Lists the half-edges that are alone in one of the vertices from `first` on.
+    fn list_alone<L: Ledger>(&self, first: u32, places: &mut [u32], steps: &mut Steps<L>) -> usize
+        requires vertices { first + length places.old ≤ (seen_of self.now).links.vertices }
+        ensures few { result ≤ length places.old }
+        ensures places { take result places.new ≡ alone_from (seen_of self.now).links first (length places.old) }
+        ensures steps { steps.new ≡ steps.old + length places.old }
+    {
+        match self {
+            Table::Narrow(words) => list_from(words, first, places, steps),
+            Table::Wide(words) => list_from(words, first, places, steps),
+        }
+    }
+
+    /// The degree of a vertex.
+    fn degree(&self, v: u32) -> u32
+        requires { v < (seen_of self.now).links.vertices }
+        ensures { result ≡ degree_of (seen_of self.now).links v }
+    {
+        match self {
+            Table::Narrow(words) => words.degree_at(v),
+            Table::Wide(words) => words.degree_at(v),
+        }
+    }
+
+    /// The edge of a vertex of degree one.
+    fn sole(&self, v: u32) -> u32
+        requires vertex { v < (seen_of self.now).links.vertices }
+        requires one { degree_of (seen_of self.now).links v ≡ 1 }
+        ensures { result ≡ sole_of (seen_of self.now).links v }
+    {
+        let place = match self {
+            Table::Narrow(words) => words.place_at(v),
+            Table::Wide(words) => words.place_at(v),
+        };
+        place / 4
+    }
+}
+
+/// A degree and a xor for each vertex: `from_edges` takes 4 bytes for both where there are at most 16,777,216 edges, and at most 63
+/// of them in one vertex; else, and in `empty`, they take 8 bytes. Over more than 2,097,152 vertices `from_edges` takes 4 bytes an edge
+/// more until it returns.
 #[derive(Drop)]
 pub struct Xored<const K: usize> {
-    vertices: Vec<Vertex>,
-    slots: Slots,
+    table: Table,
 }
 
 impl<const K: usize> Model for Xored<K> {
-    ghost use Rattle.std.specs.Prelude.{length};
-    ghost use Rattle.cm_graph.specs.Graph.{Links};
-    ghost use Rattle.cm_graph.specs.Kept.{AreKept};
+    ghost use Rattle.cm_graph.specs.Graph.{IsWidth};
+    ghost use Rattle.cm_graph.specs.Choice.{Seen, seen_of};
 
-    ghost Value = { Links };
+    ghost Value = { Seen };
 
-    ghost view = { λ x. record { vertices = length x.vertices.items; slots = x.slots.each } };
+    ghost view = { λ x. seen_of x.table };
 
-    ghost invariant = { λ x. AreKept x.vertices.items x.slots.each };
-}
-
-/// Raises the degree of each end, and takes `e` into its xor.
-fn raise<const K: usize, L: Ledger>(
-    vertices: &mut [Vertex],
-    e: u32,
-    ends: [u32; K],
-    steps: &mut Steps<L>,
-)
-    requires edge { IsEdge (length vertices.old) ends }
-    requires room { (v : ℕ) (x : Vertex) → v < length vertices.old → (slice_index_or vertices.old v x).degree ≤ 67108864 }
-    ensures vertices { AreChanged (with_edge e) ends.entry vertices.old vertices.new }
-    ensures steps { steps.new ≡ steps.old + K }
-{
-    for v in ends {
-        let vertex = &mut vertices[v as usize];
-        vertex.degree += 1;
-        vertex.edges ^= e;
-        steps.tick();
-    }
-}
-
-/// Lowers the degree of each end, and takes `e` out of its xor.
-fn lower<const K: usize, L: Ledger>(
-    vertices: &mut [Vertex],
-    e: u32,
-    ends: [u32; K],
-    steps: &mut Steps<L>,
-)
-    requires edge { IsEdge (length vertices.old) ends }
-    requires some { (v : ℕ) (x : Vertex) → v < length vertices.old → (if touches v ends then 1 else 0) ≤ (slice_index_or vertices.old v x).degree }
-    ensures vertices { AreChanged (without_edge e) ends.entry vertices.old vertices.new }
-    ensures steps { steps.new ≡ steps.old + K }
-{
-    for v in ends {
-        let vertex = &mut vertices[v as usize];
-        vertex.degree -= 1;
-        vertex.edges ^= e;
-        steps.tick();
-    }
+    ghost invariant = { λ x. IsWidth K };
 }
 
 impl<const K: usize> Incidence<K> for Xored<K> {
-    ghost links = { λ x. x };
+    ghost links = { λ x. x.links };
+
+    ghost takes = { λ x. x.takes };
 
     fn empty(alloc: Global, vertices: u32, edges: u32) -> Result<Self, AllocError> {
-        let none = Vertex {
-            degree: 0,
-            edges: 0,
-        };
         Ok(Xored {
-            vertices: vec![in alloc; none; vertices as usize]?,
-            slots: Slots::none(edges),
+            table: Table::Wide(Wide::empty(alloc, vertices, edges)?),
+        })
+    }
+
+    fn from_edges<E: EdgeList<K>, L: Ledger>(
+        alloc: Global,
+        edges: &E,
+        steps: &mut Steps<L>,
+    ) -> Result<Self, AllocError> {
+        let edges = edges.edges();
+        // For the proof alone: an edge has two or three ends.
+        let _many = edges.len();
+        Ok(Xored {
+            table: Table::from_edges(alloc, edges, steps)?,
         })
     }
 
     fn link<L: Ledger>(&mut self, e: u32, ends: [u32; K], steps: &mut Steps<L>)
-        requires free { IsFree self.old e }
-        requires edge { IsEdge self.old.vertices ends }
-        ensures links { self.new ≡ linked self.old e ends.entry }
+        requires takes { self.old.takes ≡ true }
+        requires free { IsFree self.old.links e }
+        requires edge { IsEdge self.old.links.vertices ends }
+        ensures links { self.new.links ≡ linked self.old.links e ends.entry }
+        ensures takes { self.new.takes ≡ true }
         ensures steps { steps.new ≡ steps.old + K }
     {
-        raise(&mut self.vertices, e, ends, steps);
-        self.slots = self.slots.linked(e, &ends);
+        self.table.link(e, ends, steps);
     }
 
     fn unlink<L: Ledger>(&mut self, e: u32, ends: [u32; K], steps: &mut Steps<L>)
-        requires linked { IsLinked self.old e ends }
-        requires edge { IsEdge self.old.vertices ends }
-        ensures links { self.new ≡ unlinked self.old e }
+        requires linked { IsLinked self.old.links e ends }
+        requires edge { IsEdge self.old.links.vertices ends }
+        ensures links { self.new.links ≡ unlinked self.old.links e }
+        ensures takes { self.new.takes ≡ self.old.takes }
         ensures steps { steps.new ≡ steps.old + K }
     {
-        lower(&mut self.vertices, e, ends, steps);
-        self.slots = self.slots.unlinked(e);
+        self.table.unlink(e, ends, steps);
+    }
+
+    fn remove<L: Ledger>(
+        &mut self,
+        halves: &[Half],
+        places: &mut [u32],
+        steps: &mut Steps<L>,
+    ) -> usize {
+        self.table.remove(halves, places, steps)
+    }
+
+    fn list_alone<L: Ledger>(&self, first: u32, places: &mut [u32], steps: &mut Steps<L>) -> usize {
+        self.table.list_alone(first, places, steps)
     }
 
     fn degree<L: Ledger>(&self, v: u32, steps: &mut Steps<L>) -> u32 {
         steps.tick();
-        self.vertices[v as usize].degree
+        self.table.degree(v)
     }
 
     fn sole<L: Ledger>(&self, v: u32, steps: &mut Steps<L>) -> u32 {
         steps.tick();
-        self.vertices[v as usize].edges
+        self.table.sole(v)
     }
 }

@@ -1,20 +1,18 @@
 -- Lists that are filled by a loop, and pieces of lists.
-use Rattle.std.proofs.Common.{◌≡◌, ◌≢◌, ◌⊎◌, ℕ, ◌+◌, ◌<◌, ◌≤◌, Bool, true, false, cond, eqb, List, [], ◌∷◌, ◌++◌, length, get_or, set, take, sym, ap, ◌∙◌, inl, inr, arith, refl, append-nil, below_more, get_or-set_other}
-use Rattle.std.specs.List.Sorted.{IsStrictlyIncreasing}
+use Rattle.std.proofs.Common.{◌≡◌, ◌⊎◌, ℕ, ◌+◌, ◌<◌, ◌≤◌, Bool, true, false, cond, List, [], ◌∷◌, ◌++◌, length, get_or, set, take, sym, ap, ◌∙◌, inl, inr, arith, append-nil, get_or-set_other}
 use mir.Val.{bool_byte}
-use Rattle.std.proofs.lemmas.Bool.{or_parts, eqb-false, cases_eq, cond-true}
+use Rattle.std.proofs.lemmas.Bool.{cases_eq, cond-true}
 use Rattle.std.proofs.lemmas.Grind.{get_or-set_at}
 use Rattle.std.proofs.lemmas.List.{take_more, take_more_set, take-set-le}
-use Rattle.std.proofs.lemmas.List.Kept.{AllPairs-from_increasing}
 use Rattle.cm_spec.specs.Lists.{has}
-use Rattle.cm_peel.proofs.Taking.{has-push, has-push_same, has-push_other}
+use Rattle.cm_peel.proofs.Taking.{has-push_same, has-push_other}
 
 -- an element written behind the first ones of a list, and kept or not
 pub byte_small : (b : Bool) → bool_byte b ≤ 1
 byte_small true = omega arith
 byte_small false = omega arith
 
-pub written_if : (b : Bool) (list : List ℕ) (at e : ℕ) → at < length list → take (at + bool_byte b) (set list at e) ≡ take at list ++ cond b (e ∷ []) []
+pub written_if : {X : Type 0} (b : Bool) (list : List X) (at : ℕ) (e : X) → at < length list → take (at + bool_byte b) (set list at e) ≡ take at list ++ cond b (e ∷ []) []
 written_if true list at e h = take_more_set list at e h
 written_if false list at e h = let z : at + 0 ≡ at = omega arith in rw z (take-set-le at list at e (omega arith) ∙ sym (append-nil (take at list)))
 
@@ -27,18 +25,3 @@ same_next levels old round i y h place long was e low = go (cases_eq (get_or rou
   go (inr other) =
       get_or-set_other levels (get_or round i 0) e y 0 (λ s. other (sym s))
       ∙ (was e low ∙ ap (λ b. cond b y (get_or old e 0)) (sym (ap (λ (xs : List ℕ). has xs e) (take_more round i 0 h) ∙ has-push_other (take i round) (get_or round i 0) e other)))
-
--- one more value that is stored where a rising list says
-pub set_next : (pivots chunk : List ℕ) (value : ℕ → ℕ) (i y : ℕ) → IsStrictlyIncreasing chunk → i < length chunk → get_or chunk i 0 < length pivots → y ≡ value i → ((k : ℕ) → k < i → get_or pivots (get_or chunk k 0) 0 ≡ value k)
-    → (k : ℕ) → k < i + 1 → get_or (set pivots (get_or chunk i 0) y) (get_or chunk k 0) 0 ≡ value k
-set_next pivots chunk value i y up h place is was = below_more _ i (λ k low.
-    let less : get_or chunk k 0 < get_or chunk i 0 = AllPairs-from_increasing chunk up k i 0 low h in
-    let ne : get_or chunk k 0 ≢ get_or chunk i 0 = omega arith in
-    get_or-set_other pivots (get_or chunk i 0) (get_or chunk k 0) y 0 ne ∙ was k low) (get_or-set_at pivots (get_or chunk i 0) (get_or chunk i 0) y 0 refl place ∙ is)
-
-pub unset_next : (pivots old chunk : List ℕ) (i y : ℕ) → i < length chunk → ((e : ℕ) → has (take i chunk) e ≡ false → get_or pivots e 0 ≡ get_or old e 0) → (e : ℕ) → has (take (i + 1) chunk) e ≡ false → get_or (set pivots (get_or chunk i 0) y) e 0 ≡ get_or old e 0
-unset_next pivots old chunk i y h was e none =
-    let t : has (take i chunk ++ get_or chunk i 0 ∷ []) e ≡ false = ap (λ (xs : List ℕ). has xs e) (sym (take_more chunk i 0 h)) ∙ none in
-    let parts = or_parts (has (take i chunk) e) (eqb (get_or chunk i 0) e) (sym (has-push (take i chunk) (get_or chunk i 0) e) ∙ t) in
-    let ne : e ≢ get_or chunk i 0 = (λ s. eqb-false _ _ parts.1 (sym s)) in
-    get_or-set_other pivots (get_or chunk i 0) e y 0 ne ∙ was e parts.0

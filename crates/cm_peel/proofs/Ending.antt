@@ -1,16 +1,18 @@
 -- What holds when a round would remove nothing.
-use Rattle.std.proofs.Common.{◌≡◌, ◌⊎◌, ℕ, zero, suc, ◌+◌, ◌-◌, ◌*◌, ◌<◌, ◌≤◌, Bool, true, false, cond, not, ltb, ◌&&◌, List, [], ◌∷◌, ◌++◌, length, get_or, map, sym, refl, ap, ◌∙◌, inl, inr, arith, append-nil}
+use Rattle.std.proofs.Common.{◌≡◌, ◌⊎◌, ℕ, zero, suc, ◌+◌, ◌-◌, ◌*◌, ◌%◌, ◌<◌, ◌≤◌, Bool, true, false, cond, not, ltb, ◌&&◌, List, [], ◌∷◌, ◌++◌, length, get_or, map, sym, refl, ap, ◌∙◌, inl, inr, arith, append-nil}
 use Rattle.std.specs.List.{filter, list_all}
 use Rattle.std.proofs.lemmas.Bool.{cases_Bool, and_from, cond-true, cond-false, lt-ltb, le-ltb}
 use Rattle.std.proofs.Math.Nat.{mul-le-mul_left}
+use Rattle.std.proofs.lemmas.List.{get_or-map, length-map}
 use Rattle.std.proofs.lemmas.Grind.{same_number_lists, get_or_default_zero}
 use Rattle.cm_spec.specs.Lists.{numbers_from, has}
-use Rattle.cm_spec.specs.Graph.{places}
-use Rattle.cm_spec.specs.Rounds.{is_left, is_held, left_after, removed_after, rest_of, level_of, order_upto, order_of}
+use Rattle.cm_spec.specs.Graph.{AreEdges, places}
+use Rattle.cm_spec.specs.Rounds.{is_left, is_held, left_after, removed_after, rest_of, level_of, pivot_of, order_upto, order_of}
 use Rattle.cm_graph.specs.Graph.{Graph, Links}
-use Rattle.cm_peel.specs.AtRound.{AtRound}
-use Rattle.cm_peel.specs.Peeling.{IsPeelingOf, levels_of, is_past, past_of}
+use Rattle.cm_peel.specs.AtRound.{AtRound, byte_of}
+use Rattle.cm_peel.specs.Peeling.{IsPeelingOf, levels_of, is_taken, pivots_in, untaken_of}
 use Rattle.cm_peel.proofs.First.{kept_next}
+use Rattle.cm_peel.proofs.Unlinking.{pivot_small}
 use Rattle.cm_peel.specs.SetLaws.{filter_agree_on}
 use Rattle.cm_peel.specs.CoreLaws.{left_after_is, IsStable, stable_stays, stable_next, no_length}
 use Rattle.cm_peel.specs.RoundLaws.{has_left_from, place_below, length-order}
@@ -70,59 +72,70 @@ length-map_numbers f b zero = refl
 length-map_numbers f b (suc n) = ap suc (length-map_numbers f (suc b) n)
 
 -- a round that would begin past the order removes nothing
-pub none_next : (k : ℕ) (graph : Graph) (t : ℕ) (l : Links) (start : ℕ) (order levels pivots : List ℕ) → AtRound k graph t l start order levels pivots → length order ≤ start → removed_after graph.edges t ≡ []
-none_next k graph t l start order levels pivots a past = no_length (removed_after graph.edges t) (omega (arith, round_long k graph t l start order levels pivots a))
+pub none_next : (graph : Graph) (t : ℕ) (l : Links) (start : ℕ) (order levels bytes : List ℕ) → AtRound graph t l start order levels bytes → length order ≤ start → removed_after graph.edges t ≡ []
+none_next graph t l start order levels bytes a past = no_length (removed_after graph.edges t) (omega (arith, round_long graph t l start order levels bytes a))
 
 -- what is left then is the rest
-pub rest_now : (k : ℕ) (graph : Graph) (t : ℕ) (l : Links) (start : ℕ) (order levels pivots : List ℕ) → AtRound k graph t l start order levels pivots → length order ≤ start → rest_of graph.edges ≡ left_after graph.edges (suc t)
-rest_now k graph t l start order levels pivots a past = rest_is graph.edges t few none ∙ sym (stable_stays graph.edges t (stable_at graph.edges t none)) where
+pub rest_now : (graph : Graph) (t : ℕ) (l : Links) (start : ℕ) (order levels bytes : List ℕ) → AtRound graph t l start order levels bytes → length order ≤ start → rest_of graph.edges ≡ left_after graph.edges (suc t)
+rest_now graph t l start order levels bytes a past = rest_is graph.edges t few none ∙ sym (stable_stays graph.edges t (stable_at graph.edges t none)) where
   none : removed_after graph.edges t ≡ []
-  none = none_next k graph t l start order levels pivots a past
+  none = none_next graph t l start order levels bytes a past
 
   few : t ≤ length graph.edges
   few = omega (arith, a.few, a.start_is, length-order graph.edges t)
 
--- the edges past their ends are those that are left, and the order has the others
-past_are : (k : ℕ) (graph : Graph) (t : ℕ) (l : Links) (start : ℕ) (order levels pivots : List ℕ) → AtRound k graph t l start order levels pivots → past_of k pivots ≡ left_after graph.edges (suc t)
-past_are k graph t l start order levels pivots a = ap (λ m. filter (is_past k pivots) (numbers_from 0 m)) a.pivots_long ∙ (filter_agree_on (is_past k pivots) (is_left graph.edges (suc t)) (places graph.edges)
+-- the edges that are not taken are those that are left, and the order has the others
+abbrev pub is_untaken : List ℕ → ℕ → Bool
+is_untaken bytes e = not (is_taken bytes e)
+
+untaken_are : (graph : Graph) (t : ℕ) (l : Links) (start : ℕ) (order levels bytes : List ℕ) → AtRound graph t l start order levels bytes → untaken_of bytes ≡ left_after graph.edges (suc t)
+untaken_are graph t l start order levels bytes a = ap (λ m. filter (is_untaken bytes) (numbers_from 0 m)) a.bytes_long ∙ (filter_agree_on (is_untaken bytes) (is_left graph.edges (suc t)) (places graph.edges)
     (λ e m. ap not (a.taken e (place_below graph.edges e m)) ∙ not-not (is_left graph.edges (suc t) e)) ∙ sym (left_after_is graph.edges (suc t))) where
       not-not : (b : Bool) → not (not b) ≡ b
       not-not true = refl
       not-not false = refl
 
-pub past_many : (k : ℕ) (graph : Graph) (t : ℕ) (l : Links) (start : ℕ) (order levels pivots : List ℕ) → AtRound k graph t l start order levels pivots → length order + length (past_of k pivots) ≡ length graph.edges
-past_many k graph t l start order levels pivots a = omega (arith, length-order graph.edges (suc t), ap length a.order_is, ap length (past_are k graph t l start order levels pivots a))
+pub untaken_many : (graph : Graph) (t : ℕ) (l : Links) (start : ℕ) (order levels bytes : List ℕ) → AtRound graph t l start order levels bytes → length order + length (untaken_of bytes) ≡ length graph.edges
+untaken_many graph t l start order levels bytes a = omega (arith, length-order graph.edges (suc t), ap length a.order_is, ap length (untaken_are graph t l start order levels bytes a))
 
-pub ended : (k : ℕ) (graph : Graph) (t : ℕ) (l : Links) (start : ℕ) (order levels pivots rest : List ℕ) → AtRound k graph t l start order levels pivots → length order ≤ start → rest ≡ past_of k pivots → IsPeelingOf graph.edges (record { order = order; levels = levels; pivots = pivots; rest = rest })
-ended k graph t l start order levels pivots rest a past rest_are = record {
+pub ended : (k : ℕ) (graph : Graph) (t : ℕ) (l : Links) (start : ℕ) (order levels bytes rest : List ℕ) → k ≤ 3 → AreEdges k graph.vertices graph.edges → AtRound graph t l start order levels bytes → length order ≤ start → rest ≡ untaken_of bytes
+    → IsPeelingOf graph.edges (record { order = order; levels = levels; pivots = pivots_in bytes; rest = rest })
+ended k graph t l start order levels bytes rest small are a past rest_are = record {
   order = a.order_is ∙ (ap (λ (xs : List ℕ). order_upto edges t ++ xs) none ∙ (append-nil _ ∙ sym (order_is edges t few none)));
-  pivot = λ e h above. a.pivot e h (gone e h above (cases_Bool (is_left edges (suc t) e)));
-  pivots_long = a.pivots_long;
-  rest = rest_are ∙ (past_are k graph t l start order levels pivots a ∙ sym (rest_now k graph t l start order levels pivots a past));
+  pivot = λ e h above. pivot e h (a.byte e h (gone e h above (cases_Bool (is_left edges (suc t) e))));
+  pivots_long = length-map bytes (λ b. b % 4) ∙ a.bytes_long;
+  rest = rest_are ∙ (untaken_are graph t l start order levels bytes a ∙ sym (rest_now graph t l start order levels bytes a past));
 } where
   edges : List (List ℕ)
   edges = graph.edges
 
   none : removed_after graph.edges t ≡ []
-  none = none_next k graph t l start order levels pivots a past
+  none = none_next graph t l start order levels bytes a past
 
   few : t ≤ length graph.edges
   few = omega (arith, a.few, a.start_is, length-order graph.edges t)
 
+  pivot : (e : ℕ) → e < length graph.edges → get_or bytes e 0 ≡ byte_of graph.edges e → get_or (map (λ b. b % 4) bytes) e 0 ≡ pivot_of graph.edges e
+  pivot e h is =
+      let tag : ℕ = (level_of edges e - 1) % 2 in
+      let small_pivot : pivot_of edges e ≤ 3 = pivot_small k graph e small are h in
+      let whole : get_or bytes e 0 ≡ 4 * tag + pivot_of edges e = is in
+      get_or-map (λ b. b % 4) bytes e 0 0 (omega (arith, a.bytes_long)) ∙ omega (arith, whole, small_pivot)
+
   gone : (e : ℕ) → e < length graph.edges → 0 < level_of graph.edges e → (is_left graph.edges (suc t) e ≡ true) ⊎ (is_left graph.edges (suc t) e ≡ false) → is_left graph.edges (suc t) e ≡ false
   gone e h above (inl here) =
-      let z : level_of graph.edges e ≡ 0 = level_zero edges e (ap (λ (xs : List ℕ). has xs e) (rest_now k graph t l start order levels pivots a past) ∙ has_left_from edges (suc t) e h here) in
+      let z : level_of graph.edges e ≡ 0 = level_zero edges e (ap (λ (xs : List ℕ). has xs e) (rest_now graph t l start order levels bytes a past) ∙ has_left_from edges (suc t) e h here) in
       absurd (omega arith)
   gone e h above (inr out) = out
 
 -- the levels that are noted then
-pub levels_ended : (k : ℕ) (graph : Graph) (t : ℕ) (l : Links) (start : ℕ) (order levels pivots : List ℕ) → AtRound k graph t l start order levels pivots → length order ≤ start → (e : ℕ) → e < length levels → get_or levels e 0 ≡ level_of graph.edges e
-levels_ended k graph t l start order levels pivots a past e h = a.level e h ∙ go (cases_Bool (is_left graph.edges (suc t) e)) where
+pub levels_ended : (graph : Graph) (t : ℕ) (l : Links) (start : ℕ) (order levels bytes : List ℕ) → AtRound graph t l start order levels bytes → length order ≤ start → (e : ℕ) → e < length levels → get_or levels e 0 ≡ level_of graph.edges e
+levels_ended graph t l start order levels bytes a past e h = a.level e h ∙ go (cases_Bool (is_left graph.edges (suc t) e)) where
   place : e < length graph.edges
   place = omega (arith, a.levels_kept (omega arith))
 
   go : (is_left graph.edges (suc t) e ≡ true) ⊎ (is_left graph.edges (suc t) e ≡ false) → cond (is_left graph.edges (suc t) e) 0 (level_of graph.edges e) ≡ level_of graph.edges e
-  go (inl here) = cond-true _ 0 (level_of graph.edges e) here ∙ sym (level_zero graph.edges e (ap (λ (xs : List ℕ). has xs e) (rest_now k graph t l start order levels pivots a past) ∙ has_left_from graph.edges (suc t) e place here))
+  go (inl here) = cond-true _ 0 (level_of graph.edges e) here ∙ sym (level_zero graph.edges e (ap (λ (xs : List ℕ). has xs e) (rest_now graph t l start order levels bytes a past) ∙ has_left_from graph.edges (suc t) e place here))
   go (inr out) = cond-false _ 0 (level_of graph.edges e) out
 
 -- a table of all levels
@@ -131,34 +144,22 @@ all_levels edges levels long each = same_number_lists levels (map (level_of edge
     (λ k h. each k h ∙ sym (map_numbers (level_of edges) 0 (length edges) k (omega (arith, long)) ∙ ap (level_of edges) (omega arith)))
 
 -- the steps of the whole
-pub steps_next : (k s₀ s s' m start at now : ℕ) → s ≤ s₀ + 2 * (k * m) + 4 * (k * start) + k * (at - start) → s' ≤ s + 3 * (k * (at - start)) + k * (now - at) → start ≤ at → s' ≤ s₀ + 2 * (k * m) + 4 * (k * at) + k * (now - at)
-steps_next k s₀ s s' m start at now a b h =
+pub steps_next : (k s₀ s s' m start at : ℕ) → s ≤ s₀ + 4 * (k * m) + 3 * (k * start) → s' ≤ s + 3 * (k * (at - start)) → start ≤ at → s' ≤ s₀ + 4 * (k * m) + 3 * (k * at)
+steps_next k s₀ s s' m start at a b h =
     let d : ℕ = at - start in
     let e : at ≡ start + d = omega arith in
     let p : k * at ≡ k * (start + d) = ap (λ x. k * x) e in
     omega arith
 
-pub steps_err : (k s₀ s s' m start at : ℕ) → s ≤ s₀ + 2 * (k * m) + 4 * (k * start) + k * (at - start) → s' ≤ s + 3 * (k * (at - start)) + k * (m - at) → start ≤ at → at ≤ m → s' ≤ s₀ + 8 * (k * m)
-steps_err k s₀ s s' m start at a b h few =
-    let d : ℕ = at - start in
-    let r : ℕ = m - at in
-    let e : m ≡ start + d + r = omega arith in
-    let p : k * m ≡ k * start + k * d + k * r = ap (λ x. k * x) e ∙ parts k start d r in
-    omega arith where
-      parts : (k a b c : ℕ) → k * (a + b + c) ≡ k * a + k * b + k * c
-      parts k a b c = omega arith
-
-pub steps_end : (k s₀ s m start at : ℕ) → s ≤ s₀ + 2 * (k * m) + 4 * (k * start) + k * (at - start) → start ≤ m → at ≤ m → s ≤ s₀ + 8 * (k * m)
-steps_end k s₀ s m start at a h few =
-    let less : at - start ≤ m = omega arith in
-    omega (arith, mul-le-mul_left k h, mul-le-mul_left k less)
+pub steps_end : (k s₀ s m at : ℕ) → s ≤ s₀ + 4 * (k * m) + 3 * (k * at) → at ≤ m → s ≤ s₀ + 8 * (k * m)
+steps_end k s₀ s m at a few = omega (arith, mul-le-mul_left k few)
 
 -- one more edge
-pub past_more : (k : ℕ) (pivots now new : List ℕ) (e : ℕ) → now ≡ filter (is_past k pivots) (numbers_from 0 e) → new ≡ now ++ cond (is_past k pivots e) (e ∷ []) [] → new ≡ filter (is_past k pivots) (numbers_from 0 (e + 1))
-past_more k pivots now new e was is = is ∙ (ap (λ (xs : List ℕ). xs ++ cond (is_past k pivots e) (e ∷ []) []) was ∙ sym (kept_next (is_past k pivots) e))
+pub untaken_more : (bytes now new : List ℕ) (e : ℕ) → now ≡ filter (is_untaken bytes) (numbers_from 0 e) → new ≡ now ++ cond (is_untaken bytes e) (e ∷ []) [] → new ≡ filter (is_untaken bytes) (numbers_from 0 (e + 1))
+untaken_more bytes now new e was is = is ∙ (ap (λ (xs : List ℕ). xs ++ cond (is_untaken bytes e) (e ∷ []) []) was ∙ sym (kept_next (is_untaken bytes) e))
 
-pub past_here : (k : ℕ) (pivots : List ℕ) (e x : ℕ) → e < length pivots → x ≡ get_or pivots e x → k ≤ x → is_past k pivots e ≡ true
-past_here k pivots e x h read far = ap not (ap (λ y. ltb y k) (sym (read ∙ get_or_default_zero pivots e x h)) ∙ le-ltb x k far)
+pub untaken_here : (bytes : List ℕ) (e x : ℕ) → e < length bytes → x ≡ get_or bytes e x → 8 ≤ x → is_untaken bytes e ≡ true
+untaken_here bytes e x h read far = ap not (ap (λ y. ltb y 8) (sym (read ∙ get_or_default_zero bytes e x h)) ∙ le-ltb x 8 far)
 
-pub not_past_here : (k : ℕ) (pivots : List ℕ) (e x : ℕ) → e < length pivots → x ≡ get_or pivots e x → x < k → is_past k pivots e ≡ false
-not_past_here k pivots e x h read low = ap not (ap (λ y. ltb y k) (sym (read ∙ get_or_default_zero pivots e x h)) ∙ lt-ltb x k low)
+pub taken_here : (bytes : List ℕ) (e x : ℕ) → e < length bytes → x ≡ get_or bytes e x → x < 8 → is_untaken bytes e ≡ false
+taken_here bytes e x h read low = ap not (ap (λ y. ltb y 8) (sym (read ∙ get_or_default_zero bytes e x h)) ∙ lt-ltb x 8 low)

@@ -1,27 +1,26 @@
 -- From one round to the next.
-use Rattle.std.proofs.Common.{◌≡◌, ◌⊎◌, ℕ, suc, ◌+◌, ◌-◌, ◌<◌, ◌≤◌, Bool, true, false, cond, not, eqb, ltb, ◌&&◌, ◌||◌, List, [], ◌∷◌, ◌++◌, length, get_or, take, drop, Some, None, sym, refl, ap, ◌∙◌, subst, inl, inr, arith, append_assoc, length-append, length-drop, nat_cmp}
-use Rattle.std.specs.List.{All, IsDistinct, list_any, position_or_len}
+use Rattle.std.proofs.Common.{◌≡◌, ◌⊎◌, ℕ, suc, ◌+◌, ◌-◌, ◌<◌, ◌≤◌, Bool, true, false, cond, not, eqb, ◌&&◌, ◌||◌, List, ◌++◌, length, get_or, take, drop, sym, refl, ap, ◌∙◌, subst, inl, inr, arith, append_assoc, length-append, length-drop, nat_cmp}
+use Rattle.std.specs.List.{All, IsDistinct}
 use Rattle.std.specs.List.Sorted.{IsStrictlyIncreasing, IsSorted, IsPermutation}
-use Rattle.std.proofs.Math.Seq.{take-add, drop-append-add, drop-append_seam, take-append_seam, take-length}
-use Rattle.std.proofs.lemmas.Bool.{both_ways, cases_Bool, and_parts, and_from, or_parts, or_left, lt-ltb, le-ltb, cond-true, cond-false, not_from_false, cases_eq, eq-eqb, ne_eqb}
+use Rattle.std.proofs.Math.Seq.{drop-append-add, drop-append_seam, take-append_seam, take-length}
+use Rattle.std.proofs.lemmas.Bool.{cases_Bool, and_parts, and_from, cases_eq, eq-eqb, ne_eqb}
 use Rattle.std.proofs.lemmas.List.{get_or-take, get_or-drop, take-append-le, drop-append-le, take-append-drop, length-take-le, take_all}
 use Rattle.std.proofs.lemmas.List.Elements.{All-from_get_or, Contains-get_or}
 use Rattle.std.proofs.lemmas.List.Sorted.{list_any-IsPermutation}
 use Rattle.std.proofs.lemmas.Map.Keys.{IsDistinct-IsPermutation}
 use Rattle.cm_spec.specs.Lists.{has}
-use Rattle.cm_spec.specs.Graph.{ends_at, AreEdges}
-use Rattle.cm_spec.specs.Rounds.{is_left, is_held, left_after, removed_after, level_of, pivot_of, order_upto}
-use Rattle.cm_graph.specs.Graph.{Graph, Links, IsLinked}
-use Rattle.cm_peel.specs.Incident.{AreLinked, PivotsSet, is_free, is_picked, free_position}
-use Rattle.cm_peel.specs.AtRound.{AtRound, InRound}
+use Rattle.cm_spec.specs.Rounds.{is_left, is_held, left_after, removed_after, level_of, order_upto}
+use Rattle.cm_graph.specs.Graph.{Graph, Links}
+use Rattle.cm_peel.specs.Incident.{AreLinked, is_picked}
+use Rattle.cm_peel.specs.AtRound.{AtRound, InRound, byte_of}
 use Rattle.cm_peel.specs.SetLaws.{increasing_from_Rises, Rises-from_increasing, has-from_Contains}
-use Rattle.cm_peel.specs.RoundLaws.{has_left, has_place, has_left_from, is_left_from, has_removed, removed_rises, removed_is_left, level_is, length-order}
-use Rattle.cm_peel.proofs.Sets.{not_before}
-use Rattle.cm_peel.proofs.Incident.{AreLinked-agree, any_before}
+use Rattle.cm_peel.specs.RoundLaws.{has_left, has_place, has_left_from, is_left_from, has_removed, removed_rises, removed_is_left, length-order}
+use Rattle.cm_peel.proofs.Incident.{AreLinked-agree}
 use Rattle.cm_peel.proofs.Pieces.{rises_sorted}
-use Rattle.cm_peel.proofs.Taking.{has-append, are_distinct}
+use Rattle.cm_peel.proofs.Sets.{same_from}
+use Rattle.cm_peel.proofs.Taking.{are_distinct}
 use Rattle.cm_peel.proofs.RoundFacts.{picked_is, rising_same}
-use Rattle.cm_peel.proofs.Advance.{pivot_is, levels_next, still_early}
+use Rattle.cm_peel.proofs.Advance.{byte_is, falls_removed, levels_next, still_early}
 
 -- the edges of a round
 pub round_rises : (edges : List (List ℕ)) (t : ℕ) → IsStrictlyIncreasing (removed_after edges t)
@@ -52,24 +51,6 @@ piece_rises round d n up few k h =
     let here : get_or (take n (drop d round)) k 0 ≡ get_or round (d + k) 0 = piece_at round d n k (omega arith) in
     let less : get_or round (d + k) 0 < get_or round ((d + k) + 1) 0 = up (d + k) (omega arith) in
     omega arith
-
-pub piece_linked : (graph : Graph) (t d n : ℕ) (l : Links) → AreLinked graph (λ e. is_left graph.edges t e && not (has (take d (removed_after graph.edges t)) e)) l → d + n ≤ length (removed_after graph.edges t)
-    → All (λ e. IsLinked l e (ends_at graph.edges e)) (take n (drop d (removed_after graph.edges t)))
-piece_linked graph t d n l a few = All-from_get_or (λ e. IsLinked l e (ends_at graph.edges e)) (take n (drop d round)) 0 (λ k h.
-    let long : length (take n (drop d round)) ≡ n = length-take-le n (drop d round) (omega (arith, length-drop d round)) in
-    let at : get_or (take n (drop d round)) k 0 ≡ get_or round (d + k) 0 = piece_at round d n k (omega arith) in
-    let short : d + k < length round = omega arith in
-    rw at (linked k short)) where
-      round : List ℕ
-      round = removed_after graph.edges t
-
-      linked : (k : ℕ) → d + k < length (removed_after graph.edges t) → IsLinked l (get_or (removed_after graph.edges t) (d + k) 0) (ends_at graph.edges (get_or (removed_after graph.edges t) (d + k) 0))
-      linked k h =
-          let e : ℕ = get_or round (d + k) 0 in
-          let here = round_inside graph.edges t e (has-from_Contains round e (Contains-get_or round (d + k) 0 h)) in
-          let before : has (take d round ++ take k (drop d round)) e ≡ false = ap (λ (xs : List ℕ). has xs e) (sym (take-add d k round)) ∙ not_before round (d + k) (round_rises graph.edges t) h in
-          let out = or_parts (has (take d round) e) (has (take k (drop d round)) e) (sym (has-append (take d round) (take k (drop d round)) e) ∙ before) in
-          a.each e here.0 ∙ ap (λ b. Some (cond b (Some (ends_at graph.edges e)) None)) (and_from _ _ here.1 (not_from_false _ out.0))
 
 -- after the last chunk
 pub all_unlinked : (graph : Graph) (t : ℕ) (l : Links) → AreLinked graph (λ e. is_left graph.edges t e && not (has (take (length (removed_after graph.edges t)) (removed_after graph.edges t)) e)) l → AreLinked graph (is_left graph.edges (suc t)) l
@@ -107,8 +88,8 @@ eqb-flip x y = elim (cases_eq x y) [
   | inr other ↦ ne_eqb x y other ∙ sym (ne_eqb y x (λ s. other (sym s)))
 ]
 
-pub next_sorted : (k : ℕ) (graph : Graph) (t : ℕ) (l : Links) (order pivots xs : List ℕ) (r : InRound k graph t (length (removed_after graph.edges t)) l order pivots) → IsPermutation r.next xs → IsSorted nat_cmp xs → xs ≡ removed_after graph.edges (suc t)
-next_sorted k graph t l order pivots xs r moved up =
+pub next_sorted : (graph : Graph) (t : ℕ) (l : Links) (order bytes xs : List ℕ) (r : InRound graph t (length (removed_after graph.edges t)) l order bytes) → IsPermutation r.next xs → IsSorted nat_cmp xs → xs ≡ removed_after graph.edges (suc t)
+next_sorted graph t l order bytes xs r moved up =
     let a : AreLinked graph (is_left graph.edges (suc t)) l = all_unlinked graph t l r.linked in
     let apart : IsDistinct eqb xs = IsDistinct-IsPermutation eqb eqb-flip r.next xs moved (are_distinct r.next r.apart) in
     let same : (e : ℕ) → has r.next e ≡ has xs e = (λ e. list_any-IsPermutation (λ x. eqb x e) r.next xs moved) in
@@ -116,23 +97,6 @@ next_sorted k graph t l order pivots xs r moved up =
     (λ e m. (round_inside graph.edges (suc t) e m).0)
     (λ e m. (next_members graph t l r.next a r.inside r.members e).0 (same e ∙ m))
     (λ e m. sym (same e) ∙ (next_members graph t l r.next a r.inside r.members e).1 m)
-
--- the pivots of a round
-pub pivots_next : (graph : Graph) (t : ℕ) (l : Links) (es old new : List ℕ) → AreLinked graph (is_left graph.edges t) l → ((e : ℕ) → e < length graph.edges → is_left graph.edges t e ≡ true → t < length graph.edges) → ((e : ℕ) → e < length graph.edges → is_left graph.edges t e ≡ true → is_left graph.edges (suc t) e ≡ false → has es e ≡ true)
-    → ((e : ℕ) → has es e ≡ true → is_left graph.edges t e ≡ true) → PivotsSet l graph.edges es old new → ((e : ℕ) → e < length graph.edges → is_left graph.edges t e ≡ false → get_or old e 0 ≡ pivot_of graph.edges e)
-    → (e : ℕ) → e < length graph.edges → is_left graph.edges (suc t) e ≡ false → get_or new e 0 ≡ pivot_of graph.edges e
-pivots_next graph t l es old new a few all inside set was e h after = go (cases_Bool (is_left graph.edges t e)) where
-  go : (is_left graph.edges t e ≡ true) ⊎ (is_left graph.edges t e ≡ false) → get_or new e 0 ≡ pivot_of graph.edges e
-  go (inl here) = set.each e h ∙ (cond-true _ _ (get_or old e 0) (all e h here after) ∙ pivot_is graph t l e a (level_is graph.edges t e h (few e h here) here after))
-  go (inr before) = set.each e h ∙ (cond-false _ (free_position l graph.edges e) _ (go₂ (cases_Bool (has es e))) ∙ was e h before) where
-    go₂ : (has es e ≡ true) ⊎ (has es e ≡ false) → has es e ≡ false
-    go₂ (inl m) = absurd (both_ways _ before (inside e m))
-    go₂ (inr m) = m
-
-pub falls_removed : (edges : List (List ℕ)) (t e : ℕ) → e < length edges → is_left edges t e ≡ true → is_left edges (suc t) e ≡ false → has (removed_after edges t) e ≡ true
-falls_removed edges t e h here gone =
-    let falls : is_held edges (left_after edges t) e ≡ false = sym (ap (λ b. b && is_held edges (left_after edges t) e) here) ∙ gone in
-    has_removed edges t e ∙ and_from _ _ (has_left_from edges t e h here) (not_from_false _ falls)
 
 -- what a round removes is not left after it, and the rest of what was left before is
 pub gone_next : (edges : List (List ℕ)) (t e : ℕ) → e < length edges → (has (removed_after edges t) e || not (is_left edges t e)) ≡ not (is_left edges (suc t) e)
@@ -145,24 +109,11 @@ gone_next edges t e h =
       go true false = refl
       go false b = refl
 
--- the first position that passes lies within just where one passes
-none_before : (p : ℕ → Bool) (xs : List ℕ) → list_any p xs ≡ false → position_or_len p xs ≡ length xs
-none_before p [] h = refl
-none_before p (x ∷ xs) h =
-    let parts = or_parts (p x) (list_any p xs) h in
-    ap (λ b. cond (not b) (1 + position_or_len p xs) 0) parts.0 ∙ (ap (λ n. 1 + n) (none_before p xs parts.1) ∙ omega arith)
-
-pub found_within : (p : ℕ → Bool) (xs : List ℕ) (n : ℕ) → length xs ≡ n → ltb (position_or_len p xs) n ≡ list_any p xs
-found_within p xs n long = go (cases_Bool (list_any p xs)) where
-  go : (list_any p xs ≡ true) ⊎ (list_any p xs ≡ false) → ltb (position_or_len p xs) n ≡ list_any p xs
-  go (inl some) = lt-ltb _ n (omega (arith, any_before p xs some)) ∙ sym some
-  go (inr none) = le-ltb _ n (omega (arith, none_before p xs none)) ∙ sym none
-
 -- the state after one more round
-pub next_round : (k : ℕ) (graph : Graph) (t : ℕ) (l m : Links) (start : ℕ) (order levels pivots order₁ pivots₁ order₂ levels₂ pivots₂ : List ℕ) → AtRound k graph t l start order levels pivots → start < length order → AreEdges k graph.vertices graph.edges
-    → (r : InRound k graph t (length (removed_after graph.edges t)) m order₁ pivots₁) → (xs : List ℕ) → xs ≡ removed_after graph.edges (suc t) → order₂ ≡ order_upto graph.edges (suc t) ++ xs
-    → length pivots₂ ≡ length pivots₁ → PivotsSet m graph.edges xs pivots₁ pivots₂ → length levels₂ ≡ length levels → ((e : ℕ) → e < length levels → get_or levels₂ e 0 ≡ cond (has xs e) (suc (suc t)) (get_or levels e 0)) → AtRound k graph (suc t) m (length order) order₂ levels₂ pivots₂
-next_round k graph t l m start order levels pivots order₁ pivots₁ order₂ levels₂ pivots₂ a some are r xs is order_is long set llong lset =
+pub next_round : (graph : Graph) (t : ℕ) (l m : Links) (start : ℕ) (order levels bytes order₁ bytes₁ order₂ levels₂ : List ℕ) → AtRound graph t l start order levels bytes → start < length order
+    → (r : InRound graph t (length (removed_after graph.edges t)) m order₁ bytes₁) → (xs : List ℕ) → xs ≡ removed_after graph.edges (suc t) → order₂ ≡ order_upto graph.edges (suc t) ++ xs
+    → length levels₂ ≡ length levels → ((e : ℕ) → e < length levels → get_or levels₂ e 0 ≡ cond (has xs e) (suc (suc t)) (get_or levels e 0)) → AtRound graph (suc t) m (length order) order₂ levels₂ bytes₁
+next_round graph t l m start order levels bytes order₁ bytes₁ order₂ levels₂ a some r xs is order_is llong lset =
     let edges : List (List ℕ) = graph.edges in
     let same : length order ≡ length (order_upto edges (suc t)) = ap length a.order_is in
     record {
@@ -171,11 +122,10 @@ next_round k graph t l m start order levels pivots order₁ pivots₁ order₂ l
       order_is = order_is ∙ ap (λ (ys : List ℕ). order_upto edges (suc t) ++ ys) is;
       few = omega (arith, a.few);
       levels_kept = λ n. llong ∙ a.levels_kept (omega arith);
-      pivots_long = long ∙ r.pivots_long;
+      bytes_long = r.bytes_long;
       level = λ e h. level e (omega arith);
-      pivot = pivots_next graph (suc t) m xs pivots₁ pivots₂ linked early (λ e h here gone. ap (λ (ys : List ℕ). has ys e) is ∙ falls_removed edges (suc t) e h here gone)
-          (λ e j. (round_inside edges (suc t) e (sym (ap (λ (ys : List ℕ). has ys e) is) ∙ j)).1) set r.pivot;
-      taken = λ e h. taken e h (cases_Bool (has xs e));
+      byte = λ e h gone. byte e h gone (cases_Bool (is_left edges (suc t) e));
+      taken = λ e h. r.taken e h ∙ (ap (λ b. b || not (is_left edges (suc t) e)) (members e) ∙ gone_next edges (suc t) e h);
     } where
       linked : AreLinked graph (is_left graph.edges (suc t)) m
       linked = all_unlinked graph t m r.linked
@@ -190,53 +140,37 @@ next_round k graph t l m start order levels pivots order₁ pivots₁ order₂ l
           lset e h ∙ (ap (λ x. cond (has xs e) (suc (suc t)) x) (a.level e h) ∙ (ap (λ (ys : List ℕ). cond (has ys e) (suc (suc t)) (cond (is_left edges (suc t) e) 0 (level_of edges e))) is ∙ levels_next edges (suc t) e place (early e place)))
 
       members : (e : ℕ) → has r.next e ≡ has (removed_after graph.edges (suc t)) e
-      members e =
-          let both = next_members graph t m r.next (all_unlinked graph t m r.linked) r.inside r.members e in
-          go both.0 both.1 where
-            go : {a b : Bool} → (a ≡ true → b ≡ true) → (b ≡ true → a ≡ true) → a ≡ b
-            go {a} {b} to from = by_cases a b to from where
-              by_cases : (a b : Bool) → (a ≡ true → b ≡ true) → (b ≡ true → a ≡ true) → a ≡ b
-              by_cases true b f g = sym (f refl)
-              by_cases false true f g = g refl
-              by_cases false false f g = refl
+      members e = let both = next_members graph t m r.next linked r.inside r.members e in same_from both.0 both.1
 
-      taken : (e : ℕ) → e < length graph.edges → (has xs e ≡ true) ⊎ (has xs e ≡ false) → ltb (get_or pivots₂ e 0) k ≡ not (is_left graph.edges (suc (suc t)) e)
-      taken e h (inl now) =
-          let removed : has (removed_after graph.edges (suc t)) e ≡ true = sym (ap (λ (ys : List ℕ). has ys e) is) ∙ now in
-          let picked : is_picked m graph.edges e ≡ true = (and_parts (is_left graph.edges (suc t) e) _ (sym (r.members e h) ∙ (members e ∙ removed))).1 in
-          ap (λ x. ltb x k) (set.each e h ∙ cond-true _ _ (get_or pivots₁ e 0) now) ∙ (found_within (is_free m) (ends_at graph.edges e) k (are e [] h).0 ∙ (picked ∙ (sym (or_left _ _ removed) ∙ gone_next graph.edges (suc t) e h)))
-      taken e h (inr other) =
-          ap (λ x. ltb x k) (set.each e h ∙ cond-false _ (free_position m graph.edges e) (get_or pivots₁ e 0) other)
-          ∙ (r.taken e h ∙ (ap (λ b. b || not (is_left graph.edges (suc t) e)) (members e) ∙ gone_next graph.edges (suc t) e h))
+      byte : (e : ℕ) → e < length graph.edges → is_left graph.edges (suc (suc t)) e ≡ false → (is_left graph.edges (suc t) e ≡ true) ⊎ (is_left graph.edges (suc t) e ≡ false) → get_or bytes₁ e 0 ≡ byte_of graph.edges e
+      byte e h gone (inr before) = r.byte e h before
+      byte e h gone (inl here) = r.next_byte e (members e ∙ falls_removed graph.edges (suc t) e h here gone) ∙ byte_is graph (suc t) m e linked h here gone
 
 -- what stands in the order after the round
-pub next_is : (k : ℕ) (graph : Graph) (t : ℕ) (l : Links) (order pivots old : List ℕ) (at : ℕ) → (r : InRound k graph t (length (removed_after graph.edges t)) l order pivots) → old ≡ order → at ≡ length (order_upto graph.edges (suc t)) → drop at old ≡ r.next
-next_is k graph t l order pivots old at r is place =
+pub next_is : (graph : Graph) (t : ℕ) (l : Links) (order bytes old : List ℕ) (at : ℕ) → (r : InRound graph t (length (removed_after graph.edges t)) l order bytes) → old ≡ order → at ≡ length (order_upto graph.edges (suc t)) → drop at old ≡ r.next
+next_is graph t l order bytes old at r is place =
     let upto : List ℕ = order_upto graph.edges (suc t) in
     ap (drop at) (is ∙ r.order_is) ∙ (ap (λ n. drop n (upto ++ r.next)) place ∙ drop-append_seam upto r.next)
 
-pub next_places : (k : ℕ) (graph : Graph) (t : ℕ) (l : Links) (order pivots : List ℕ) → (r : InRound k graph t (length (removed_after graph.edges t)) l order pivots) → All (λ e. e < length graph.edges) r.next
-next_places k graph t l order pivots r = All-from_get_or (λ e. e < length graph.edges) r.next 0 (λ i h. r.inside _ (has-from_Contains r.next _ (Contains-get_or r.next i 0 h)))
+pub next_places : (graph : Graph) (t : ℕ) (l : Links) (order bytes : List ℕ) → (r : InRound graph t (length (removed_after graph.edges t)) l order bytes) → All (λ e. e < length graph.edges) r.next
+next_places graph t l order bytes r = All-from_get_or (λ e. e < length graph.edges) r.next 0 (λ i h. r.inside _ (has-from_Contains r.next _ (Contains-get_or r.next i 0 h)))
 
 -- the order after its end is sorted
-pub sorted_round : (k : ℕ) (graph : Graph) (t : ℕ) (l : Links) (order pivots old new : List ℕ) (at : ℕ) → InRound k graph t (length (removed_after graph.edges t)) l order pivots → old ≡ order → at ≡ length (order_upto graph.edges (suc t)) → take at new ≡ take at old → IsSorted nat_cmp (drop at new) → IsPermutation (drop at old) (drop at new)
+pub sorted_round : (graph : Graph) (t : ℕ) (l : Links) (order bytes old new : List ℕ) (at : ℕ) → InRound graph t (length (removed_after graph.edges t)) l order bytes → old ≡ order → at ≡ length (order_upto graph.edges (suc t)) → take at new ≡ take at old → IsSorted nat_cmp (drop at new) → IsPermutation (drop at old) (drop at new)
     → (drop at new ≡ removed_after graph.edges (suc t)) × (new ≡ order_upto graph.edges (suc t) ++ drop at new)
-sorted_round k graph t l order pivots old new at r is place front up moved =
+sorted_round graph t l order bytes old new at r is place front up moved =
     let upto : List ℕ = order_upto graph.edges (suc t) in
     let whole : old ≡ upto ++ r.next = is ∙ r.order_is in
     let before : take at old ≡ upto = ap (take at) whole ∙ (ap (λ n. take n (upto ++ r.next)) place ∙ take-append_seam upto r.next) in
-    let next : drop at old ≡ r.next = next_is k graph t l order pivots old at r is place in
-    (next_sorted k graph t l order pivots (drop at new) r (subst (λ (xs : List ℕ). IsPermutation xs (drop at new)) next moved) up, sym (take-append-drop at new) ∙ ap (λ (xs : List ℕ). xs ++ drop at new) (front ∙ before))
+    let next : drop at old ≡ r.next = next_is graph t l order bytes old at r is place in
+    (next_sorted graph t l order bytes (drop at new) r (subst (λ (xs : List ℕ). IsPermutation xs (drop at new)) next moved) up, sym (take-append-drop at new) ∙ ap (λ (xs : List ℕ). xs ++ drop at new) (front ∙ before))
 
 pub tail_is : (xs : List ℕ) (at : ℕ) → take (length xs - at) (drop at xs) ≡ drop at xs
 tail_is xs at = take_all (length xs - at) (drop at xs) (omega (arith, length-drop at xs))
 
 -- how long the order is
-pub order_fits : (k : ℕ) (graph : Graph) (t : ℕ) (l : Links) (start : ℕ) (order levels pivots : List ℕ) → AtRound k graph t l start order levels pivots → length order ≤ length graph.edges
-order_fits k graph t l start order levels pivots a = omega (arith, ap length a.order_is, length-order graph.edges (suc t))
+pub order_fits : (graph : Graph) (t : ℕ) (l : Links) (start : ℕ) (order levels bytes : List ℕ) → AtRound graph t l start order levels bytes → length order ≤ length graph.edges
+order_fits graph t l start order levels bytes a = omega (arith, ap length a.order_is, length-order graph.edges (suc t))
 
-pub round_long : (k : ℕ) (graph : Graph) (t : ℕ) (l : Links) (start : ℕ) (order levels pivots : List ℕ) → AtRound k graph t l start order levels pivots → length order ≡ start + length (removed_after graph.edges t)
-round_long k graph t l start order levels pivots a = omega (arith, ap length a.order_is, a.start_is, length-append (order_upto graph.edges t) (removed_after graph.edges t))
-
-pub next_fits : (edges : List (List ℕ)) (t : ℕ) → length (order_upto edges t) + length (removed_after edges t) ≤ length edges
-next_fits edges t = omega (arith, length-order edges (suc t), length-append (order_upto edges t) (removed_after edges t))
+pub round_long : (graph : Graph) (t : ℕ) (l : Links) (start : ℕ) (order levels bytes : List ℕ) → AtRound graph t l start order levels bytes → length order ≡ start + length (removed_after graph.edges t)
+round_long graph t l start order levels bytes a = omega (arith, ap length a.order_is, a.start_is, length-append (order_upto graph.edges t) (removed_after graph.edges t))

@@ -1,14 +1,14 @@
--- Taking those of some edges whose position is past their ends, one after another.
-use Rattle.std.proofs.Common.{◌≡◌, ◌≢◌, ◌⊎◌, ℕ, ◌<◌, ◌≤◌, Bool, true, false, cond, eqb, ltb, not, ◌&&◌, ◌||◌, List, [], ◌∷◌, ◌++◌, length, get_or, set, sym, refl, ap, ◌∙◌, inl, inr, arith, append_assoc, get_or-set_other}
+-- Taking the edges of some places, one after another.
+use Rattle.std.proofs.Common.{◌≡◌, ◌≢◌, ◌⊎◌, ℕ, suc, ◌+◌, ◌/◌, ◌%◌, ◌<◌, ◌≤◌, Bool, true, false, cond, eqb, ltb, leb, min, not, ◌&&◌, ◌||◌, List, [], ◌∷◌, ◌++◌, length, get_or, set, sym, refl, ap, ◌∙◌, subst, inl, inr, arith, append_assoc, append-nil, get_or-set_other}
 use Rattle.std.specs.List.{IsDistinct, AllByRecursion}
-use Rattle.std.proofs.lemmas.Bool.{cases_Bool, cases_eq, eq-eqb, ne_eqb, lt-ltb, le-ltb, and_parts, and_from, and_right, or_parts, or_left, or_right, cond-true, cond-false, false≢true}
+use Rattle.std.proofs.lemmas.Bool.{cases_Bool, cases_eq, cases_lt, eq-eqb, eqb-true, ne_eqb, lt-ltb, le-ltb, le-leb, lt-leb, and_parts, and_from, and_right, or_cases, or_parts, or_left, or_right, cond-true, cond-false, false≢true}
 use Rattle.std.proofs.lemmas.Grind.{get_or-set_at}
 use Rattle.std.proofs.lemmas.List.Folds.{list_any-append}
 use Rattle.std.proofs.lemmas.Map.Keys.{IsDistinct-cons}
 use Rattle.std.proofs.Math.ListN.{length-set}
 use Rattle.cm_spec.specs.Lists.{has}
-use Rattle.cm_peel.specs.AtRound.{AreApart, AreTaken}
-use Rattle.cm_peel.specs.Peeling.{is_past}
+use Rattle.cm_peel.specs.AtRound.{AreApart, AreTaken, is_listed, least, tag_of}
+use Rattle.cm_peel.specs.Peeling.{is_taken}
 
 pub or_none : (b : Bool) → (b || false) ≡ b
 or_none true = refl
@@ -53,68 +53,175 @@ distinct (x ∷ xs) a = IsDistinct-cons eqb x xs (differ x xs a.0) (distinct xs 
 pub are_distinct : (xs : List ℕ) → AreApart xs → IsDistinct eqb xs
 are_distinct = distinct
 
--- an edge whose position is among its ends, before all or by now
-pub taken_skip : (k : ℕ) (es : List ℕ) (e : ℕ) (pivots pivots' order order' : List ℕ) → AreTaken k es pivots pivots' order order' → e < length pivots → (get_or pivots e 0 < k) ⊎ (get_or pivots' e 0 < k) → AreTaken k (es ++ e ∷ []) pivots pivots' order order'
-taken_skip k es e pivots pivots' order order' t h some = record {
-  fresh = t.fresh;
-  order_is = t.order_is;
-  apart = t.apart;
-  members = λ x. t.members x ∙ sym (go x some (cases_eq e x) (cases_Bool (has t.fresh e)));
-  pivots_long = t.pivots_long;
-  pivot = t.pivot;
-} where
-  old : (x : ℕ) → get_or pivots e 0 < k → e ≡ x → (has (es ++ e ∷ []) x && is_past k pivots x) ≡ (has es x && is_past k pivots x)
-  old x low same =
-      let f : is_past k pivots x ≡ false = ap not (ap (λ y. ltb (get_or pivots y 0) k) (sym same) ∙ lt-ltb _ k low) in
-      and_right (has (es ++ e ∷ []) x) _ f ∙ sym (and_right (has es x) _ f)
+-- one more place
+pub listed-push : (places : List ℕ) (q e : ℕ) → is_listed (places ++ q ∷ []) e ≡ (is_listed places e || eqb (q / 4) e)
+listed-push places q e = list_any-append (λ p. eqb (p / 4) e) places (q ∷ []) ∙ ap (λ b. is_listed places e || b) (or_none (eqb (q / 4) e))
 
-  go : (x : ℕ) → (get_or pivots e 0 < k) ⊎ (get_or pivots' e 0 < k) → (e ≡ x) ⊎ (e ≡ x → ⊥) → (has t.fresh e ≡ true) ⊎ (has t.fresh e ≡ false) → (has (es ++ e ∷ []) x && is_past k pivots x) ≡ (has es x && is_past k pivots x)
-  go x low (inr other) f = ap (λ b. b && is_past k pivots x) (has-push_other es e x other)
-  go x (inl low) (inl same) f = old x low same
-  go x (inr low) (inl same) (inl m) =
-      let was : has es e ≡ true = (and_parts (has es e) _ (sym (t.members e) ∙ m)).0 in
-      let was' : has es x ≡ true = ap (has es) (sym same) ∙ was in
-      ap (λ b. b && is_past k pivots x) (has-push_same es e x same ∙ sym was')
-  go x (inr low) (inl same) (inr m) =
-      let kept : get_or pivots' e 0 ≡ get_or pivots e 0 = t.pivot e h ∙ cond-false _ 0 _ m in
-      old x (omega arith) same
+pub least-push_same : (tag : ℕ) (places : List ℕ) (q e b : ℕ) → eqb (q / 4) e ≡ true → least tag (places ++ q ∷ []) e b ≡ min (least tag places e b) (tag + q % 4)
+least-push_same tag [] q e b same = cond-true _ _ _ same ∙ omega arith
+least-push_same tag (p ∷ places) q e b same = go (eqb (p / 4) e) (least-push_same tag places q e b same) where
+  go : (c : Bool) → least tag (places ++ q ∷ []) e b ≡ min (least tag places e b) (tag + q % 4)
+      → cond c (min (tag + p % 4) (least tag (places ++ q ∷ []) e b)) (least tag (places ++ q ∷ []) e b) ≡ min (cond c (min (tag + p % 4) (least tag places e b)) (least tag places e b)) (tag + q % 4)
+  go true ih = omega (arith, ih)
+  go false ih = ih
 
--- an edge whose position is past its ends
-pub taken_add : (k : ℕ) (es : List ℕ) (e : ℕ) (pivots pivots' order order' : List ℕ) → AreTaken k es pivots pivots' order order' → e < length pivots → 0 < k → k ≤ get_or pivots' e 0 → AreTaken k (es ++ e ∷ []) pivots (set pivots' e 0) order (order' ++ e ∷ [])
-taken_add k es e pivots pivots' order order' t h some past = record {
-  fresh = t.fresh ++ e ∷ [];
-  order_is = ap (λ (xs : List ℕ). xs ++ e ∷ []) t.order_is ∙ append_assoc order t.fresh (e ∷ []);
-  apart = AreApart-push t.fresh e t.apart new;
-  members = λ x. members x (cases_eq e x);
-  pivots_long = length-set _ _ _ ∙ t.pivots_long;
-  pivot = λ x h'. pivot x h' (cases_eq e x);
-} where
-  new : has t.fresh e ≡ false
-  new = go (cases_Bool (has t.fresh e)) where
-    go : (has t.fresh e ≡ true) ⊎ (has t.fresh e ≡ false) → has t.fresh e ≡ false
-    go (inl m) = let z : get_or pivots' e 0 ≡ 0 = t.pivot e h ∙ cond-true _ 0 (get_or pivots e 0) m in absurd (omega arith)
-    go (inr m) = m
+pub least-push_other : (tag : ℕ) (places : List ℕ) (q e b : ℕ) → eqb (q / 4) e ≡ false → least tag (places ++ q ∷ []) e b ≡ least tag places e b
+least-push_other tag [] q e b other = cond-false _ _ _ other
+least-push_other tag (p ∷ places) q e b other = ap (λ n. cond (eqb (p / 4) e) (min (tag + p % 4) n) n) (least-push_other tag places q e b other)
 
-  past_before : k ≤ get_or pivots e 0
-  past_before = let kept : get_or pivots' e 0 ≡ get_or pivots e 0 = t.pivot e h ∙ cond-false _ 0 (get_or pivots e 0) new in omega arith
+-- the least byte
+pub least-le : (tag : ℕ) (places : List ℕ) (e b : ℕ) → least tag places e b ≤ b
+least-le tag [] e b = omega arith
+least-le tag (p ∷ places) e b = go (eqb (p / 4) e) (least-le tag places e b) where
+  go : (c : Bool) → least tag places e b ≤ b → cond c (min (tag + p % 4) (least tag places e b)) (least tag places e b) ≤ b
+  go true ih = omega arith
+  go false ih = ih
 
-  members : (x : ℕ) → (e ≡ x) ⊎ (e ≡ x → ⊥) → has (t.fresh ++ e ∷ []) x ≡ (has (es ++ e ∷ []) x && is_past k pivots x)
-  members x (inl same) =
-      let z : is_past k pivots x ≡ true = ap not (ap (λ y. ltb (get_or pivots y 0) k) (sym same) ∙ le-ltb _ k past_before) in
-      has-push_same t.fresh e x same ∙ sym (and_from _ _ (has-push_same es e x same) z)
-  members x (inr other) = has-push_other t.fresh e x other ∙ (t.members x ∙ ap (λ b. b && is_past k pivots x) (sym (has-push_other es e x other)))
+pub least-le_listed : (tag : ℕ) (places : List ℕ) (q e b : ℕ) → has places q ≡ true → q / 4 ≡ e → least tag places e b ≤ tag + q % 4
+least-le_listed tag [] q e b m is = absurd (false≢true m)
+least-le_listed tag (p ∷ places) q e b m is = go (or_cases (eqb p q) (has places q) m) (λ n. least-le_listed tag places q e b n is) where
+  go : (eqb p q ≡ true) ⊎ (has places q ≡ true) → (has places q ≡ true → least tag places e b ≤ tag + q % 4) → cond (eqb (p / 4) e) (min (tag + p % 4) (least tag places e b)) (least tag places e b) ≤ tag + q % 4
+  go (inl same) ih =
+      let z : p ≡ q = eqb-true p q same in
+      let first : eqb (p / 4) e ≡ true = eq-eqb _ _ (ap (λ x. x / 4) z ∙ is) in
+      let tail : p % 4 ≡ q % 4 = ap (λ x. x % 4) z in
+      rw first (omega (arith, tail))
+  go (inr more) ih = by (eqb (p / 4) e) (ih more) where
+    by : (c : Bool) → least tag places e b ≤ tag + q % 4 → cond c (min (tag + p % 4) (least tag places e b)) (least tag places e b) ≤ tag + q % 4
+    by true le = omega arith
+    by false le = le
 
-  pivot : (x : ℕ) → x < length pivots → (e ≡ x) ⊎ (e ≡ x → ⊥) → get_or (set pivots' e 0) x 0 ≡ cond (has (t.fresh ++ e ∷ []) x) 0 (get_or pivots x 0)
-  pivot x h' (inl same) =
-      let short : e < length pivots' = omega (arith, t.pivots_long) in
-      get_or-set_at pivots' e x 0 0 (sym same) short ∙ sym (cond-true _ 0 (get_or pivots x 0) (has-push_same t.fresh e x same))
-  pivot x h' (inr other) =
-      let ne : x ≢ e = (λ s. other (sym s)) in
-      get_or-set_other pivots' e x 0 0 ne ∙ (t.pivot x h' ∙ ap (λ b. cond b 0 (get_or pivots x 0)) (sym (has-push_other t.fresh e x other)))
+pub least-low : (tag : ℕ) (places : List ℕ) (e b : ℕ) → tag ≤ 4 → is_listed places e ≡ true → least tag places e b < 8
+least-low tag [] e b low m = absurd (false≢true m)
+least-low tag (p ∷ places) e b low m = go (eqb (p / 4) e) refl (least-low tag places e b low) where
+  go : (c : Bool) → eqb (p / 4) e ≡ c → (is_listed places e ≡ true → least tag places e b < 8) → cond c (min (tag + p % 4) (least tag places e b)) (least tag places e b) < 8
+  go true is ih = omega arith
+  go false is ih = ih (sym (ap (λ c. c || is_listed places e) is) ∙ m)
 
--- the same with what the code made
-pub taken_adds : (k : ℕ) (es : List ℕ) (e : ℕ) (pivots now pivots' order kept order' : List ℕ) → AreTaken k es pivots now order kept → e < length pivots → 0 < k → k ≤ get_or now e 0 → pivots' ≡ set now e 0 → order' ≡ kept ++ e ∷ [] → AreTaken k (es ++ e ∷ []) pivots pivots' order order'
-taken_adds k es e pivots now pivots' order kept order' t h some past is order_is = rw (is, order_is) (taken_add k es e pivots now order kept t h some past)
+pub least-unlisted : (tag : ℕ) (places : List ℕ) (e b : ℕ) → is_listed places e ≡ false → least tag places e b ≡ b
+least-unlisted tag [] e b none = refl
+least-unlisted tag (p ∷ places) e b none =
+    let parts = or_parts (eqb (p / 4) e) (is_listed places e) none in
+    cond-false _ _ _ parts.0 ∙ least-unlisted tag places e b parts.1
 
-pub taken_skips : (k : ℕ) (es : List ℕ) (e : ℕ) (pivots now pivots' order kept order' : List ℕ) → AreTaken k es pivots now order kept → e < length pivots → (get_or pivots e 0 < k) ⊎ (get_or now e 0 < k) → pivots' ≡ now → order' ≡ kept → AreTaken k (es ++ e ∷ []) pivots pivots' order order'
-taken_skips k es e pivots now pivots' order kept order' t h low is order_is = rw (is, order_is) (taken_skip k es e pivots now order kept t h low)
+-- it is the byte, or that of a place
+pub least-is : (tag : ℕ) (places : List ℕ) (e b : ℕ) → (least tag places e b ≡ b) ⊎ ((q : ℕ) × (has places q ≡ true) × (q / 4 ≡ e) × (least tag places e b ≡ tag + q % 4))
+least-is tag [] e b = inl refl
+least-is tag (p ∷ places) e b = go (eqb (p / 4) e) refl (least-is tag places e b) where
+  rest : ℕ
+  rest = least tag places e b
+
+  more : (c : ℕ) → c ≡ least tag places e b → (least tag places e b ≡ b) ⊎ ((q : ℕ) × (has places q ≡ true) × (q / 4 ≡ e) × (least tag places e b ≡ tag + q % 4))
+      → (c ≡ b) ⊎ ((q : ℕ) × (has (p ∷ places) q ≡ true) × (q / 4 ≡ e) × (c ≡ tag + q % 4))
+  more c is (inl same) = inl (is ∙ same)
+  more c is (inr r) = inr (r.0, or_right (eqb p r.0) _ r.1, r.2, is ∙ r.3)
+
+  go : (c : Bool) → eqb (p / 4) e ≡ c → (least tag places e b ≡ b) ⊎ ((q : ℕ) × (has places q ≡ true) × (q / 4 ≡ e) × (least tag places e b ≡ tag + q % 4))
+      → (cond c (min (tag + p % 4) (least tag places e b)) (least tag places e b) ≡ b) ⊎ ((q : ℕ) × (has (p ∷ places) q ≡ true) × (q / 4 ≡ e) × (cond c (min (tag + p % 4) (least tag places e b)) (least tag places e b) ≡ tag + q % 4))
+  go false is ih = more (least tag places e b) refl ih
+  go true is ih = elim (cases_lt (tag + p % 4) (least tag places e b)) [
+    | inl low ↦ inr (p, or_left _ (has places p) (eq-eqb p p refl), eqb-true _ _ is, omega arith)
+    | inr high ↦ more _ (omega arith) ih
+  ]
+
+-- a place whose edge is of the round before, of the next one, or of none
+pub taken_more : (t : ℕ) (places : List ℕ) (q e x : ℕ) (bytes now bytes' order kept order' : List ℕ) → AreTaken t places bytes now order kept → e ≡ q / 4 → e < length bytes
+    → x ≡ cond (eqb (get_or bytes e 0 / 4) (t % 2)) (get_or now e 0) (min (get_or now e 0) (tag_of (suc t) + q % 4)) → bytes' ≡ set now e x → order' ≡ kept ++ cond (leb 8 (get_or now e 0)) (e ∷ []) [] → AreTaken t (places ++ q ∷ []) bytes bytes' order order'
+taken_more t places q e x bytes now bytes' order kept order' r at h is bytes_are order_is = go (cases_lt (get_or now e 0) 8) where
+  tag : ℕ
+  tag = tag_of (suc t)
+
+  low : tag_of (suc t) ≤ 4
+  low = omega arith
+
+  old : ℕ
+  old = get_or bytes e 0
+
+  here : eqb (q / 4) e ≡ true
+  here = eq-eqb _ _ (sym at)
+
+  was : get_or now e 0 ≡ cond (eqb (get_or bytes e 0 / 4) (t % 2)) (get_or bytes e 0) (least (tag_of (suc t)) places e (get_or bytes e 0))
+  was = r.byte e h
+
+  -- the edge's byte
+  set_is : get_or bytes' e 0 ≡ x
+  set_is = ap (λ (bs : List ℕ). get_or bs e 0) bytes_are ∙ get_or-set_at now e e x 0 refl (omega (arith, r.bytes_long))
+
+  byte_here : x ≡ cond (eqb (get_or bytes e 0 / 4) (t % 2)) (get_or bytes e 0) (least (tag_of (suc t)) (places ++ q ∷ []) e (get_or bytes e 0))
+  byte_here = is ∙ by (eqb (get_or bytes e 0 / 4) (t % 2)) was where
+    by : (c : Bool) → get_or now e 0 ≡ cond c (get_or bytes e 0) (least (tag_of (suc t)) places e (get_or bytes e 0))
+        → cond c (get_or now e 0) (min (get_or now e 0) (tag_of (suc t) + q % 4)) ≡ cond c (get_or bytes e 0) (least (tag_of (suc t)) (places ++ q ∷ []) e (get_or bytes e 0))
+    by true w = w
+    by false w = omega (arith, w, least-push_same (tag_of (suc t)) places q e (get_or bytes e 0) here)
+
+  byte : (k : ℕ) → k < length bytes → (e ≡ k) ⊎ (e ≡ k → ⊥) → get_or bytes' k 0 ≡ cond (eqb (get_or bytes k 0 / 4) (t % 2)) (get_or bytes k 0) (least (tag_of (suc t)) (places ++ q ∷ []) k (get_or bytes k 0))
+  byte k below (inl same) = subst (λ (v : ℕ). get_or bytes' v 0 ≡ cond (eqb (get_or bytes v 0 / 4) (t % 2)) (get_or bytes v 0) (least (tag_of (suc t)) (places ++ q ∷ []) v (get_or bytes v 0))) same (set_is ∙ byte_here)
+  byte k below (inr other) =
+      let fails : eqb (q / 4) k ≡ false = ne_eqb _ _ (λ s. other (at ∙ s)) in
+      ap (λ (bs : List ℕ). get_or bs k 0) bytes_are ∙ (get_or-set_other now e k x 0 (λ s. other (sym s)) ∙ (r.byte k below
+      ∙ ap (λ n. cond (eqb (get_or bytes k 0 / 4) (t % 2)) (get_or bytes k 0) n) (sym (least-push_other (tag_of (suc t)) places q k (get_or bytes k 0) fails))))
+
+  -- a byte of 8 or more is of no round
+  other_tag : 8 ≤ get_or bytes e 0 → eqb (get_or bytes e 0 / 4) (t % 2) ≡ false
+  other_tag far = ne_eqb _ _ (λ s. absurd (omega (arith, s)))
+
+  longer : length bytes' ≡ length bytes
+  longer = ap length bytes_are ∙ (length-set _ _ _ ∙ r.bytes_long)
+
+  push : 8 ≤ get_or now e 0 → AreTaken t (places ++ q ∷ []) bytes bytes' order order'
+  push far = record {
+    fresh = r.fresh ++ e ∷ [];
+    order_is = order_is ∙ (ap (λ b. kept ++ cond b (e ∷ []) []) (le-leb 8 _ far) ∙ (ap (λ (xs : List ℕ). xs ++ e ∷ []) r.order_is ∙ append_assoc order r.fresh (e ∷ [])));
+    apart = AreApart-push r.fresh e r.apart new;
+    members = λ k. members k (cases_eq e k);
+    bytes_long = longer;
+    byte = λ k below. byte k below (cases_eq e k);
+  } where
+    before : 8 ≤ get_or bytes e 0
+    before = by (eqb (get_or bytes e 0 / 4) (t % 2)) was where
+      by : (c : Bool) → get_or now e 0 ≡ cond c (get_or bytes e 0) (least (tag_of (suc t)) places e (get_or bytes e 0)) → 8 ≤ get_or bytes e 0
+      by true w = omega (arith, w)
+      by false w = omega (arith, w, least-le (tag_of (suc t)) places e (get_or bytes e 0))
+
+    new : has r.fresh e ≡ false
+    new = by (cases_Bool (has r.fresh e)) where
+      by : (has r.fresh e ≡ true) ⊎ (has r.fresh e ≡ false) → has r.fresh e ≡ false
+      by (inr m) = m
+      by (inl m) =
+          let listed = (and_parts (is_listed places e) _ (sym (r.members e) ∙ m)).0 in
+          absurd (omega (arith, was ∙ cond-false _ _ _ (other_tag before), least-low (tag_of (suc t)) places e (get_or bytes e 0) low listed))
+
+    members : (k : ℕ) → (e ≡ k) ⊎ (e ≡ k → ⊥) → has (r.fresh ++ e ∷ []) k ≡ (is_listed (places ++ q ∷ []) k && not (is_taken bytes k))
+    members k (inl same) =
+        let untaken : not (is_taken bytes k) ≡ true = ap not (ap (λ y. ltb (get_or bytes y 0) 8) (sym same) ∙ le-ltb _ 8 before) in
+        let listed : is_listed (places ++ q ∷ []) k ≡ true = listed-push places q k ∙ or_right (is_listed places k) _ (eq-eqb _ _ (sym at ∙ same)) in
+        has-push_same r.fresh e k same ∙ sym (and_from _ _ listed untaken)
+    members k (inr other) =
+        let fails : eqb (q / 4) k ≡ false = ne_eqb _ _ (λ s. other (at ∙ s)) in
+        has-push_other r.fresh e k other ∙ (r.members k ∙ ap (λ b. b && not (is_taken bytes k)) (sym (listed-push places q k ∙ (ap (λ b. is_listed places k || b) fails ∙ or_none (is_listed places k)))))
+
+  skip : get_or now e 0 < 8 → AreTaken t (places ++ q ∷ []) bytes bytes' order order'
+  skip near = record {
+    fresh = r.fresh;
+    order_is = order_is ∙ (ap (λ b. kept ++ cond b (e ∷ []) []) (lt-leb 8 _ near) ∙ (append-nil kept ∙ r.order_is));
+    apart = r.apart;
+    members = λ k. r.members k ∙ members k (cases_eq e k) (cases_lt (get_or bytes e 0) 8) (cases_Bool (is_listed places e));
+    bytes_long = longer;
+    byte = λ k below. byte k below (cases_eq e k);
+  } where
+    members : (k : ℕ) → (e ≡ k) ⊎ (e ≡ k → ⊥) → (get_or bytes e 0 < 8) ⊎ (8 ≤ get_or bytes e 0) → (is_listed places e ≡ true) ⊎ (is_listed places e ≡ false) → (is_listed places k && not (is_taken bytes k)) ≡ (is_listed (places ++ q ∷ []) k && not (is_taken bytes k))
+    members k (inl same) (inl below) l =
+        let taken : not (is_taken bytes k) ≡ false = ap not (ap (λ y. ltb (get_or bytes y 0) 8) (sym same) ∙ lt-ltb _ 8 below) in
+        and_right (is_listed places k) _ taken ∙ sym (and_right (is_listed (places ++ q ∷ []) k) _ taken)
+    members k (inl same) (inr far) (inl listed) =
+        let now_listed : is_listed (places ++ q ∷ []) k ≡ true = listed-push places q k ∙ or_right (is_listed places k) _ (eq-eqb _ _ (sym at ∙ same)) in
+        let then_listed : is_listed places k ≡ true = ap (is_listed places) (sym same) ∙ listed in
+        ap (λ b. b && not (is_taken bytes k)) (then_listed ∙ sym now_listed)
+    members k (inl same) (inr far) (inr unlisted) = absurd (omega (arith, was ∙ cond-false _ _ _ (other_tag far), least-unlisted (tag_of (suc t)) places e (get_or bytes e 0) unlisted))
+    members k (inr other) b l =
+        let fails : eqb (q / 4) k ≡ false = ne_eqb _ _ (λ s. other (at ∙ s)) in
+        ap (λ b. b && not (is_taken bytes k)) (sym (listed-push places q k ∙ (ap (λ b. is_listed places k || b) fails ∙ or_none (is_listed places k))))
+
+  go : (get_or now e 0 < 8) ⊎ (8 ≤ get_or now e 0) → AreTaken t (places ++ q ∷ []) bytes bytes' order order'
+  go (inl near) = skip near
+  go (inr far) = push far

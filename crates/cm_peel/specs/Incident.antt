@@ -1,19 +1,25 @@
--- The linked edges, as the steps of a round see them. Only the contracts of these steps cite this.
-use Rattle.std.specs.Prelude.{◌≡◌, ℕ, ◌<◌, Bool, ◌==◌, if◌then◌else◌, List, [], ◌∷◌, ◌++◌, length, None, Some, map, filter, slice_get, slice_index}
+-- The half-edges that are left, as the steps of a round see them. Only the contracts of these steps cite this.
+use Rattle.std.specs.Prelude.{◌≡◌, ℕ, suc, ◌+◌, ◌*◌, ◌%◌, ◌<◌, Bool, ◌==◌, nat_lt, if◌then◌else◌, List, [], ◌∷◌, ◌++◌, length, Option, None, Some, slice_get, slice_index}
 use Rattle.std.specs.List.{list_any, position_or_len}
-use Rattle.cm_spec.specs.Lists.{has}
 use Rattle.cm_spec.specs.Graph.{ends_at}
-use Rattle.cm_graph.specs.Graph.{Graph, Links, degree_of, sole_of, unlinked}
+use Rattle.cm_spec.specs.Rounds.{pivot_of}
+use Rattle.cm_graph.specs.declared.incidence.Half.{Half}
+use Rattle.cm_graph.specs.Graph.{Graph, Links, halves_of, is_free}
 
--- the linked edges are those that pass the test, with their ends
+-- the half-edges of an edge whose ends are numbered from j on, when only that at position p is left
+abbrev pub half_at : ℕ → ℕ → List ℕ → List (Option ℕ)
+half_at p j [] = []
+half_at p j (v ∷ vs) = (if j == p then Some v else None) ∷ half_at p (suc j) vs
+
+-- what is left of an edge: all half-edges of a linked one, and that of the pivot of each other edge
+abbrev pub halves_left : Graph → (ℕ → Bool) → ℕ → List (Option ℕ)
+halves_left graph test e = if test e then halves_of (ends_at graph.edges e) else half_at (pivot_of graph.edges e) 0 (ends_at graph.edges e)
+
+-- the linked edges are those that pass the test, with their ends, and of each other edge the pivot's half-edge is left
 pub record AreLinked (graph : Graph) (test : ℕ → Bool) (l : Links) : Type 0 where
   pub vertices : l.vertices ≡ graph.vertices
   pub many : length l.slots ≡ length graph.edges
-  pub each : (e : ℕ) → e < length graph.edges → slice_get l.slots e ≡ Some (if test e then Some (ends_at graph.edges e) else None)
-
--- whether a vertex has degree one
-abbrev pub is_free : Links → ℕ → Bool
-is_free l v = degree_of l v == 1
+  pub each : (e : ℕ) → e < length graph.edges → slice_get l.slots e ≡ Some (halves_left graph test e)
 
 -- whether the edge at a place has an end of degree one
 abbrev pub is_picked : Links → List (List ℕ) → ℕ → Bool
@@ -23,20 +29,16 @@ is_picked l edges e = list_any (is_free l) (ends_at edges e)
 abbrev pub free_position : Links → List (List ℕ) → ℕ → ℕ
 free_position l edges e = position_or_len (is_free l) (ends_at edges e)
 
--- the edges of the vertices of degree one among these
-abbrev pub soles_of : Links → List ℕ → List ℕ
-soles_of l ends = map (sole_of l) (filter (is_free l) ends)
+-- that position, or 8 where no end of the k has degree one
+abbrev pub first_byte : ℕ → Links → List (List ℕ) → ℕ → ℕ
+first_byte k l edges e = if nat_lt (free_position l edges e) k then free_position l edges e else 8
 
--- the same for the ends of several edges, one edge after another
-abbrev pub soles_of_all : Links → List (List ℕ) → List ℕ
-soles_of_all l [] = []
-soles_of_all l (ends ∷ more) = soles_of l ends ++ soles_of_all l more
+-- the half-edges of edge e, whose ends are numbered from j on, but for that at position p
+abbrev pub other_halves : ℕ → ℕ → ℕ → List ℕ → List Half
+other_halves e p j [] = []
+other_halves e p j (v ∷ vs) = (if j == p then [] else record { vertex = v; place = 4 * e + j } ∷ []) ++ other_halves e p (suc j) vs
 
--- after all these are unlinked
-abbrev pub unlinked_all : Links → List ℕ → Links
-unlinked_all l [] = l
-unlinked_all l (e ∷ es) = unlinked_all (unlinked l e) es
-
--- these edges have their pivots, and each other place is as before
-pub record PivotsSet (l : Links) (edges : List (List ℕ)) (es old new : List ℕ) : Type 0 where
-  pub each : (e : ℕ) → e < length edges → slice_index new e ≡ (if has es e then free_position l edges e else slice_index old e)
+-- the same of several edges, one after another, whose bytes give the positions
+abbrev pub other_halves_all : List (List ℕ) → List ℕ → List ℕ → List Half
+other_halves_all edges bytes [] = []
+other_halves_all edges bytes (e ∷ es) = other_halves e (slice_index bytes e % 4) 0 (ends_at edges e) ++ other_halves_all edges bytes es

@@ -1,5 +1,5 @@
 -- What peeling gives.
-use Rattle.std.specs.Prelude.{◌≡◌, ℕ, ◌<◌, Bool, not, nat_lt, List, length, map, filter, slice_index}
+use Rattle.std.specs.Prelude.{◌≡◌, ℕ, ◌%◌, ◌<◌, Bool, not, nat_lt, List, length, map, filter, slice_index}
 use Rattle.cm_spec.specs.Lists.{numbers_from}
 use Rattle.cm_spec.specs.Graph.{places}
 use Rattle.cm_spec.specs.Rounds.{level_of, pivot_of, order_of, rest_of}
@@ -21,10 +21,20 @@ pub record IsPeelingOf (edges : List (List ℕ)) (p : Peeling) : Type 0 where
 abbrev pub levels_of : List (List ℕ) → List ℕ
 levels_of edges = map (level_of edges) (places edges)
 
--- whether an edge with k ends has a position past them
-abbrev pub is_past : ℕ → List ℕ → ℕ → Bool
-is_past k pivots e = not (nat_lt (slice_index pivots e) k)
+-- The byte of a taken edge is 4 times 0 or 1, and the position of its pivot. That of each other edge is 8 or more.
 
--- the edges that have
-abbrev pub past_of : ℕ → List ℕ → List ℕ
-past_of k pivots = filter (is_past k pivots) (numbers_from 0 (length pivots))
+-- the pivots that bytes have
+abbrev pub pivots_in : List ℕ → List ℕ
+pivots_in bytes = map (λ b. b % 4) bytes
+
+-- whether an edge is taken
+abbrev pub is_taken : List ℕ → ℕ → Bool
+is_taken bytes e = nat_lt (slice_index bytes e) 8
+
+-- the edges that are
+abbrev pub taken_of : List ℕ → List ℕ
+taken_of bytes = filter (is_taken bytes) (numbers_from 0 (length bytes))
+
+-- the edges that are not
+abbrev pub untaken_of : List ℕ → List ℕ
+untaken_of bytes = filter (λ e. not (is_taken bytes e)) (numbers_from 0 (length bytes))

@@ -1,15 +1,12 @@
 //! A round is worked on by chunks: what lies far apart in memory is first read into small arrays, so that no store waits
 //! for a load.
-ghost use Rattle.std.specs.Prelude.{◌≡◌, ℕ, ◌+◌, ◌*◌, ◌<◌, ◌≤◌, [], ◌++◌, ◌==◌, if◌then◌else◌, length, All, map, filter, take, slice_index, slice_index_or, OnOk, false};
-ghost use Rattle.std.specs.List.{concat, position_or_len};
-ghost use Rattle.std.specs.List.Sorted.{IsStrictlyIncreasing};
-ghost use Rattle.cm_spec.specs.Lists.{has};
-ghost use Rattle.cm_spec.specs.Graph.{IsEdge};
-ghost use Rattle.cm_graph.specs.Graph.{IsLinked, degree_of, sole_of};
+ghost use Rattle.std.specs.Prelude.{◌≡◌, ℕ, ◌+◌, ◌*◌, ◌/◌, ◌%◌, ◌<◌, ◌≤◌, ◌++◌, ◌==◌, nat_lt, if◌then◌else◌, length, All, map, take, slice_index, OnOk};
+ghost use Rattle.std.specs.List.{position_or_len};
+ghost use Rattle.cm_graph.specs.Graph.{degree_of};
 ghost use Rattle.cm_peel.specs.AtRound.{AreTaken};
-ghost use Rattle.cm_peel.specs.Incident.{is_free, soles_of_all, unlinked_all};
+ghost use Rattle.cm_peel.specs.Incident.{other_halves, other_halves_all};
 
-use cm_graph::{Incidence, Steps};
+use cm_graph::{Edges, Half, Incidence, Steps};
 use std::alloc::AllocError;
 use std::sync::ledger::Ledger;
 
@@ -19,156 +16,129 @@ pub(crate) const CHUNK: usize = 64;
 /// How many ends these have at most.
 pub(crate) const CHUNK_ENDS: usize = 192;
 
-/// Unlinks the edges of a chunk.
-pub(crate) fn unlink_each<const K: usize, I: Incidence<K>, L: Ledger>(
-    incidence: &mut I,
-    chunk: &[u32],
-    ends: &[[u32; K]],
-    steps: &mut Steps<L>,
-)
-    requires small { K ≤ 3 }
-    requires rising { IsStrictlyIncreasing chunk.now }
-    requires long { length ends.now ≡ length chunk.now }
-    requires edges { All (λ each. IsEdge (I.links incidence.old).vertices each) ends.now }
-    requires linked { (i : ℕ) → i < length chunk.now → IsLinked (I.links incidence.old) (slice_index chunk.now i) (slice_index_or ends.now i []) }
-    ensures links { I.links incidence.new ≡ unlinked_all (I.links incidence.old) chunk.now }
-    ensures steps { steps.new ≡ steps.old + K * length chunk.now }
+/// The byte of an edge that isn't taken; so is each byte above it.
+pub(crate) const UNTAKEN: u8 = 8;
+
+/// Reads the bytes of some edges.
+fn look_up(bytes: &[u8], chunk: &[u32], marks: &mut [u8])
+    requires places { All (λ e. e < length bytes.now) chunk.now }
+    requires room { length chunk.now ≤ length marks.old }
+    ensures { (i : ℕ) → i < length chunk.now → slice_index marks.new i ≡ slice_index bytes.now (slice_index chunk.now i) }
 {
     for (i, e) in chunk.iter().enumerate() {
-        incidence.unlink(*e, ends[i], steps);
+        marks[i] = bytes[*e as usize];
     }
 }
 
-/// Writes those of an edge's ends that have degree one into the list, behind the first `count`.
-fn add_free<const K: usize, I: Incidence<K>, L: Ledger>(
-    incidence: &I,
+/// Writes the half-edges of an edge into the list, behind the first `count`. That of its pivot isn't counted, but written too, so
+/// that no branch asks which it is.
+fn add_halves<const K: usize>(
+    e: u32,
     ends: [u32; K],
+    pivot: usize,
     count: usize,
-    free: &mut [u32],
-    steps: &mut Steps<L>,
+    halves: &mut [Half],
 ) -> usize
-    requires vertices { All (λ v. v < (I.links incidence.now).vertices) ends }
-    requires room { count + K ≤ length free.old }
-    ensures free { take result free.new ≡ take count free.old ++ filter (is_free (I.links incidence.now)) ends.entry }
+    requires small { K ≤ 3 }
+    requires edge { e < 67108864 }
+    requires room { count + K ≤ length halves.old }
+    ensures halves { take result halves.new ≡ take count halves.old ++ other_halves e pivot 0 ends.entry }
     ensures few { result ≤ count + K }
-    ensures steps { steps.new ≡ steps.old + K }
 {
     let mut at = count;
-    for v in ends {
-        free[at] = v;
-        at += (incidence.degree(v, steps) == 1) as usize;
+    for i in 0..K {
+        halves[at] = Half {
+            vertex: ends[i],
+            place: 4 * e + i as u32,
+        };
+        at += (i != pivot) as usize;
     }
     at
 }
 
-/// Lists the ends of degree one among those of a chunk, and says how many they are.
-fn list_free<const K: usize, I: Incidence<K>, L: Ledger>(
-    incidence: &I,
-    ends: &[[u32; K]],
-    free: &mut [u32],
-    steps: &mut Steps<L>,
-) -> usize
-    requires vertices { All (λ each. All (λ v. v < (I.links incidence.now).vertices) each) ends.now }
-    requires room { K * length ends.now ≤ length free.old }
-    ensures free { take result free.new ≡ filter (is_free (I.links incidence.now)) (concat ends.now) }
-    ensures few { result ≤ K * length ends.now }
-    ensures steps { steps.new ≡ steps.old + K * length ends.now }
-{
-    let mut count = 0;
-    for each in ends {
-        count = add_free(incidence, *each, count, free, steps);
-    }
-    count
-}
-
-/// The edges of some vertices of degree one.
-fn look_up_soles<const K: usize, I: Incidence<K>, L: Ledger>(
-    incidence: &I,
-    free: &[u32],
-    soles: &mut [u32],
-    steps: &mut Steps<L>,
-)
-    requires vertices { All (λ v. v < (I.links incidence.now).vertices) free.now }
-    requires free { All (λ v. degree_of (I.links incidence.now) v ≡ 1) free.now }
-    requires room { length free.now ≤ length soles.old }
-    ensures soles { take (length free.now) soles.new ≡ map (sole_of (I.links incidence.now)) free.now }
-    ensures steps { steps.new ≡ steps.old + length free.now }
-{
-    for (i, v) in free.iter().enumerate() {
-        soles[i] = incidence.sole(*v, steps);
-    }
-}
-
-/// Lists the edges of the vertices of degree one among the ends of a chunk, and says how many they are.
-pub(crate) fn list_soles<const K: usize, I: Incidence<K>, L: Ledger>(
-    incidence: &I,
-    ends: &[[u32; K]],
-    free: &mut [u32],
-    soles: &mut [u32],
-    steps: &mut Steps<L>,
+/// Lists the half-edges of a chunk but for those of its pivots, and says how many they are. `ends` and `marks` are room to work in.
+pub(crate) fn list_halves<const K: usize>(
+    edges: &Edges<K>,
+    bytes: &[u8],
+    chunk: &[u32],
+    ends: &mut [[u32; K]],
+    marks: &mut [u8],
+    halves: &mut [Half],
 ) -> usize
     requires small { K ≤ 3 }
-    requires vertices { All (λ each. All (λ v. v < (I.links incidence.now).vertices) each) ends.now }
-    requires few { length ends.now ≤ 64 }
-    requires free { length free.old ≡ 192 }
-    requires soles { length soles.old ≡ 192 }
-    ensures few { result ≤ 192 }
-    ensures soles { take result soles.new ≡ soles_of_all (I.links incidence.now) ends.now }
-    ensures steps { steps.new ≤ steps.old + 2 * (K * length ends.now) }
+    requires fits { length edges.now.edges ≤ 67108864 }
+    requires places { All (λ e. e < length edges.now.edges) chunk.now }
+    requires long { length bytes.now ≡ length edges.now.edges }
+    requires ends { length ends.old ≡ length chunk.now }
+    requires marks { length chunk.now ≤ length marks.old }
+    requires halves { K * length chunk.now ≤ length halves.old }
+    ensures halves { take result halves.new ≡ other_halves_all edges.now.edges bytes.now chunk.now }
+    ensures few { result ≤ K * length chunk.now }
 {
-    let count = list_free(incidence, ends, free, steps);
-    look_up_soles(incidence, &free[..count], soles, steps);
+    edges.gather(chunk, ends);
+    look_up(bytes, chunk, marks);
+    let mut count = 0;
+    for (i, e) in chunk.iter().enumerate() {
+        count = add_halves(*e, ends[i], (marks[i] % 4) as usize, count, halves);
+    }
     count
 }
 
-/// The positions that some edges have now.
-fn look_up(pivots: &[u8], soles: &[u32], marks: &mut [u8])
-    requires places { All (λ e. e < length pivots.now) soles.now }
-    requires room { length soles.now ≤ length marks.old }
-    ensures { (i : ℕ) → i < length soles.now → slice_index marks.new i ≡ slice_index pivots.now (slice_index soles.now i) }
+/// Reads the bytes of the edges of some places.
+fn look_up_places(bytes: &[u8], places: &[u32], marks: &mut [u8])
+    requires places { All (λ q. q / 4 < length bytes.now) places.now }
+    requires room { length places.now ≤ length marks.old }
+    ensures { (i : ℕ) → i < length places.now → slice_index marks.new i ≡ slice_index bytes.now (slice_index places.now i / 4) }
 {
-    for (i, e) in soles.iter().enumerate() {
-        marks[i] = pivots[*e as usize];
+    for (i, place) in places.iter().enumerate() {
+        marks[i] = bytes[(*place / 4) as usize];
     }
 }
 
-/// Takes those of the edges whose position is past their ends, `marks` being their positions.
-fn take_fresh<const K: usize>(
-    soles: &[u32],
+/// Takes the edges of these places, `marks` being their bytes.
+fn take_listed(
+    places: &[u32],
     marks: &[u8],
-    pivots: &mut [u8],
+    rounds: u32,
+    bytes: &mut [u8],
     order: &mut Vec<u32>,
 ) -> Result<(), AllocError>
-    requires some { 0 < K }
-    requires places { All (λ e. e < length pivots.old) soles.now }
-    requires room { length soles.now ≤ length marks.now }
-    requires marks { (i : ℕ) → i < length soles.now → slice_index marks.now i ≡ slice_index pivots.old (slice_index soles.now i) }
-    ensures { OnOk result (AreTaken K soles.now pivots.old pivots.new order.old.items order.new.items) }
+    requires rounds { rounds < 67108864 }
+    requires places { All (λ q. q / 4 < length bytes.old) places.now }
+    requires room { length places.now ≤ length marks.now }
+    requires marks { (i : ℕ) → i < length places.now → slice_index marks.now i ≡ slice_index bytes.old (slice_index places.now i / 4) }
+    ensures { OnOk result (AreTaken rounds places.now bytes.old bytes.new order.old.items order.new.items) }
 {
-    for (i, e) in soles.iter().enumerate() {
-        if marks[i] as usize >= K && pivots[*e as usize] as usize >= K {
-            pivots[*e as usize] = 0;
-            order.push(*e)?;
+    let here = (rounds % 2) as u8;
+    let next = 4 * ((rounds + 1) % 2) as u8;
+    for (i, place) in places.iter().enumerate() {
+        let e = *place / 4;
+        let old = bytes[e as usize];
+        let least = old.min(next + (*place % 4) as u8);
+        bytes[e as usize] = if marks[i] / 4 == here { old } else { least };
+        if old >= UNTAKEN {
+            order.push(e)?;
         }
     }
     Ok(())
 }
 
-/// Adds those of the edges to the order whose position is past their ends, and gives them the first one, until the pivots of the
-/// round are set. `marks` is room to work in.
-pub(crate) fn take<const K: usize>(
-    soles: &[u32],
+/// Takes the edges of these places for the round after `rounds` and one more. An edge that isn't taken yet is added to the order. One
+/// of that round gets the least position of its places, and one of the round before stays as it is. `marks` is room to work in.
+pub(crate) fn take(
+    places: &[u32],
     marks: &mut [u8],
-    pivots: &mut [u8],
+    rounds: u32,
+    bytes: &mut [u8],
     order: &mut Vec<u32>,
 ) -> Result<(), AllocError>
-    requires some { 0 < K }
-    requires places { All (λ e. e < length pivots.old) soles.now }
-    requires room { length soles.now ≤ length marks.old }
-    ensures { OnOk result (AreTaken K soles.now pivots.old pivots.new order.old.items order.new.items) }
+    requires rounds { rounds < 67108864 }
+    requires places { All (λ q. q / 4 < length bytes.old) places.now }
+    requires room { length places.now ≤ length marks.old }
+    ensures { OnOk result (AreTaken rounds places.now bytes.old bytes.new order.old.items order.new.items) }
 {
-    look_up(pivots, soles, marks);
-    take_fresh::<K>(soles, marks, pivots, order)
+    look_up_places(bytes, places, marks);
+    take_listed(places, marks, rounds, bytes, order)
 }
 
 /// The degrees of an edge's ends.
@@ -189,28 +159,10 @@ pub(crate) fn degrees_of<const K: usize, I: Incidence<K>, L: Ledger>(
     degrees
 }
 
-/// The degrees of the ends of a chunk.
-pub(crate) fn note_degrees<const K: usize, I: Incidence<K>, L: Ledger>(
-    incidence: &I,
-    ends: &[[u32; K]],
-    degrees: &mut [[u32; K]],
-    steps: &mut Steps<L>,
-)
-    requires small { K ≤ 3 }
-    requires vertices { All (λ each. All (λ v. v < (I.links incidence.now).vertices) each) ends.now }
-    requires long { length degrees.old ≡ length ends.now }
-    ensures degrees { degrees.new ≡ map (map (degree_of (I.links incidence.now))) ends.now }
-    ensures steps { steps.new ≡ steps.old + K * length ends.now }
-{
-    for (i, each) in ends.iter().enumerate() {
-        degrees[i] = degrees_of(incidence, *each, steps);
-    }
-}
-
-/// The lowest position of a degree one, or `K`.
+/// The lowest position of a degree one, or `UNTAKEN`.
 pub(crate) fn first_one<const K: usize>(degrees: [u32; K]) -> u8
     requires small { K ≤ 3 }
-    ensures { result ≡ position_or_len (λ d. d == 1) degrees.entry }
+    ensures { result ≡ (if nat_lt (position_or_len (λ d. d == 1) degrees.entry) K then position_or_len (λ d. d == 1) degrees.entry else 8) }
 {
     let mut first = K;
     let mut i = K;
@@ -220,19 +172,5 @@ pub(crate) fn first_one<const K: usize>(degrees: [u32; K]) -> u8
             first = i;
         }
     }
-    first as u8
-}
-
-/// The pivots of a chunk.
-pub(crate) fn set_each<const K: usize>(chunk: &[u32], degrees: &[[u32; K]], pivots: &mut [u8])
-    requires small { K ≤ 3 }
-    requires rising { IsStrictlyIncreasing chunk.now }
-    requires places { All (λ e. e < length pivots.old) chunk.now }
-    requires long { length degrees.now ≡ length chunk.now }
-    ensures set { (i : ℕ) → i < length chunk.now → slice_index pivots.new (slice_index chunk.now i) ≡ position_or_len (λ d. d == 1) (slice_index_or degrees.now i []) }
-    ensures others { (e : ℕ) → has chunk.now e ≡ false → slice_index pivots.new e ≡ slice_index pivots.old e }
-{
-    for (i, e) in chunk.iter().enumerate() {
-        pivots[*e as usize] = first_one(degrees[i]);
-    }
+    if first < K { first as u8 } else { UNTAKEN }
 }

@@ -2,30 +2,32 @@
 ghost use Rattle.std.specs.Prelude.{◌≡◌, ℕ, ◌+◌, ◌*◌, ◌<◌, ◌≤◌, ◌^◌, [], length, IfOk, slice_index};
 ghost use Rattle.cm_spec.specs.Core.{IsCore};
 ghost use Rattle.cm_spec.specs.Rounds.{level_of};
-ghost use Rattle.cm_peel.specs.Peeling.{IsPeelingOf, levels_of, past_of};
+ghost use Rattle.cm_peel.specs.Peeling.{IsPeelingOf, levels_of, untaken_of};
 
-use crate::round::{advance, begin, link_all};
+use crate::chunk::UNTAKEN;
+use crate::round::{advance, begin};
 use cm_graph::{Edges, Incidence, Steps};
 use std::alloc::{AllocError, Global};
 use std::marker::Model;
 use std::sync::ledger::Ledger;
 
 /// The removed edges in order, the level of each edge where levels are kept, the pivot of each removed edge, and the edges that are
-/// left.
+/// left. The byte of an edge that the round after r rounds removed is `4 * (r % 2)` and its pivot's position; that of each other edge is
+/// `UNTAKEN` or more.
 #[derive(Drop)]
 pub struct Peeled<const K: usize> {
     order: Vec<u32>,
     levels: Vec<u32>,
-    pivots: Vec<u8>,
+    bytes: Vec<u8>,
     rest: Vec<u32>,
 }
 
 impl<const K: usize> Model for Peeled<K> {
-    ghost use Rattle.cm_peel.specs.Peeling.{Peeling};
+    ghost use Rattle.cm_peel.specs.Peeling.{Peeling, pivots_in};
 
     ghost Value = { Peeling };
 
-    ghost view = { λ p. record { order = p.order.items; levels = p.levels.items; pivots = p.pivots.items; rest = p.rest.items } };
+    ghost view = { λ p. record { order = p.order.items; levels = p.levels.items; pivots = pivots_in p.bytes.items; rest = p.rest.items } };
 }
 
 impl<const K: usize> Peeled<K> {
@@ -56,26 +58,22 @@ impl<const K: usize> Peeled<K> {
         requires { e < length self.now.pivots }
         ensures { result ≡ slice_index self.now.pivots e }
     {
-        self.pivots[e as usize] as u32
+        (self.bytes[e as usize] % 4) as u32
     }
 }
 
-/// The edges whose position is past their ends, so many.
-fn past<const K: usize>(
-    alloc: Global,
-    pivots: &Vec<u8>,
-    many: usize,
-) -> Result<Vec<u32>, AllocError>
-    requires few { length pivots.now.items ≤ 67108864 }
-    requires many { many ≡ length (past_of K pivots.now.items) }
-    ensures { IfOk result (λ v. v.items ≡ past_of K pivots.now.items) }
+/// The edges that aren't taken, so many.
+fn untaken(alloc: Global, bytes: &Vec<u8>, many: usize) -> Result<Vec<u32>, AllocError>
+    requires few { length bytes.now.items ≤ 67108864 }
+    requires many { many ≡ length (untaken_of bytes.now.items) }
+    ensures { IfOk result (λ v. v.items ≡ untaken_of bytes.now.items) }
 {
     let mut v = Vec::new(alloc);
     if many == 0 {
         return Ok(v);
     }
-    for e in 0..pivots.len() as u32 {
-        if pivots[e as usize] as usize >= K {
+    for e in 0..bytes.len() as u32 {
+        if bytes[e as usize] >= UNTAKEN {
             v.push(e)?;
         }
     }
@@ -97,15 +95,14 @@ fn peel_noting<const K: usize, I: Incidence<K> + Drop, L: Ledger>(
     ensures steps { steps.new ≤ steps.old + 8 * (K * length edges.now.edges) }
 {
     let m = edges.len();
-    let mut incidence = I::empty(alloc, edges.vertices(), m)?;
-    link_all(edges, &mut incidence, steps);
-    let mut pivots = vec![in alloc; 0; m as usize]?;
+    let mut incidence = I::from_edges(alloc, edges, steps)?;
+    let mut bytes = vec![in alloc; UNTAKEN; m as usize]?;
     let mut order = Vec::with_capacity(alloc, m as usize)?;
     begin(
         edges,
         &incidence,
         &mut levels,
-        &mut pivots,
+        &mut bytes,
         &mut order,
         steps,
     )?;
@@ -120,7 +117,7 @@ fn peel_noting<const K: usize, I: Incidence<K> + Drop, L: Ledger>(
             start,
             rounds,
             &mut levels,
-            &mut pivots,
+            &mut bytes,
             &mut order,
             &mut marks,
             steps,
@@ -128,11 +125,11 @@ fn peel_noting<const K: usize, I: Incidence<K> + Drop, L: Ledger>(
         start = end;
         rounds += 1;
     }
-    let rest = past::<K>(alloc, &pivots, m as usize - order.len())?;
+    let rest = untaken(alloc, &bytes, m as usize - order.len())?;
     Ok(Peeled {
         order,
         levels,
-        pivots,
+        bytes,
         rest,
     })
 }

@@ -5,12 +5,12 @@ use Rattle.cm_peel.proofs.peeled.peel_noting.Given as goal
 
 abbrev pub invariant-rounds : goal.invariant-rounds
 invariant-rounds g l = record {
-  state : AtRound g.row.K l.edges l.rounds (g.I.Incidence.links l.incidence) l.start l.order.items l.levels.items l.pivots.items;
+  state : AtRound l.edges l.rounds (g.I.Incidence.links l.incidence) l.start l.order.items l.levels.items l.bytes.items;
   long : length l.levels.items ≡ length l.fn.levels.items;
   fits : length l.edges.edges ≤ 67108864;
   marks : IsUnmarked (length l.edges.edges) l.marks.items;
   within : l.start ≤ vec_len l.order;
-  steps : l.steps ≤ l.fn.steps + 2 * (g.row.K * length l.edges.edges) + 4 * (g.row.K * l.start) + g.row.K * (vec_len l.order - l.start);
+  steps : l.steps ≤ l.fn.steps + 4 * (g.row.K * length l.edges.edges) + 3 * (g.row.K * l.start);
 }
 
 abbrev pub decreases-rounds : goal.decreases-rounds

@@ -1,0 +1,16 @@
+use Rattle.std.proofs.Common.{◌≡◌, ◌∙◌, List, ℕ, [], get_or, sym, ap, arith}
+use Rattle.std.proofs.lemmas.Option.{get_or_from_slice_get}
+use Rattle.cm_graph.specs.Graph.{Links, linked}
+use Rattle.cm_graph.proofs.Linking.{linked_more}
+use Rattle.cm_graph.proofs.halves.link_each.Goals as goal
+
+pub loop-e-preserved : goal.loop-e-preserved
+loop-e-preserved g c =
+    let edges : List (List ℕ) = c.args.edges.now.edges in
+    let n : ℕ = c.args.edges.now.vertices in
+    let is : c.ends.result ≡ get_or edges c.loop-e.e [] = sym (get_or_from_slice_get edges c.loop-e.e c.ends.result [] c.ends.ensures.ends) in
+    record {
+      end = c.len-e-end.ensures.count;
+      store = c.link_edge.ensures.links c.if-not-link_edge.false ∙ (ap (λ (l : Links). linked l c.loop-e.e c.ends.result) c.loop-e.invariant.store ∙ linked_more n edges c.loop-e.e c.ends.result (omega (arith, c.loop-e-test.true, c.len-e-end.ensures.count)) is);
+      steps = grind (arith, c.link_edge.ensures.steps c.if-not-link_edge.false, c.loop-e.invariant.steps);
+    }

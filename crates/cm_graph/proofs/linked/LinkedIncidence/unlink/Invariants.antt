@@ -1,9 +1,0 @@
-use Rattle.std.proofs.Common.{◌≡◌, ◌+◌, take}
-use Rattle.cm_graph.specs.Graph.{linked}
-use Rattle.cm_graph.proofs.linked.LinkedIncidence.unlink.Given as goal
-
-abbrev pub invariant-loop-j : goal.invariant-loop-j
-invariant-loop-j g l = record {
-  self : l.self ≡ linked l.fn.self l.fn.e (take l.j l.fn.ends);
-  steps : l.steps + l.j ≡ l.fn.steps + g.row.K;
-}
