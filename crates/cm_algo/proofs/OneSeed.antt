@@ -61,6 +61,18 @@ steps_err k m n s0 s t i len a b e l =
 pub steps_one : (k m n s0 t len : ℕ) → t ≤ s0 + 8 * (k * m) → m ≡ n → 0 < len → t ≤ s0 + 8 * (k * n) * len
 steps_one k m n s0 t len a e l = steps_err k m n s0 s0 t 0 len (omega arith) a e l
 
+-- the steps of later seeds, which come after those of the first
+pub steps_later : (x y s s0 before : ℕ) → s0 ≤ before + x → s + x ≤ s0 + y → s ≤ before + y
+steps_later x y s s0 before a b = omega arith
+
+pub steps_on : (k m s0 s t i : ℕ) → s + 8 * (k * m) ≤ s0 + 8 * (k * m) * i → t ≤ s + 8 * (k * m) → t + 8 * (k * m) ≤ s0 + 8 * (k * m) * (i + 1)
+steps_on k m s0 s t i a b =
+    let more : 8 * (k * m) * (i + 1) ≡ 8 * (k * m) * i + 8 * (k * m) * 1 = mul-add (8 * (k * m)) i 1 in
+    omega arith
+
+pub steps_all : (k m s s0 before i len : ℕ) → s0 ≤ before + 8 * (k * m) → s + 8 * (k * m) ≤ s0 + 8 * (k * m) * i → i ≤ len → s ≤ before + 8 * (k * m) * len
+steps_all k m s s0 before i len a b up = omega (arith, mul-le-mul_left (8 * (k * m)) up)
+
 -- one more seed that leaves a rest
 pub left_more : (P : ℕ → Type 0) (i j : ℕ) → ((j : ℕ) → j < i → P j) → P i → j < i + 1 → P j
 left_more P i j h p l = go (cases_lt j i) where

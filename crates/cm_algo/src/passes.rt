@@ -153,31 +153,27 @@ pub(crate) fn hash_all<S: Scheme<K>, P: KeyPass, const K: usize>(
 {
     keys.rewind()?;
     let divisor = scheme.divisor(edges.vertices());
-    for count in 0..m + 1 {
-        if count < m && add_at_hand(scheme, &divisor, keys, seed, edges, tags) {
+    for count in 0..m {
+        if add_at_hand(scheme, &divisor, keys, seed, edges, tags) {
             continue;
         }
         match read_words(keys, key, seed) {
-            Ok(Some(hashed)) => {
-                if count == m {
-                    return Err(GatherFault::Changed {
-                        first: m,
-                        now: m + 1,
-                    });
-                }
-                add_key(scheme, &divisor, hashed, edges, tags);
-            }
+            Ok(Some(hashed)) => add_key(scheme, &divisor, hashed, edges, tags),
             Ok(None) => {
-                if count < m {
-                    return Err(GatherFault::Changed {
-                        first: m,
-                        now: count,
-                    });
-                }
-                return Ok(());
+                return Err(GatherFault::Changed {
+                    first: m,
+                    now: count,
+                });
             }
             Err(fault) => return Err(GatherFault::Key(fault)),
         }
     }
-    unreachable!()
+    match keys.next(key) {
+        Ok(true) => Err(GatherFault::Changed {
+            first: m,
+            now: m + 1,
+        }),
+        Ok(false) => Ok(()),
+        Err(fault) => Err(GatherFault::Key(fault)),
+    }
 }

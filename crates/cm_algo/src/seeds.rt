@@ -160,6 +160,37 @@ pub fn build_with<S: Scheme<K>, I: Incidence<K> + Drop, P: KeyPass, const K: usi
     if m == 0 {
         return Err(BuildFault::NoKeys);
     }
+    build_counted::<S, I, P, K, L>(alloc, scheme, keys, key, m, c, seeds, steps)
+}
+
+/// `build_with` of keys that were counted.
+fn build_counted<S: Scheme<K>, I: Incidence<K> + Drop, P: KeyPass, const K: usize, L: Ledger>(
+    alloc: Global,
+    scheme: &S,
+    keys: &mut P,
+    key: &mut KeyBuf,
+    m: u32,
+    c: u32,
+    seeds: &[u32],
+    steps: &mut Steps<L>,
+) -> Result<Built<S::Table>, BuildFault>
+    requires many { (1 ≤ m) × (m ≤ 16777216) }
+    requires ratio { IsRatio c }
+    requires some { 0 < length seeds.now }
+    requires counted { ForSome (P.told keys.old) (λ told. (length told.keys ≡ m) × (told.fault ≡ None)) }
+    ensures told { P.told keys.new ≡ P.told keys.old }
+    ensures cause { HasBuildCause (P.faults keys.old) (P.faults keys.new) result }
+    ensures many { IfOk result (λ b. (1 ≤ b.m) × (b.m ≤ 16777216) × (b.c ≡ c)) }
+    ensures cells { IfOk result (λ b. (S.Table.bound_of b.cells ≡ (S.rule scheme.now).bound b.m) × (length (S.Table.cells b.cells) ≡ (S.rule scheme.now).size b.m c)) }
+    ensures busy { IfOk result (λ b. (S.rule scheme.now).modulus b.m ≤ (S.rule scheme.now).idle → count_by (is_busy (S.rule scheme.now).idle) (S.Table.cells b.cells) ≡ b.m) }
+    ensures seed { IfOk result (λ b. Contains seeds.now b.seed) }
+    ensures first { IfOk result (λ b. ForSome (P.told keys.old) (λ told. (told.fault ≡ None) × IsBuilt (S.rule scheme.now) told.keys c seeds.now b.m b.seed (S.Table.cells b.cells) K steps.old steps.new)) }
+    ensures fault { IfErr result (λ e. ForSome (P.told keys.old) (λ told. FailsBuild (S.rule scheme.now) told c seeds.now e)) }
+    ensures numbers { IfErr result (HasNumbers (P.place keys.new)) }
+    ensures certificate { IfErr result (HasForm (S.algorithm_of scheme.now) (slice_index seeds.now 0)) }
+    ensures steps { steps.new ≤ steps.old + 8 * (K * m) * length seeds.now }
+    ensures early { IfErr result (λ e. FoundEqual e → steps.new ≤ steps.old + 8 * (K * m)) }
+{
     let first = seeds[0];
     let certificate = match attempt::<S, I, P, K, L>(
         alloc, scheme, keys, key, m, c, first, steps,
@@ -176,6 +207,44 @@ pub fn build_with<S: Scheme<K>, I: Incidence<K> + Drop, P: KeyPass, const K: usi
     if !certificate.equal.is_empty() {
         return Err(BuildFault::Cored(certificate));
     }
+    build_later::<S, I, P, K, L>(alloc, scheme, keys, key, m, c, seeds, certificate, steps)
+}
+
+/// The cells of the first seed that works after the first of the list, which left this certificate without equal keys. `steps` has
+/// counted those of the first.
+fn build_later<S: Scheme<K>, I: Incidence<K> + Drop, P: KeyPass, const K: usize, L: Ledger>(
+    alloc: Global,
+    scheme: &S,
+    keys: &mut P,
+    key: &mut KeyBuf,
+    m: u32,
+    c: u32,
+    seeds: &[u32],
+    certificate: Certificate,
+    steps: &mut Steps<L>,
+) -> Result<Built<S::Table>, BuildFault>
+    requires many { (1 ≤ m) × (m ≤ 16777216) }
+    requires ratio { IsRatio c }
+    requires some { 0 < length seeds.now }
+    requires counted { ForSome (P.told keys.old) (λ told. (length told.keys ≡ m) × (told.fault ≡ None)) }
+    requires left { ForSome (P.told keys.old) (λ told. rest_of (graph_of (S.rule scheme.now) told.keys c (slice_index seeds.now 0)) ≢ []) }
+    requires form { HasForm (S.algorithm_of scheme.now) (slice_index seeds.now 0) (build_fault.Cored certificate) }
+    requires shows { ForSome (P.told keys.old) (λ told. ShowsCore (S.rule scheme.now) told.keys c (slice_index seeds.now 0) certificate) }
+    requires unequal { certificate.equal.items ≡ [] }
+    ensures told { P.told keys.new ≡ P.told keys.old }
+    ensures cause { HasBuildCause (P.faults keys.old) (P.faults keys.new) result }
+    ensures many { IfOk result (λ b. (1 ≤ b.m) × (b.m ≤ 16777216) × (b.c ≡ c)) }
+    ensures cells { IfOk result (λ b. (S.Table.bound_of b.cells ≡ (S.rule scheme.now).bound b.m) × (length (S.Table.cells b.cells) ≡ (S.rule scheme.now).size b.m c)) }
+    ensures busy { IfOk result (λ b. (S.rule scheme.now).modulus b.m ≤ (S.rule scheme.now).idle → count_by (is_busy (S.rule scheme.now).idle) (S.Table.cells b.cells) ≡ b.m) }
+    ensures seed { IfOk result (λ b. Contains seeds.now b.seed) }
+    ensures first { (before : ℕ) → steps.old ≤ before + 8 * (K * m) →
+        IfOk result (λ b. ForSome (P.told keys.old) (λ told. (told.fault ≡ None) × IsBuilt (S.rule scheme.now) told.keys c seeds.now b.m b.seed (S.Table.cells b.cells) K before steps.new)) }
+    ensures fault { IfErr result (λ e. ForSome (P.told keys.old) (λ told. FailsBuild (S.rule scheme.now) told c seeds.now e)) }
+    ensures numbers { IfErr result (HasNumbers (P.place keys.new)) }
+    ensures certificate { IfErr result (HasForm (S.algorithm_of scheme.now) (slice_index seeds.now 0)) }
+    ensures steps { (before : ℕ) → steps.old ≤ before + 8 * (K * m) → steps.new ≤ before + 8 * (K * m) * length seeds.now }
+    ensures unequal { IfErr result (λ e. FoundEqual e → ⊥) }
+{
     for i in 1..seeds.len() {
         let seed = seeds[i];
         match attempt::<S, I, P, K, L>(alloc, scheme, keys, key, m, c, seed, steps)? {

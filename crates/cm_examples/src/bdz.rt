@@ -2,6 +2,7 @@ ghost use Rattle.std.specs.Prelude.{◌≡◌, ◌≤◌, length, IfOk};
 ghost use Rattle.cm_spec.specs.Bdz.{bdz_size};
 ghost use Rattle.cm_spec.specs.Rule.{IsRatio};
 
+use crate::equal::equal;
 use cm_bdz::{Bdz, BdzPh, PartsFault, answers_apart, chosen};
 use cm_bits::{Cells, Crumbs, Trits};
 use cm_scheme::{Answers, Built, answer};
@@ -41,23 +42,25 @@ fn ranked_answers(rt: HostRuntime) -> Result<(), Fail> {
     let two = function(rt.alloc(), 2, &[1, 2])?;
     match two {
         Ok(two) => {
-            assert_eq!(rt; span(&two), 2);
-            assert_eq!(rt; answer(&two, b""), Some(0));
-            assert_eq!(rt; answer(&two, b"a"), Some(1));
-            assert_eq!(rt;
-                (two.keys(), two.c(), two.seed(), two.b()),
-                (2, 1_230_000, 0, 7)
+            assert!(rt; equal(&span(&two), &2));
+            assert!(rt; equal(&answer(&two, b""), &Some(0)));
+            assert!(rt; equal(&answer(&two, b"a"), &Some(1)));
+            assert!(rt;
+                equal(
+                    &(two.keys(), two.c(), two.seed(), two.b()),
+                    &(2, 1_230_000, 0, 7)
+                )
             );
-            assert_eq!(rt; two.ranks().entries(), 1);
+            assert!(rt; equal(&two.ranks().entries(), &1));
         }
         Err(_) => assert!(rt; false),
     }
     let one = function(rt.alloc(), 1, &[1])?;
     match one {
         Ok(one) => {
-            assert_eq!(rt; answer(&one, b""), Some(0));
+            assert!(rt; equal(&answer(&one, b""), &Some(0)));
             // The vertex that is chosen for this key is idle.
-            assert_eq!(rt; answer(&one, b"a"), None);
+            assert!(rt; equal(&answer(&one, b"a"), &None));
         }
         Err(_) => assert!(rt; false),
     }
@@ -80,10 +83,10 @@ fn unranked(alloc: Global) -> Result<BdzPh, AllocError> {
 #[test]
 fn unranked_answers(rt: HostRuntime) -> Result<(), Fail> {
     let two = unranked(rt.alloc())?;
-    assert_eq!(rt; span(&two), 9);
-    assert_eq!(rt; answer(&two, b""), Some(1));
-    assert_eq!(rt; answer(&two, b"a"), Some(2));
-    assert_eq!(rt; chosen(two.cells(), b"a", 0), 2);
-    assert_eq!(rt; (two.keys(), two.c(), two.seed()), (2, 1_230_000, 0));
+    assert!(rt; equal(&span(&two), &9));
+    assert!(rt; equal(&answer(&two, b""), &Some(1)));
+    assert!(rt; equal(&answer(&two, b"a"), &Some(2)));
+    assert!(rt; equal(&chosen(two.cells(), b"a", 0), &2));
+    assert!(rt; equal(&(two.keys(), two.c(), two.seed()), &(2, 1_230_000, 0)));
     Ok(())
 }

@@ -2,6 +2,7 @@ ghost use Rattle.std.specs.Prelude.{IfOk};
 ghost use Rattle.std.specs.Option.{ForSome};
 ghost use Rattle.cm_words.specs.Limits.{IsBuild, IsJob};
 
+use crate::equal::{equal, equal_texts};
 use cm_algorithm::Algorithm;
 use cm_words::{BuildJob, Job, UsageFault, read_words};
 use std::alloc::{AllocError, Global};
@@ -85,9 +86,9 @@ fn refuses(rt: HostRuntime) -> Result<(), Fail> {
     ] {
         let found = fault_of(alloc, line);
         assert_eq!(rt; found, Some(fault), "{line}");
-        assert_eq!(rt; format!(in alloc; "{fault}")?.as_str(), text);
+        assert!(rt; equal_texts(format!(in alloc; "{fault}")?.as_str(), text));
     }
-    assert_eq!(rt; read_words(alloc, &[]).err(), Some(UsageFault::NoFile));
+    assert!(rt; equal(&read_words(alloc, &[]).err(), &Some(UsageFault::NoFile)));
     Ok(())
 }
 
@@ -99,13 +100,13 @@ fn reads_a_build(rt: HostRuntime) -> Result<(), Fail> {
         assert!(rt; false, "no build");
         return Ok(());
     };
-    assert_eq!(rt; job.keys.as_str(), "keys");
-    assert_eq!(rt; job.function.as_str(), "f");
-    assert_eq!(rt; job.first, Some(2));
-    assert_eq!(rt; job.algorithm, Algorithm::Bdz);
-    assert_eq!(rt; (job.c, job.b, job.seed, job.count), (1_500_000, 4, 0, 7));
-    assert_eq!(rt; job.buffer, 1_073_741_824);
-    assert_eq!(rt; job.dir.as_str(), "tmp");
+    assert!(rt; equal_texts(job.keys.as_str(), "keys"));
+    assert!(rt; equal_texts(job.function.as_str(), "f"));
+    assert!(rt; equal(&job.first, &Some(2)));
+    assert!(rt; equal(&job.algorithm, &Algorithm::Bdz));
+    assert!(rt; equal(&(job.c, job.b, job.seed, job.count), &(1_500_000, 4, 0, 7)));
+    assert!(rt; equal(&job.buffer, &1_073_741_824));
+    assert!(rt; equal_texts(job.dir.as_str(), "tmp"));
     assert!(rt; job.verbose);
     Ok(())
 }
@@ -122,14 +123,14 @@ fn has_defaults(rt: HostRuntime) -> Result<(), Fail> {
             assert!(rt; false, "no build: {line}");
             return Ok(());
         };
-        assert_eq!(rt; job.algorithm, algorithm);
+        assert!(rt; equal(&job.algorithm, &algorithm));
         assert_eq!(rt;
             (job.c, job.b, job.seed, job.count, job.buffer),
             (c, b, 1, 100, 1_048_576),
             "{line}"
         );
-        assert_eq!(rt; job.function.as_str(), "keys.mph");
-        assert_eq!(rt; job.dir.as_str(), ".");
+        assert!(rt; equal_texts(job.function.as_str(), "keys.mph"));
+        assert!(rt; equal_texts(job.dir.as_str(), "."));
         assert!(rt; job.first.is_none() && !job.verbose);
     }
     Ok(())
@@ -140,9 +141,9 @@ fn reads_other_jobs(rt: HostRuntime) -> Result<(), Fail> {
     let alloc = rt.alloc();
     match job_of(alloc, "cmph -k 1 keys")? {
         Job::Query(job) => {
-            assert_eq!(rt; job.keys.as_str(), "keys");
-            assert_eq!(rt; job.function.as_str(), "keys.mph");
-            assert_eq!(rt; job.first, Some(1));
+            assert!(rt; equal_texts(job.keys.as_str(), "keys"));
+            assert!(rt; equal_texts(job.function.as_str(), "keys.mph"));
+            assert!(rt; equal(&job.first, &Some(1)));
         }
         _other => assert!(rt; false, "no query"),
     }

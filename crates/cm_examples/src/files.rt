@@ -1,3 +1,4 @@
+use crate::equal::{equal, equal_bytes};
 use cm_outer::{Disk, DiskFault, Failed, Sink, Source, Spill, write_pieces};
 use cm_real::{FileDisk, StdSink};
 use std::alloc::{AllocGlobal, Global};
@@ -55,15 +56,17 @@ fn a_file_is_written_and_read(rt: HostRuntime) -> Result<(), Fail> {
         counts[1] = reader.read(&mut buf);
         counts[2] = reader.read(&mut buf[3..]);
         disk.shut(reader);
-        assert_eq!(rt; rewound, Ok(()));
+        assert!(rt; equal(&rewound, &Ok(())));
     }
     fs::remove_file(&rt, path.as_str())?;
-    assert_eq!(rt; stored, Ok(()));
-    assert_eq!(rt; counts, [Ok(2), Ok(3), Ok(0)]);
-    assert_eq!(rt; buf.as_slice(), b"abc\0".as_slice());
-    assert_eq!(rt;
-        store(&mut disk, "/tmp/no/such/folder", b""),
-        Err(DiskFault::Failed)
+    assert!(rt; equal(&stored, &Ok(())));
+    assert!(rt; equal(&counts, &[Ok(2), Ok(3), Ok(0)]));
+    assert!(rt; equal_bytes(buf.as_slice(), b"abc\0"));
+    assert!(rt;
+        equal(
+            &store(&mut disk, "/tmp/no/such/folder", b""),
+            &Err(DiskFault::Failed)
+        )
     );
     assert!(rt; matches!(disk.open(path.as_str()), Err(DiskFault::Failed)));
     Ok(())
@@ -75,7 +78,7 @@ fn a_folder_is_not_read(rt: HostRuntime) -> Result<(), Fail> {
     if let Ok(mut reader) = disk.open("/tmp") {
         let count = reader.read(&mut [0u8; 4]);
         disk.shut(reader);
-        assert_eq!(rt; count, Err(Failed));
+        assert!(rt; equal(&count, &Err(Failed)));
     }
     Ok(())
 }
@@ -104,10 +107,10 @@ fn a_spill_is_read_from_any_place(rt: HostRuntime) -> Result<(), Fail> {
     }
     let is_there = fs::exists(&rt, path.as_str())?;
     fs::remove_dir(&rt, folder.as_str())?;
-    assert_eq!(rt; appended, [Ok(()); 4]);
-    assert_eq!(rt; counts, [Ok(4), Ok(0), Ok(0), Ok(3)]);
-    assert_eq!(rt; bufs, [*b"bcde", [0; 4], [0; 4], *b"fgh\0"]);
-    assert_eq!(rt; kept.as_slice(), b"abcdefgh".as_slice());
+    assert!(rt; equal(&appended, &[Ok(()); 4]));
+    assert!(rt; equal(&counts, &[Ok(4), Ok(0), Ok(0), Ok(3)]));
+    assert!(rt; equal(&bufs, &[*b"bcde", [0; 4], [0; 4], *b"fgh\0"]));
+    assert!(rt; equal_bytes(kept.as_slice(), b"abcdefgh"));
     assert!(rt; !is_there);
     Ok(())
 }
@@ -122,8 +125,8 @@ fn a_spill_needs_its_folder(rt: HostRuntime) -> Result<(), Fail> {
 #[test]
 fn pieces_wait_in_the_buffer(rt: HostRuntime) -> Result<(), Fail> {
     let alloc = rt.alloc();
-    assert_eq!(rt; sent(alloc, &[b"a\n", b"b"]).len(), 0);
-    assert_eq!(rt; sent(alloc, &[b"a\n", b"b", b""]).len(), 3);
+    assert!(rt; equal(&sent(alloc, &[b"a\n", b"b"]).len(), &0));
+    assert!(rt; equal(&sent(alloc, &[b"a\n", b"b", b""]).len(), &3));
     Ok(())
 }
 
@@ -132,9 +135,9 @@ fn a_piece_may_be_larger_than_the_buffer(rt: HostRuntime) -> Result<(), Fail> {
     let alloc = rt.alloc();
     let whole = vec![in alloc; b'x'; 16384]?;
     let larger = vec![in alloc; b'y'; 16385]?;
-    assert_eq!(rt; sent(alloc, &[b"ab", whole.as_slice()]).len(), 2);
+    assert!(rt; equal(&sent(alloc, &[b"ab", whole.as_slice()]).len(), &2));
     let bytes = sent(alloc, &[b"ab", larger.as_slice(), b"c"]);
-    assert_eq!(rt; bytes.len(), 16387);
+    assert!(rt; equal(&bytes.len(), &16387));
     assert!(rt; bytes.starts_with(b"aby"));
     Ok(())
 }

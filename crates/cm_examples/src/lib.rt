@@ -6,6 +6,8 @@ mod bdz;
 #[cfg(test)]
 mod bits;
 #[cfg(test)]
+mod certificates;
+#[cfg(test)]
 mod chm;
 #[cfg(test)]
 mod command_lines;
@@ -16,11 +18,17 @@ mod dumps;
 #[cfg(test)]
 mod dumps_of_bdz;
 #[cfg(test)]
+mod equal;
+#[cfg(test)]
 mod files;
+#[cfg(test)]
+mod gathering;
 #[cfg(test)]
 mod graph;
 #[cfg(test)]
 mod keys;
+#[cfg(test)]
+mod listed;
 #[cfg(test)]
 mod lookup2;
 #[cfg(test)]

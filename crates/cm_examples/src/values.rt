@@ -1,3 +1,4 @@
+use crate::equal::equal;
 use cm_algorithm::Algorithm;
 use cm_numbers::{
     BadValue, algorithm, bits, buffer, count, first, hash, millionths, number, optional, ratio,
@@ -48,27 +49,31 @@ fn decimals(rt: HostRuntime) -> Result<(), Fail> {
 
 #[test]
 fn values_of_options(rt: HostRuntime) -> Result<(), Fail> {
-    assert_eq!(rt; number(Some("7"), b'x', 1, 9, 5), Ok(7));
-    assert_eq!(rt;
-        number(Some("0"), b'x', 1, 9, 5),
-        Err(BadValue { letter: b'x' })
+    assert!(rt; equal(&number(Some("7"), b'x', 1, 9, 5), &Ok(7)));
+    assert!(rt;
+        equal(
+            &number(Some("0"), b'x', 1, 9, 5),
+            &Err(BadValue { letter: b'x' })
+        )
     );
-    assert_eq!(rt; optional(None, b'x', 1, 9), Ok(None));
-    assert_eq!(rt; algorithm(Some("bdz_ph")), Ok(Algorithm::BdzPh));
-    assert_eq!(rt; algorithm(Some("brz")), Err(BadValue { letter: b'a' }));
-    assert_eq!(rt; bits(None, true, Algorithm::Bdz), Ok(7));
-    assert_eq!(rt; bits(Some("11"), false, Algorithm::Bdz), Ok(0));
-    assert_eq!(rt;
-        bits(Some("11"), true, Algorithm::Bdz),
-        Err(BadValue { letter: b'b' })
+    assert!(rt; equal(&optional(None, b'x', 1, 9), &Ok(None)));
+    assert!(rt; equal(&algorithm(Some("bdz_ph")), &Ok(Algorithm::BdzPh)));
+    assert!(rt; equal(&algorithm(Some("brz")), &Err(BadValue { letter: b'a' })));
+    assert!(rt; equal(&bits(None, true, Algorithm::Bdz), &Ok(7)));
+    assert!(rt; equal(&bits(Some("11"), false, Algorithm::Bdz), &Ok(0)));
+    assert!(rt;
+        equal(
+            &bits(Some("11"), true, Algorithm::Bdz),
+            &Err(BadValue { letter: b'b' })
+        )
     );
-    assert_eq!(rt; ratio(None, Algorithm::Chm), Ok(2_090_000));
-    assert_eq!(rt; ratio(Some("1.5"), Algorithm::Bdz), Ok(1_500_000));
-    assert_eq!(rt; hash(Some("jenkins")), Ok(()));
-    assert_eq!(rt; hash(Some("md5")), Err(BadValue { letter: b'f' }));
-    assert_eq!(rt; first(Some("4294967295")), Ok(Some(4_294_967_295)));
-    assert_eq!(rt; buffer(Some("1024")), Ok(1_073_741_824));
-    assert_eq!(rt; count(Some("1001")), Err(BadValue { letter: b'r' }));
-    assert_eq!(rt; seed(None), Ok(1));
+    assert!(rt; equal(&ratio(None, Algorithm::Chm), &Ok(2_090_000)));
+    assert!(rt; equal(&ratio(Some("1.5"), Algorithm::Bdz), &Ok(1_500_000)));
+    assert!(rt; equal(&hash(Some("jenkins")), &Ok(())));
+    assert!(rt; equal(&hash(Some("md5")), &Err(BadValue { letter: b'f' })));
+    assert!(rt; equal(&first(Some("4294967295")), &Ok(Some(4_294_967_295))));
+    assert!(rt; equal(&buffer(Some("1024")), &Ok(1_073_741_824)));
+    assert!(rt; equal(&count(Some("1001")), &Err(BadValue { letter: b'r' })));
+    assert!(rt; equal(&seed(None), &Ok(1)));
     Ok(())
 }

@@ -17,16 +17,3 @@ mod top;
 pub use crate::printing::{print_help, print_version};
 pub use crate::report::report_no_memory;
 pub use crate::top::run;
-
-#[cfg(test)]
-mod build_tests;
-#[cfg(test)]
-mod command_tests;
-#[cfg(test)]
-mod pass_tests;
-#[cfg(test)]
-mod query_tests;
-#[cfg(test)]
-mod report_tests;
-#[cfg(test)]
-mod tests;

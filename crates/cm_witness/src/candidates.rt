@@ -138,3 +138,17 @@ impl Candidates {
         count
     }
 }
+
+/// How many of the edges at these places `gather` takes for candidates: those that have the ends of another one, and about one in a
+/// hundred of the others.
+pub fn count_candidates<const K: usize>(
+    alloc: Global,
+    edges: &Edges<K>,
+    places: &[u32],
+) -> Result<usize, AllocError>
+    requires width { (2 ≤ K) × (K ≤ 3) }
+    requires inside { All (λ e. e < length edges.now.edges) places.now }
+    ensures few { IfOk result (λ count. count ≤ length places.now) }
+{
+    Ok(Candidates::among(alloc, edges, places)?.count(edges, places))
+}

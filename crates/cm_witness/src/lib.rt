@@ -4,15 +4,12 @@
 mod candidates;
 mod certificate;
 mod firsts;
-#[cfg(test)]
-mod gather_tests;
 mod gathering;
 mod laws;
 mod report;
 mod table;
-#[cfg(test)]
-mod tests;
 
+pub use candidates::count_candidates;
 pub use certificate::{Certificate, CoreEdge, GatherFault, InBucket, Pair};
 pub use cm_algorithm::Algorithm;
 pub use firsts::equal_pairs;

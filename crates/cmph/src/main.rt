@@ -38,6 +38,3 @@ fn main(rt: HostRuntime) -> ExitCode {
         Err(_) => ExitCode::from(report_no_memory(&mut err)),
     }
 }
-
-#[cfg(test)]
-mod tests;

@@ -1,7 +1,8 @@
+//! Texts of certificates.
 ghost use Rattle.std.specs.Prelude.{◌≡◌, ◌≢◌, ◌↔◌, [], All, IsSome};
 
-use crate::{Algorithm, Certificate, CoreEdge, InBucket, Pair};
 use cm_outer::{Failed, MemSink};
+use cm_witness::{Algorithm, Certificate, CoreEdge, InBucket, Pair};
 use std::alloc::{AllocError, Global};
 use std::process::Abort;
 use std::test::Fail;

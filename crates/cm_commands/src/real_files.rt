@@ -1,3 +1,4 @@
+use crate::equal::{equal, equal_bytes};
 use cm_real::{FileDisk, StdSink};
 use cm_tool::run;
 use std::alloc::{AllocGlobal, Global};
@@ -58,23 +59,25 @@ fn real_files(rt: HostRuntime) -> Result<(), Fail> {
     let damaged = status_on(&rt, &[keys.as_str()])?;
     fs::remove_file(&rt, keys.as_str())?;
     fs::remove_file(&rt, function.as_str())?;
-    assert_eq!(rt; built, 0);
-    assert_eq!(rt;
-        dump.as_slice(),
-        [
-            0x43, 0x4d, 0x50, 0x48, 0x44, 0x4d, 0x50, 0x31, 1, 0, 0, 0, 2, 0, 0, 0, 0x10, 0xe4,
-            0x1f, 0, 1, 0, 0, 0, 2,
-        ]
-        .as_slice()
+    assert!(rt; built == 0);
+    assert!(rt;
+        equal_bytes(
+            dump.as_slice(),
+            [
+                0x43, 0x4d, 0x50, 0x48, 0x44, 0x4d, 0x50, 0x31, 1, 0, 0, 0, 2, 0, 0, 0, 0x10, 0xe4,
+                0x1f, 0, 1, 0, 0, 0, 2,
+            ]
+            .as_slice()
+        )
     );
     // The text has been sent on by the end of the query.
-    assert_eq!(rt; asked.status, 0);
-    assert_eq!(rt; asked.out.as_slice(), b"a -> 0\nb -> 1\n".as_slice());
-    assert_eq!(rt; asked.err.len(), 0);
-    assert_eq!(rt; damaged, 3);
+    assert!(rt; asked.status == 0);
+    assert!(rt; equal_bytes(asked.out.as_slice(), b"a -> 0\nb -> 1\n"));
+    assert!(rt; asked.err.len() == 0);
+    assert!(rt; damaged == 3);
     // The file is gone now, and a folder can't be read.
-    assert_eq!(rt; status_on(&rt, &["-g", keys.as_str()])?, 4);
-    assert_eq!(rt; status_on(&rt, &["-g", "/tmp"])?, 4);
-    assert_eq!(rt; status_on(&rt, &["/tmp"])?, 4);
+    assert!(rt; equal(&status_on(&rt, &["-g", keys.as_str()])?, &4));
+    assert!(rt; equal(&status_on(&rt, &["-g", "/tmp"])?, &4));
+    assert!(rt; equal(&status_on(&rt, &["/tmp"])?, &4));
     Ok(())
 }

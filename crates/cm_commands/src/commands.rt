@@ -1,5 +1,5 @@
 //! Whole commands over a disk in memory.
-use crate::tests::{Case, EMPTY_AND_A, ONE_EMPTY, changed, check_all};
+use crate::cases::{Case, EMPTY_AND_A, ONE_EMPTY, changed, check_all};
 use std::test::Fail;
 
 /// The BDZ function of the empty key: nine vertices, of which the second is its own, and one rank.

@@ -1,7 +1,8 @@
 ghost use Rattle.std.specs.Prelude.{◌≡◌};
 
-use crate::run;
+use crate::equal::{equal, expect_equal};
 use cm_outer::{MemDisk, MemSink};
+use cm_tool::run;
 use std::alloc::{AllocError, Global};
 use std::process::Abort;
 use std::test::Fail;
@@ -120,11 +121,11 @@ impl<'a> Case<'a> {
         let mut out = MemSink::new(alloc, self.out_room, Vec::new(alloc))?;
         let mut err = MemSink::new(alloc, self.err_room, Vec::new(alloc))?;
         let status = run_words(alloc, self.words, &mut disk, &mut out, &mut err)?;
-        assert_eq!(rt; err.bytes(), self.err.as_bytes());
-        assert_eq!(rt; status, self.status);
-        assert_eq!(rt; out.bytes(), self.out);
-        assert_eq!(rt; disk.get("keys"), self.keys);
-        assert_eq!(rt; disk.get(self.path), self.file);
+        expect_equal(rt, &err.bytes(), &self.err.as_bytes());
+        expect_equal(rt, &status, &self.status);
+        expect_equal(rt, &out.bytes(), &self.out);
+        expect_equal(rt, &disk.get("keys"), &self.keys);
+        expect_equal(rt, &disk.get(self.path), &self.file);
         Ok(())
     }
 }
@@ -226,7 +227,7 @@ fn every_byte_is_a_key(rt: HostRuntime) -> Result<(), Fail> {
         }
     }
     // 255 keys have 533 vertices, and cells below 255 take a byte each.
-    assert_eq!(rt; built_len(alloc, &text)?, Some(24 + 533));
+    assert!(rt; equal(&built_len(alloc, &text)?, &Some(24 + 533)));
     Ok(())
 }
 

@@ -1,4 +1,4 @@
-use crate::tests::{Case, EMPTY_AND_A, ONE_EMPTY, changed, check_all};
+use crate::cases::{Case, EMPTY_AND_A, ONE_EMPTY, changed, check_all};
 use std::test::Fail;
 
 const QUERY: &[&str] = &["cmph", "keys"];

@@ -1,9 +1,9 @@
-ghost use Rattle.std.specs.Prelude.{◌<◌, ◌≤◌, None, length};
+//! Equal keys, and what is gathered of a 2-core.
 
-use crate::candidates::Candidates;
-use crate::{Algorithm, CoreEdge, GatherFault, Pair, equal_pairs, gather};
+use crate::listed::Listed;
 use cm_graph::Edges;
-use cm_outer::{KeyBuf, KeyFault, KeyPass, MAX_KEY_LEN, MAX_KEYS};
+use cm_outer::KeyFault;
+use cm_witness::{Algorithm, CoreEdge, GatherFault, Pair, count_candidates, equal_pairs, gather};
 use std::alloc::{AllocError, Global};
 use std::process::Abort;
 use std::test::Fail;
@@ -55,101 +55,6 @@ fn equal_keys(rt: HostRuntime) -> Result<(), Fail> {
     Ok(())
 }
 
-/// Among different edges few are candidates, and among those that are there twice each is.
-#[test]
-fn candidates(rt: HostRuntime) -> Result<(), Fail> {
-    let mut table = Candidates::new(rt.alloc(), 1000)?;
-    for i in 0..1000 {
-        table.mark([i, i + 1]);
-    }
-    let mut few = 0u32;
-    for i in 0..1000 {
-        few = few.saturating_add(table.twice([i, i + 1]) as u32);
-    }
-    assert!(rt; few < 30);
-    for i in 0..1000 {
-        table.mark([i, i + 1]);
-        assert!(rt; table.twice([i, i + 1]));
-    }
-    Ok(())
-}
-
-/// The keys of a list, one a line, with a fault after them or none. After a key that `next` gave, some more are at hand.
-#[derive(Drop)]
-struct Listed<'a> {
-    keys: &'a [&'a [u8]],
-    fault: Option<KeyFault>,
-    at_hand: usize,
-    ready: usize,
-    given: u32,
-    usable: bool,
-    faults: u64,
-    ghost few: { given ≤ 16777216 },
-}
-
-impl KeyPass for Listed<'_> {
-    ghost told = { λ _. None };
-
-    ghost place = { λ p. p.given };
-
-    ghost last = { λ p. p.given };
-
-    ghost usable = { λ p. p.usable };
-
-    ghost faults = { λ p. p.faults };
-
-    ghost stands = { λ p _. (0 < p.ready) × (p.given < length p.keys.now) × (p.given < 16777216) };
-
-    fn usable(&self) -> bool {
-        self.usable
-    }
-
-    fn next(&mut self, key: &mut KeyBuf) -> Result<bool, KeyFault> {
-        let place = self.given as usize;
-        if place < self.keys.len() && self.given < MAX_KEYS {
-            key.clear();
-            let _ = key.try_extend_from_slice(self.keys[place]);
-            self.given += 1;
-            self.ready = self.at_hand;
-            return Ok(true);
-        }
-        match self.fault {
-            None => Ok(false),
-            Some(fault) => {
-                self.usable = false;
-                if fault == KeyFault::Read {
-                    self.faults = self.faults.saturating_add(1);
-                }
-                Err(fault)
-            }
-        }
-    }
-
-    fn peek(&self) -> Option<(u32, &[u8])> {
-        let place = self.given as usize;
-        if self.ready == 0 || place >= self.keys.len() || self.given == MAX_KEYS {
-            return None;
-        }
-        let key = self.keys[place];
-        Some((self.given + 1, &key[..key.len().min(MAX_KEY_LEN)]))
-    }
-
-    fn pass(&mut self, _len: usize) {
-        self.given += 1;
-        self.ready = self.ready.saturating_sub(1);
-    }
-
-    fn rewind(&mut self) -> Result<(), KeyFault> {
-        self.given = 0;
-        self.usable = true;
-        Ok(())
-    }
-
-    fn line(&self) -> u32 {
-        self.given
-    }
-}
-
 /// Adds an edge, unless it isn't one over the vertices.
 fn add(edges: &mut Edges<2>, first: u32, second: u32) -> Result<bool, AllocError> {
     let n = edges.vertices();
@@ -159,6 +64,35 @@ fn add(edges: &mut Edges<2>, first: u32, second: u32) -> Result<bool, AllocError
     } else {
         Ok(false)
     }
+}
+
+/// How many of the edges at these places are candidates, if there are such edges.
+fn candidates_among(alloc: Global, edges: &Edges<2>, places: &[u32]) -> Result<usize, AllocError> {
+    let len = edges.len();
+    if places.iter().all(|place| *place < len) {
+        count_candidates(alloc, edges, places)
+    } else {
+        Ok(0)
+    }
+}
+
+/// Among different edges few are candidates, and among those that are there twice each is.
+#[test]
+fn candidates(rt: HostRuntime) -> Result<(), Fail> {
+    let alloc = rt.alloc();
+    let mut edges = Edges::<2>::new(alloc, 1001);
+    let mut places = Vec::new(alloc);
+    for i in 0..1000u32 {
+        assert!(rt; add(&mut edges, i, i + 1)?);
+        places.push(i)?;
+    }
+    assert!(rt; candidates_among(alloc, &edges, &places)? < 30);
+    for i in 0..1000u32 {
+        assert!(rt; add(&mut edges, i, i + 1)?);
+        places.push(1000 + i)?;
+    }
+    assert!(rt; candidates_among(alloc, &edges, &places)? == 2000);
+    Ok(())
 }
 
 /// Keys that end with a fault or none, the pairs of equal ones among the gathered, and why there is no certificate.
@@ -184,15 +118,7 @@ fn edge(line: u32, first: u32, second: u32) -> CoreEdge {
 fn check(rt: &impl Abort, alloc: Global, edges: &Edges<2>, case: &Case) -> Result<(), AllocError> {
     let shown = [edge(1, 0, 1), edge(3, 1, 2), edge(4, 2, 0), edge(5, 0, 1)];
     for at_hand in [0, 1, 1000] {
-        let mut pass = Listed {
-            keys: case.keys,
-            fault: case.fault,
-            at_hand,
-            ready: 0,
-            given: 0,
-            usable: true,
-            faults: 0,
-        };
+        let mut pass = Listed::new(case.keys, case.fault, at_hand);
         if edges.len() != 5 {
             return Ok(());
         }

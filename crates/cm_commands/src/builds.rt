@@ -1,5 +1,6 @@
 ghost use Rattle.std.specs.Prelude.{◌≡◌, ◌<◌, ◌≤◌, None, length};
 
+use crate::equal::equal;
 use cm_algo::{BuildFault, Built, assign, build};
 use cm_bits::{Cells, Fields};
 use cm_chm::ChmScheme;
@@ -208,15 +209,15 @@ fn keys_that_change(rt: HostRuntime) -> Result<(), Fail> {
 fn built_again_after_a_refusal(rt: HostRuntime) -> Result<(), Fail> {
     let mut keys = keys_of(1, &[PAIR, PAIR, PAIR, PAIR]);
     match built(rt.alloc(), &mut keys) {
-        Err(BuildFault::Key(fault)) => assert_eq!(rt; fault, KeyFault::Read),
+        Err(BuildFault::Key(fault)) => assert!(rt; equal(&fault, &KeyFault::Read)),
         _ => assert!(rt; false),
     }
     let Ok(function) = built(rt.alloc(), &mut keys) else {
         return Err(Fail::new("no function"));
     };
-    assert_eq!(rt; (function.m, function.c, function.seed), (2, 1_500_000, 1));
+    assert!(rt; equal(&(function.m, function.c, function.seed), &(2, 1_500_000, 1)));
     let cells = listed(rt.alloc(), &function.cells)?;
-    assert_eq!(rt; cells.as_slice(), [1, 0, 0].as_slice());
+    assert!(rt; equal(&cells.as_slice(), &[1, 0, 0].as_slice()));
     Ok(())
 }
 
@@ -230,6 +231,6 @@ fn cells_of_a_path(rt: HostRuntime) -> Result<(), Fail> {
         return Err(Fail::new("no cells"));
     };
     let cells = listed(rt.alloc(), &cells)?;
-    assert_eq!(rt; cells.as_slice(), [2, 1, 0, 2].as_slice());
+    assert!(rt; equal(&cells.as_slice(), &[2, 1, 0, 2].as_slice()));
     Ok(())
 }

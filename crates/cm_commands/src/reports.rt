@@ -1,5 +1,5 @@
 //! Reports of refused builds over a disk in memory.
-use crate::tests::{Case, LETTERS, check_all};
+use crate::cases::{Case, LETTERS, check_all};
 use std::test::Fail;
 
 const NO_SEED: &str = "cmph: no seed of the list gives an empty core\n";
