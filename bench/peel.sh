@@ -62,7 +62,7 @@ awk '
     }' "$out/peel.times"
 
 echo
-echo "Bytes for an edge at the peak, past those of a run on one edge; the rule is 8 n + (4 K + 5.125) m."
+echo "Bytes for an edge at the peak, past those of a run on one edge; the rule is 4 n + (4 K + 5.125) m."
 echo
 echo "| ends | edges | proved | the rule | plain Rust |"
 echo "|---|---|---|---|---|"
@@ -77,7 +77,7 @@ awk '
     END {
         for (i = 1; i <= count; i++) {
             key = order[i]
-            rule = 8 * (ends[key] == 3 ? 1.23 : 2.09) + 4 * ends[key] + 5.125
+            rule = 4 * (ends[key] == 3 ? 1.23 : 2.09) + 4 * ends[key] + 5.125
             printf "| %s | %.2f | %.2f | %.2f |\n", key, each("proved", key), rule, each("plain", key)
         }
     }' "$out/peel.times"

@@ -35,7 +35,7 @@ pub fn gather<const K: usize>(
 ) {
     for (i, e) in chunk.iter().enumerate() {
         ends[i] = edges.ends[*e as usize];
-        positions[i] = peeled.pivots[*e as usize] as usize;
+        positions[i] = peeled.pivot(*e);
     }
 }
 

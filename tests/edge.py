@@ -254,7 +254,7 @@ def _(room):
 @case("status 6: little memory")
 def _(room):
     room.put("keys", lines(1000000))
-    ends(room.run("-g", "keys", before=limited(resource.RLIMIT_AS, 24 << 20)), 6, b"", said("out of memory"))
+    ends(room.run("-g", "keys", before=limited(resource.RLIMIT_AS, 16 << 20)), 6, b"", said("out of memory"))
     same("the function file", room.has("keys.mph"), False)
 
 
