@@ -58,13 +58,13 @@ fn two_ranks(rt: HostRuntime) -> Result<(), Fail> {
 #[test]
 fn failing_reads_of_ranks(rt: HostRuntime) -> Result<(), Fail> {
     let alloc = rt.alloc();
-    // Eight reads of the header here, one of the image, one of the ranks, and one of the end.
+    // Eight reads of the header here, one of the image, three of the ranks, and one of the end.
     let long = long_dump(alloc)?;
-    for read in [8, 9, 10u64] {
+    for read in [8, 9, 10, 11, 12u64] {
         let fault = fault_of(alloc, &long, &[read])?;
         assert_eq!(rt; fault, Some(LoadFault::Read), "read {read}");
     }
-    assert_eq!(rt; fault_of(alloc, &long, &[11])?, None);
+    assert_eq!(rt; fault_of(alloc, &long, &[13])?, None);
     Ok(())
 }
 
