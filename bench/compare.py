@@ -11,9 +11,9 @@ For equal work each tool takes a seed whose first graph works. This program trie
 the first block of generated keys that seed 1 serves, or a file without its last few lines. For the C tool the seed is chosen.
 
 It prints one table: seconds of processor time, peaks of memory and sizes for each key, and in brackets the ratio to the
-C tool. It leaves the table in bench/results/NAME.md, its numbers in bench/results/NAME.csv, and bars of the ratios to the
-C tool in docs/bench.svg. It needs bin/cmph (`make`). What is not installed is left out with a line that says so: the C
-tool (Debian's libcmph-tools), the word list (wamerican), and rustc.
+C tool. It leaves the table in bench/results/NAME.md and its numbers in bench/results/NAME.csv; bench/tables.py puts them into
+the documents. It needs bin/cmph (`make`). What is not installed is left out with a line that says so: the C tool (Debian's
+libcmph-tools), the word list (wamerican), and rustc.
 """
 
 import argparse
@@ -23,14 +23,14 @@ import filecmp
 import functools
 import os
 import platform
+import shlex
 import shutil
 import subprocess
 import sys
 import tempfile
+from datetime import date
 from pathlib import Path
 from typing import NamedTuple
-
-import bars
 
 TOP = Path(__file__).resolve().parent.parent
 OURS = TOP / "bin" / "cmph"
@@ -41,6 +41,7 @@ PATHS_FROM, MOST_PATHS = "/usr", 1_000_000
 TOOLS = ["ours", "plain", "c"]
 MEASURES = ["build, s", "query, s", "build, bytes a key", "query, bytes a key", "function, bits a key"]
 COLUMNS = ["set", "keys", "algorithm", "measure", *TOOLS, "to_plain", "to_c"]
+DIGITS = {"build, s": 3, "query, s": 3, "function, bits a key": 2}  # how many the table shows after the point
 
 
 def note(text: str) -> None:
@@ -284,8 +285,7 @@ def ratio(each: dict, tool: str) -> str:
 
 def shown(each: dict) -> str:
     """What this program took, and in brackets its ratio to the C tool."""
-    digits = {"build, s": 3, "query, s": 3, "function, bits a key": 2}.get(each["measure"], 0)
-    return f"{each['ours']:.{digits}f} ({ratio(each, 'c')})"
+    return f"{each['ours']:.{DIGITS.get(each['measure'], 0)}f} ({ratio(each, 'c')})"
 
 
 def table(rows: list[dict]) -> str:
@@ -316,8 +316,6 @@ def leave(name: str, rows: list[dict], facts: str) -> None:
         for each in rows:
             writer.writerow({key: f"{value:.5g}" if isinstance(value, float) else value for key, value in each.items()})
     (results / f"{name}.md").write_text(f"{facts}\n\n{table(rows)}\n")
-    if any("to_c" in each for each in rows):
-        bars.draw(results / f"{name}.csv", TOP / "docs" / "bench.svg")
 
 
 def main() -> None:
@@ -338,10 +336,11 @@ def main() -> None:
         for name in asked.sets:
             for algorithm in taken:
                 rows += measure(name, algorithm, asked.rounds, tool, scratch)
+    day, command = date.today(), ["bench/compare.py", "--name", asked.name, "--rounds", str(asked.rounds), *asked.sets]
     facts = (
-        f"{machine()}; the least processor time and the greatest memory of {asked.rounds} interleaved runs. "
-        "In brackets: the ratio to the C tool. "
-        f"Load average {load:.1f} at the start, {os.getloadavg()[0]:.1f} at the end."
+        f"Measured on {day.day} {day:%B %Y} by `{shlex.join(command)}` on {machine()}: the least processor time and the "
+        f"greatest memory of {asked.rounds} interleaved runs. Load average {load:.1f} at the start, {os.getloadavg()[0]:.1f} at the end."
+        "\n\nIn brackets: the ratio to the C tool."
     )
     print(f"{facts}\n\n{table(rows)}")
     leave(asked.name, rows, facts)

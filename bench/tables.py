@@ -1,0 +1,147 @@
+#!/usr/bin/env python3
+"""Writes the measured tables of README.md and docs/ from the files in bench/results.
+
+    bench/tables.py                            writes every block, and the bars in docs/bench.svg
+    bench/tables.py --check                    writes nothing, and fails if a block or the bars are not what it would write
+    bench/tables.py --record NAME COMMAND ..   runs COMMAND, and first leaves what it prints in bench/results/NAME.md, with
+                                               the machine, the date and the command
+
+A block stands in a page between `<!-- begin: WHAT -->` and `<!-- end -->`. WHAT is one of
+
+    bench NAME          all of bench/results/NAME.md
+    choice NAME KEYS    which algorithm to take, with the figures of NAME.csv for that many generated keys
+
+The bars are drawn from bench/results/latest.csv.
+"""
+
+import csv
+import os
+import re
+import shlex
+import subprocess
+import sys
+import tempfile
+from datetime import date
+from pathlib import Path
+
+import bars
+import compare
+
+TOP = Path(__file__).resolve().parent.parent
+RESULTS = TOP / "bench" / "results"
+BARS = TOP / "docs" / "bench.svg"
+BLOCK = re.compile(r"^<!-- begin: ([^\n]*) -->\n(.*?)^<!-- end -->$", re.MULTILINE | re.DOTALL)
+MARKER = re.compile(r"^<!-- (begin: .*|end) -->$", re.MULTILINE)
+NEEDS = {
+    "chm": ("the numbers of the lines, in the order of the keys", "0 to m - 1, in order"),
+    "bdz": ("a small function, and no number left out", "0 to m - 1, in no order that means anything"),
+    "bdz_ph": ("the smallest function; numbers may be left out", "distinct, below about 1.23 m"),
+}
+
+
+class Refused(Exception):
+    """Why a page can't be written."""
+
+
+def written_on(day: date) -> str:
+    return f"{day.day} {day:%B %Y}"
+
+
+def figures(measure: str, value: float) -> str:
+    """A value with as many digits as the table of bench/compare.py shows of it."""
+    return f"{value:.{compare.DIGITS.get(measure, 0)}f}"
+
+
+def choice(name: str, keys: str) -> str:
+    """Which algorithm to take for which need."""
+    with open(RESULTS / f"{name}.csv", newline="") as file:
+        rows = [row for row in csv.DictReader(file) if row["set"] == keys]
+    if not rows:
+        raise Refused(f"bench/results/{name}.csv has nothing of {keys} generated keys")
+    ours = {(row["algorithm"], row["measure"]): figures(row["measure"], float(row["ours"])) for row in rows}
+    columns = ["function, bits a key", "build, s", "build, bytes a key", "query, s", "query, bytes a key"]
+    lines = ["| You want | `-a` | Numbers of m keys | " + " | ".join(columns) + " |", "|---" * (len(columns) + 3) + "|"]
+    for algorithm, (need, numbers) in NEEDS.items():
+        cells = [need, f"`{algorithm}`", numbers, *(ours[algorithm, column] for column in columns)]
+        lines.append("| " + " | ".join(cells) + " |")
+    facts = (RESULTS / f"{name}.md").read_text().split("\n\n")[0]
+    return f"{int(keys):,} generated keys of 14 bytes. {facts}\n\n" + "\n".join(lines) + "\n\n" + summary(name) + "\n"
+
+
+def summary(name: str) -> str:
+    """The lowest and the greatest ratios of times to the C tool, over all sets of keys."""
+    with open(RESULTS / f"{name}.csv", newline="") as file:
+        rows = [row for row in csv.DictReader(file) if row["to_c"]]
+    said = []
+    for measure, what in (("build, s", "builds took"), ("query, s", "queries")):
+        ratios = [float(row["to_c"]) for row in rows if row["measure"] == measure]
+        said.append(f"{what} {min(ratios):.2f} to {max(ratios):.2f}")
+    return f"Over all sets of keys that were measured, {' and '.join(said)} of the C tool's processor time."
+
+
+def content(what: str) -> str:
+    """What stands in a block."""
+    match what.split():
+        case ["bench", name]:
+            return (RESULTS / f"{name}.md").read_text()
+        case ["choice", name, keys]:
+            return choice(name, keys)
+    raise Refused(f"there is no block '{what}'")
+
+
+def page(text: str) -> str:
+    """The page with its blocks as they should be."""
+    markers = [found.startswith("begin") for found in MARKER.findall(text)]
+    if markers != [True, False] * (len(markers) // 2):
+        raise Refused("a block does not begin and end")
+    return BLOCK.sub(lambda block: f"<!-- begin: {block[1]} -->\n{content(block[1])}<!-- end -->", text)
+
+
+def drawn() -> str:
+    with tempfile.TemporaryDirectory() as folder:
+        drawing = Path(folder) / "bench.svg"
+        bars.draw(RESULTS / "latest.csv", drawing)
+        return drawing.read_text()
+
+
+def wanted() -> dict[Path, str]:
+    """Each page, and the bars, as they should be."""
+    pages = {}
+    for path in [TOP / "README.md", *sorted((TOP / "docs").glob("*.md"))]:
+        try:
+            pages[path] = page(path.read_text())
+        except (Refused, OSError) as fault:
+            sys.exit(f"{path.relative_to(TOP)}: {fault}")
+    return {**pages, BARS: drawn()}
+
+
+def record(name: str, command: list[str]) -> None:
+    """Runs a command that measures, and leaves what it prints."""
+    load = os.getloadavg()[0]
+    printed = subprocess.run(command, stdout=subprocess.PIPE, text=True, check=True).stdout
+    facts = (
+        f"Measured on {written_on(date.today())} by `{shlex.join(command)}` on {compare.machine()}. "
+        f"Load average {load:.1f} at the start, {os.getloadavg()[0]:.1f} at the end."
+    )
+    (RESULTS / f"{name}.md").write_text(f"{facts}\n\n{printed.strip()}\n")
+
+
+def main() -> int:
+    asked = sys.argv[1:]
+    if asked[:1] == ["--record"] and len(asked) >= 3:
+        record(asked[1], asked[2:])
+    elif asked not in ([], ["--check"]):
+        print(__doc__)
+        return 2
+    old = [path for path, text in wanted().items() if path.read_text() != text]
+    for path in old:
+        if asked == ["--check"]:
+            print(f"{path.relative_to(TOP)} differs from bench/results: run bench/tables.py", file=sys.stderr)
+        else:
+            path.write_text(wanted()[path])
+            print(f"{path.relative_to(TOP)}: written")
+    return 1 if old and asked == ["--check"] else 0
+
+
+if __name__ == "__main__":
+    sys.exit(main())
