@@ -3,12 +3,16 @@
 # make check      the gate: proves everything from nothing, and runs all tests
 # make install    puts the program into $(PREFIX)/bin, and its page into $(PREFIX)/share/man/man1
 # make uninstall  takes both away
-# make bench      measures it beside the C tool and plain Rust: make bench SETS="100000 words" for fewer sets of keys,
-#                 NAME=here for results of another name than `latest`
+# make bench      measures it beside the C tool and plain Rust, leaves the results in bench/results, and writes the measured tables of
+#                 README.md and docs/: make bench SETS="100000 words" for fewer sets of keys, ROUNDS=3 for fewer runs, NAME=here for
+#                 results of another name than `latest`
+# make bench-bits, make bench-peel, make bench-bbhash
+#                 the same for packed tables, for peeling, and beside bbhash
 # make drawings   draws docs/chm.svg from a real run
 PREFIX ?= /usr/local
 SETS ?=
 NAME ?= latest
+ROUNDS ?= 7
 SOURCES := crates.txt $(wildcard crates/*/src/*.rt crates/*/specs/*.antt) $(shell find crates -path '*/out' -prune -o -name '*.antt' -print)
 
 all: bin/cmph
@@ -39,7 +43,17 @@ uninstall:
 	rm -f $(DESTDIR)$(PREFIX)/bin/cmph $(DESTDIR)$(PREFIX)/share/man/man1/cmph.1
 
 bench: bin/cmph
-	python3 bench/compare.py --name $(NAME) $(SETS)
+	python3 bench/compare.py --name $(NAME) --rounds $(ROUNDS) $(SETS)
+	python3 bench/tables.py
+
+bench-bits:
+	python3 bench/tables.py --record bits bench/bits.sh
+
+bench-peel:
+	python3 bench/tables.py --record peel bench/peel.sh
+
+bench-bbhash: bin/cmph
+	python3 bench/tables.py --record bbhash python3 bench/bbhash.py
 
 drawings: bin/cmph
 	python3 docs/draw.py
@@ -47,4 +61,4 @@ drawings: bin/cmph
 clean:
 	rm -rf bin crates/*/out
 
-.PHONY: all demo check install uninstall bench drawings clean
+.PHONY: all demo check install uninstall bench bench-bits bench-peel bench-bbhash drawings clean

@@ -336,7 +336,7 @@ def main() -> None:
         for name in asked.sets:
             for algorithm in taken:
                 rows += measure(name, algorithm, asked.rounds, tool, scratch)
-    day, command = date.today(), ["bench/compare.py", "--name", asked.name, "--rounds", str(asked.rounds), *asked.sets]
+    day, command = date.today(), ["python3", "bench/compare.py", "--name", asked.name, "--rounds", str(asked.rounds), *asked.sets]
     facts = (
         f"Measured on {day.day} {day:%B %Y} by `{shlex.join(command)}` on {machine()}: the least processor time and the "
         f"greatest memory of {asked.rounds} interleaved runs. Load average {load:.1f} at the start, {os.getloadavg()[0]:.1f} at the end."
