@@ -3,7 +3,7 @@
 
     bench/bbhash.py [--rounds N] [KEYS ..]
 
-For each number of KEYS (1000000) it generates so many keys of 14 bytes that seed 1 serves, and runs each N times (9), in turns. The
+For each number of KEYS (1000000) it generates that many keys of 14 bytes that seed 1 serves, and runs each N times (9), interleaved. The
 least processor time counts. This program is measured as a whole: it reads the file, builds, and saves. Of bbhash only the
 building counts, with the hashing of its keys, which stand in memory before.
 

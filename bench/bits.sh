@@ -1,7 +1,7 @@
 #!/usr/bin/env bash
 # Measures the packed tables against the same in plain Rust, in one run, and prints a table of both.
 #   bench/bits.sh [TURNS [ROUNDS]]
-# TURNS random writes and reads for each table (20 million), each program ROUNDS times (9), in turns; the least time counts.
+# TURNS random writes and reads for each table (20 million), each program ROUNDS times (9), interleaved; the least time counts.
 set -eu
 cd "$(dirname "$0")/.."
 turns=${1:-20000000}

@@ -128,7 +128,7 @@ def c_build(tool: str, algorithm: str, seed: int, function: Path, keys: Path) ->
 
 
 def c_seed(tool: str, algorithm: str, function: Path, keys: Path) -> int:
-    """A seed whose first graph serves the C tool. It tells of each graph that doesn't."""
+    """A seed whose first graph serves the C tool, which notes each graph that doesn't."""
     for seed in range(1, 1000):
         words = [tool, "-v", *c_build(tool, algorithm, seed, function, keys)[1:]]
         with subprocess.Popen(list(map(str, words)), stdout=subprocess.DEVNULL, stderr=subprocess.PIPE) as build:
@@ -140,7 +140,7 @@ def c_seed(tool: str, algorithm: str, function: Path, keys: Path) -> int:
 
 @functools.cache
 def plain_rust(algorithm: str) -> Path | None:
-    """The same algorithm in plain Rust, where there is one: bench/NAME.rs, which writes the same bytes."""
+    """The same algorithm in plain Rust, if there is one: bench/NAME.rs, which writes the same bytes."""
     source = TOP / "bench" / f"{algorithm}.rs"
     if not source.exists():
         return None
@@ -157,7 +157,7 @@ def plain_rust(algorithm: str) -> Path | None:
 
 
 def make_keys(path: Path, count: int, first: int) -> None:
-    """So many keys of 14 bytes, all distinct: those of the numbers from `first` on."""
+    """`count` keys of 14 bytes, all distinct: those of the numbers from `first` on."""
     with open(path, "w") as file:
         for start in range(first, first + count, 100_000):
             numbers = range(start, min(start + 100_000, first + count))
@@ -176,7 +176,7 @@ def lines_of_paths() -> list[bytes]:
 
 
 def lines_of(name: str) -> list[bytes] | None:
-    """The lines of a set that isn't generated, each once, or nothing where it isn't there."""
+    """The lines of a set that isn't generated, each once, or nothing if it isn't there."""
     if name == "paths":
         return lines_of_paths()
     path = WORDS if name == "words" else Path(name)
@@ -211,7 +211,7 @@ def fitting_keys(name: str, algorithm: str, keys: Path) -> int | None:
 # The measuring
 
 
-def by_turns(commands: dict[str, list], rounds: int) -> dict[str, Used]:
+def interleaved(commands: dict[str, list], rounds: int) -> dict[str, Used]:
     """The least time and the greatest memory of each."""
     best = {}
     for _ in range(rounds):
@@ -223,7 +223,7 @@ def by_turns(commands: dict[str, list], rounds: int) -> dict[str, Used]:
 
 
 def same_bytes(plain: Path, plain_keys: Path, keys: Path) -> None:
-    """Stops where plain Rust writes another function file or other answers."""
+    """Stops if plain Rust writes another function file or other answers."""
     if not filecmp.cmp(f"{plain_keys}.mph", f"{keys}.mph", shallow=False):
         sys.exit(f"{plain.name}.rs: another function file than that of the program")
     answers = []
@@ -264,7 +264,7 @@ def measure(name: str, algorithm: str, rounds: int, tool: str | None, scratch: P
         builds["c"] = c_build(tool, algorithm, seed, c_function, keys)
         queries["c"] = [tool, "-v", "-m", c_function, keys]
         functions["c"] = c_function
-    built, queried = by_turns(builds, rounds), by_turns(queries, rounds)
+    built, queried = interleaved(builds, rounds), interleaved(queries, rounds)
     bits = {tool: 8 * path.stat().st_size / count for tool, path in functions.items()}
     values = [
         {tool: used.seconds for tool, used in built.items()},

@@ -4,7 +4,7 @@
     bench/gate.py RECORD [ARGUMENT ..]     runs `rt ci ARGUMENT ..`, and leaves what it measured in RECORD
     bench/gate.py --table RECORD ..        prints a table of such records, added up
 
-Twice a second it looks at the provers below `rt ci`, so it misses up to half a second of each. What an earlier run on this machine has passed is
+Twice a second it samples the provers below `rt ci`, so it misses up to half a second of each. What an earlier run on this machine has passed is
 not proved again; `--anew` proves all.
 """
 import json

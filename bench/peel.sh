@@ -2,7 +2,7 @@
 # Measures peeling as a build does it, over Xored and without levels, against the same in plain Rust, in one run, and prints a
 # table of times and one of memory.
 #   bench/peel.sh [ROUNDS [EDGES ..]]
-# Each program runs ROUNDS times (3) on each graph, in turns; the least time counts. The graphs have so many edges (1, 4 and 16
+# Each program runs ROUNDS times (3) on each graph, interleaved; the least time counts. The graphs have EDGES edges (1, 4 and 16
 # million), with three ends over 1.23 vertices for each edge, and with two ends over 2.09.
 set -eu
 cd "$(dirname "$0")/.."

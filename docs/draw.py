@@ -3,8 +3,8 @@
 
     docs/draw.py [PROGRAM]
 
-PROGRAM is bin/cmph where none is given. It builds a function over eight words and answers them. This script reads the
-function file that came of it, works out the hashes, the graph, the rounds and the cells anew, and stops where anything
+PROGRAM is bin/cmph if none is given. It builds a function over eight words and answers them. This script reads the
+function file that came of it, works out the hashes, the graph, the rounds and the cells again, and stops if anything
 differs from the file or from the answers. What it draws is what it worked out.
 """
 

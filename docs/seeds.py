@@ -1,12 +1,12 @@
 #!/usr/bin/env python3
-"""Counts how many seeds leave an empty 2-core, by CHM and by BDZ, over made keys such as are measured.
+"""Counts how many seeds leave an empty 2-core, by CHM and by BDZ, over generated keys such as are measured.
 
 It takes about a minute.
 """
 
 from draw import edge, vertices, words
 
-TRIED = {100: 200, 1_000: 200, 10_000: 60}  # seeds from 1 on, for so many keys
+TRIED = {100: 200, 1_000: 200, 10_000: 60}  # number of keys: how many seeds, from 1 on
 
 
 def third(m: int) -> int:

@@ -597,7 +597,7 @@ def main():
         shim = made_shim(top)
         for number, (name, body) in enumerate(CASES):
             if shim is None and needs_shim(body):
-                print(f"skipped, for want of a C compiler: {name}")
+                print(f"skipped, there is no C compiler: {name}")
                 continue
             if run_case(name, body, top, number, program, shim):
                 passed += 1
