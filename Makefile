@@ -1,8 +1,8 @@
 # make            proves and builds bin/cmph
 # make demo       builds a function over a word list, and queries it
 # make check      the gate: proves everything from nothing, and runs all tests
-# make install    puts the program into $(PREFIX)/bin, and its page into $(PREFIX)/share/man/man1
-# make uninstall  takes both away
+# make install    installs the program, its man page, and completions for bash and zsh below $(PREFIX)
+# make uninstall  removes them
 # make bench      measures it beside the C tool and plain Rust, leaves the results in bench/results, and writes the measured tables of
 #                 README.md and docs/: make bench SETS="100000 words" for fewer sets of keys, ROUNDS=3 for fewer runs, NAME=here for
 #                 results of another name than `latest`
@@ -38,9 +38,12 @@ check:
 install: bin/cmph
 	install -D -m 755 bin/cmph $(DESTDIR)$(PREFIX)/bin/cmph
 	install -D -m 644 man/cmph.1 $(DESTDIR)$(PREFIX)/share/man/man1/cmph.1
+	install -D -m 644 completions/cmph.bash $(DESTDIR)$(PREFIX)/share/bash-completion/completions/cmph
+	install -D -m 644 completions/_cmph $(DESTDIR)$(PREFIX)/share/zsh/site-functions/_cmph
 
 uninstall:
-	rm -f $(DESTDIR)$(PREFIX)/bin/cmph $(DESTDIR)$(PREFIX)/share/man/man1/cmph.1
+	rm -f $(DESTDIR)$(PREFIX)/bin/cmph $(DESTDIR)$(PREFIX)/share/man/man1/cmph.1 \
+	    $(DESTDIR)$(PREFIX)/share/bash-completion/completions/cmph $(DESTDIR)$(PREFIX)/share/zsh/site-functions/_cmph
 
 bench: bin/cmph
 	python3 bench/compare.py --name $(NAME) --rounds $(ROUNDS) $(SETS)

@@ -1,0 +1,80 @@
+#!/usr/bin/env python3
+"""Runs the examples of the man page and of the README, and compares what they print with what stands there.
+
+    tests/examples.py [PROGRAM]        PROGRAM is crates/cmph/out/cmph if it is left out
+
+Each page's examples run one after another in one shell, in a folder of its own. Both outputs come together, as on a terminal.
+"""
+import re
+import subprocess
+import sys
+import tempfile
+from pathlib import Path
+
+TOP = Path(__file__).resolve().parent.parent
+PRELUDE = 'ended() { local status=$?; printf "\\0"; return $status; }\n'
+
+
+def of_man():
+    """The literal blocks of the section EXAMPLES, without the escapes of roff."""
+    text = (TOP / "man" / "cmph.1").read_text()
+    section = text[text.index(".Sh EXAMPLES"):text.index(".Sh DIAGNOSTICS")]
+    blocks = re.findall(r"^\.Bd -literal.*?\n(.*?)^\.Ed$", section, re.MULTILINE | re.DOTALL)
+    return "".join(blocks).replace("\\e", "\\").replace("\\&", "").replace("\\-", "-").splitlines()
+
+
+def of_readme():
+    """The indented lines of the section 'A session'."""
+    text = (TOP / "README.md").read_text()
+    section = text[text.index("## A session"):text.index("## Install")]
+    return [line[4:] for line in section.splitlines() if line.startswith("    ")]
+
+
+def commands_of(lines):
+    """Each command with what it prints. A command goes on while a quote is open."""
+    found = []
+    for line in lines:
+        if line.startswith("$ "):
+            found.append([line[2:], ""])
+        elif found[-1][0].count("'") % 2:
+            found[-1][0] += f"\n{line}"
+        else:
+            found[-1][1] += f"{line}\n"
+    return found
+
+
+def differences(lines, program, folder):
+    """Runs the commands, and names those that print something else."""
+    (folder / "bin").mkdir()
+    (folder / "bin" / "cmph").symlink_to(program)
+    (folder / "examples").symlink_to(TOP / "examples")
+    scratch = folder / "tmp"
+    scratch.mkdir()
+    commands = [(command.replace("/tmp/", f"{scratch}/"), printed.replace("/tmp/", f"{scratch}/"))
+                for command, printed in commands_of(lines)]
+    script = PRELUDE + "".join(f"{command}\nended\n" for command, _ in commands)
+    ran = subprocess.run(["bash", "-c", script], cwd=folder, env={"PATH": f"{folder}/bin:/usr/bin:/bin", "LC_ALL": "C"},
+                         stdin=subprocess.DEVNULL, stdout=subprocess.PIPE, stderr=subprocess.STDOUT, text=True, timeout=60)
+    printed = ran.stdout.split("\0")
+    if len(printed) != len(commands) + 1:
+        return len(commands), [f"the shell ended after {len(printed) - 1} of {len(commands)} commands: {ran.stdout[-200:]}\n"]
+    wrong = [f"$ {command}\nprints\n{was}and must print\n{wanted}"
+             for (command, wanted), was in zip(commands, printed) if was != wanted]
+    return len(commands), wrong
+
+
+def main():
+    program = Path(sys.argv[1] if len(sys.argv) > 1 else TOP / "crates" / "cmph" / "out" / "cmph").resolve()
+    count, wrong = 0, []
+    for lines in (of_man(), of_readme()):
+        with tempfile.TemporaryDirectory() as folder:
+            ran, differing = differences(lines, program, Path(folder))
+            count, wrong = count + ran, wrong + differing
+    for difference in wrong:
+        print(difference)
+    print(f"{count - len(wrong)} passed, {len(wrong)} failed")
+    return 1 if wrong or not count else 0
+
+
+if __name__ == "__main__":
+    sys.exit(main())
