@@ -1,4 +1,4 @@
-# make            proves and builds bin/cmph
+# make            proves and builds bin/cmph: a line for each crate, and all else in out/prove.log
 # make demo       builds a function over a word list, and queries it
 # make check      the gate: proves everything from nothing, and runs all tests
 # make install    installs the program, its man page, and completions for bash and zsh below $(PREFIX)
@@ -17,18 +17,16 @@ SOURCES := crates.txt $(wildcard crates/*/src/*.rt crates/*/specs/*.antt) $(shel
 
 all: bin/cmph
 
-# rt run proves every crate below the program before it links it; what it runs on here is thrown away.
+# A run that was stopped goes on from where it was.
 bin/cmph: $(SOURCES)
-	@echo "Proving and building cmph. The first time takes many minutes; each crate is named as it comes."
+	@python3 tools/prove.py cmph
 	@mkdir -p bin
-	@scratch=$$(mktemp -d) && cp examples/words $$scratch/ && cd crates/cmph && rt run -- -g $$scratch/words; status=$$?; rm -rf $$scratch; exit $$status
 	@cp crates/cmph/out/cmph $@
 
 demo: bin/cmph
 	@scratch=$$(mktemp -d) && cp examples/words $$scratch/ && cd $$scratch && cmph=$(CURDIR)/bin/cmph && \
 	echo "\$$ cmph -g words        ($$(wc -l < words) words, one a line)" && $$cmph -g words && \
-	echo "\$$ cmph words | head -n 5" && $$cmph words > answers && head -n 5 answers && \
-	echo "\$$ cmph words | tail -n 2" && tail -n 2 answers && \
+	echo "\$$ cmph words | head -n 3" && $$cmph words > answers && head -n 3 answers && \
 	echo "words has $$(wc -c < words) bytes, and words.mph $$(wc -c < words.mph)"; \
 	status=$$?; rm -rf $$scratch; exit $$status
 
@@ -62,6 +60,6 @@ drawings: bin/cmph
 	python3 docs/draw.py
 
 clean:
-	rm -rf bin crates/*/out
+	rm -rf bin out crates/*/out
 
 .PHONY: all demo check install uninstall bench bench-bits bench-peel bench-bbhash drawings clean

@@ -1,0 +1,154 @@
+#!/usr/bin/env python3
+"""Proves a crate and all that it stands on, side by side, and builds it if it is a program.
+
+    tools/prove.py [--jobs N] CRATE
+
+It prints a line for each crate that is done: its name, the seconds that it took, and how many are left. All else goes to
+out/prove.log. N crates are proved at a time, as many as there are processors and memory for if it is left out. What was
+proved before is kept by `rt`, so a run that was stopped is resumed by running it again.
+"""
+import argparse
+import contextlib
+import os
+import shutil
+import signal
+import subprocess
+import sys
+import threading
+import time
+from concurrent.futures import FIRST_COMPLETED, ThreadPoolExecutor, wait
+from pathlib import Path
+
+TOP = Path(__file__).resolve().parent.parent
+LOG = TOP / "out" / "prove.log"
+MEMORY = 3 << 30  # bytes for the proof of a crate
+SHOWN = 6  # lines that are shown of a crate that is not proved
+DULL = (": proved", "modules loaded=", "begins with what a check kept")  # of lines that are never shown
+
+
+def crates_below(crate):
+    """The crate and those that it stands on, each with those that it names itself. The kit's own are left out."""
+    named = {}
+    for line in (TOP / "crates.txt").read_text().splitlines():
+        name, colon, below = line.partition("#")[0].partition(":")
+        if colon:
+            named[name.split()[0]] = below.split()
+    if crate not in named:
+        sys.exit(f"crates.txt has no crate {crate}")
+    found, waiting = {}, [crate]
+    while waiting:
+        name = waiting.pop()
+        if name not in found:
+            found[name] = [it for it in named[name] if it in named]
+            waiting += found[name]
+    return found
+
+
+def sizes_of(crates):
+    """How many bytes of code, definitions and proofs each crate has: what it takes to prove it, about."""
+    def size(name):
+        folders = [TOP / "crates" / name / folder for folder in ("src", "specs", "proofs")]
+        return sum(it.stat().st_size for folder in folders for it in folder.rglob("*") if it.is_file())
+
+    return {name: size(name) for name in crates}
+
+
+def chains_of(crates):
+    """The size of the longest chain of crates that wait for each, itself included."""
+    sizes, chains = sizes_of(crates), {}
+
+    def chain(name):
+        if name not in chains:
+            chains[name] = sizes[name] + max((chain(it) for it, below in crates.items() if name in below), default=0)
+        return chains[name]
+
+    return {name: chain(name) for name in crates}
+
+
+def room():
+    """How many crates are proved at a time."""
+    memory = os.sysconf("SC_PAGE_SIZE") * os.sysconf("SC_PHYS_PAGES")
+    return max(1, min(len(os.sched_getaffinity(0)), memory // MEMORY))
+
+
+class Proof:
+    """A run over some crates."""
+
+    def __init__(self, log):
+        self.log, self.lock, self.running, self.stopped = log, threading.Lock(), {}, False
+
+    def prove(self, name, jobs):
+        """Proves a crate over those below it, and gives the status, the seconds, and the first lines that may say what is wrong."""
+        is_program = (TOP / "crates" / name / "src" / "main.rt").exists()
+        command = ["rt", "run", "--jobs", str(jobs), "--", "-V"] if is_program else ["rt", "lib", "--jobs", str(jobs)]
+        start, said = time.monotonic(), []
+        with self.lock:
+            if self.stopped:
+                return 1, 0.0, said
+            ran = subprocess.Popen(command, cwd=TOP / "crates" / name, stdin=subprocess.DEVNULL, stdout=subprocess.PIPE,
+                                   stderr=subprocess.STDOUT, text=True, errors="replace", start_new_session=True)
+            self.running[name] = ran
+        for line in ran.stdout:
+            if len(said) < SHOWN and line.strip() and not any(dull in line for dull in DULL):
+                said.append(line.rstrip())
+            with self.lock:
+                self.log.write(f"{name}: {line.rstrip()}\n")
+                self.log.flush()
+        status = ran.wait()
+        with self.lock:
+            del self.running[name]
+        return status, time.monotonic() - start, said
+
+    def stop(self):
+        """Ends what is running; what was proved so far stays."""
+        with self.lock:
+            self.stopped = True
+            for ran in self.running.values():
+                with contextlib.suppress(ProcessLookupError):
+                    os.killpg(ran.pid, signal.SIGTERM)
+
+
+def prove_all(crates, most, proof):
+    """Proves each crate once those below it are, first the one that the longest chain waits for. Gives whether all are proved."""
+    chains, done, running = chains_of(crates), set(), {}
+    with ThreadPoolExecutor(most) as pool:
+        try:
+            while len(done) < len(crates):
+                ready = [name for name in crates if name not in done and name not in running.values() and done.issuperset(crates[name])]
+                ready = sorted(ready, key=chains.get, reverse=True)[: most - len(running)]
+                jobs = max(1, (most - len(running)) // max(1, len(ready)))  # processors that are left help
+                for name in ready:
+                    running[pool.submit(proof.prove, name, jobs)] = name
+                for ended in wait(running, return_when=FIRST_COMPLETED).done:
+                    name, (status, seconds, said) = running.pop(ended), ended.result()
+                    if status != 0:
+                        print(f"{name}: not proved; {LOG.relative_to(TOP)} has all that was said", *said, sep="\n  ", flush=True)
+                        proof.stop()
+                        return False
+                    done.add(name)
+                    print(f"{name:<14}{seconds:6.0f} s   {len(crates) - len(done):2} left", flush=True)
+        except KeyboardInterrupt:
+            proof.stop()
+            print("stopped; run it again to go on")
+            return False
+    return True
+
+
+def main():
+    parser = argparse.ArgumentParser(description=__doc__, formatter_class=argparse.RawDescriptionHelpFormatter)
+    parser.add_argument("--jobs", type=int, default=room(), help="how many crates are proved at a time")
+    parser.add_argument("crate", metavar="CRATE")
+    asked = parser.parse_args()
+    signal.signal(signal.SIGTERM, signal.default_int_handler)
+    crates = crates_below(asked.crate)
+    most = max(1, asked.jobs)
+    if shutil.which("rt") is None:
+        sys.exit("there is no rt on the path: it is the command of the Rattle kit")
+    LOG.parent.mkdir(exist_ok=True)
+    print(f"Proving {len(crates)} crates, up to {most} at a time; the first time takes many minutes. Log: {LOG.relative_to(TOP)}", flush=True)
+    with open(LOG, "w") as log:
+        return 0 if prove_all(crates, most, Proof(log)) else 1
+
+
+if __name__ == "__main__":
+    sys.exit(main())
