@@ -260,7 +260,7 @@ def spaced(text: str) -> str:
 
 def draw_hashes(page: Page, seeds: list[int], n: int) -> None:
     page.head(f"1. Each key is hashed, and becomes an edge between two of {n} vertices")
-    page.say(f"The ends are w0 mod {n} and w1 mod {n}, of the words of lookup2 under the seed.", "say soft")
+    page.say(f"The ends are w0 mod {n} and w1 mod {n}, of the hash values under the seed.", "say soft")
     page.y += 4
     for at, seed in enumerate(seeds):
         page.text(LEFT + 110 + 310 * at, page.y + 17, spaced(f"seed {seed}    w0        w1        ends"), "soft")
@@ -349,7 +349,7 @@ def main() -> None:
     draw_rounds(page, function.seed, edges, rounds, n)
     draw_cells(page, edges, steps, n)
     page.head("5. An answer is the sum of two cells")
-    stranger = "a word that was not among them gets a number, too."
+    stranger = "a key that was not among them gets a number, too."
     page.say(f"The file holds the seed and the cells, and no keys: {stranger}", "say soft")
     page.y += 4
     for key in (SHOWN, STRANGER):
