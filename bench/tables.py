@@ -61,7 +61,10 @@ def choice(name: str, keys: str) -> str:
     ours = {(row["algorithm"], row["measure"]): figures(row["measure"], float(row["ours"])) for row in rows}
     columns = ["function, bits a key", "build, s", "build, bytes a key", "query, s", "query, bytes a key"]
     lines = ["| You want | `-a` | Numbers of m keys | " + " | ".join(columns) + " |", "|---" * (len(columns) + 3) + "|"]
-    for algorithm, (need, numbers) in NEEDS.items():
+    for algorithm in dict.fromkeys(row["algorithm"] for row in rows):
+        if algorithm not in NEEDS:
+            raise Refused(f"bench/tables.py does not say who needs {algorithm}")
+        need, numbers = NEEDS[algorithm]
         cells = [need, f"`{algorithm}`", numbers, *(ours[algorithm, column] for column in columns)]
         lines.append("| " + " | ".join(cells) + " |")
     facts = (RESULTS / f"{name}.md").read_text().split("\n\n")[0]

@@ -1,5 +1,5 @@
 #!/usr/bin/env python3
-"""Compares the options of the usage text, the man page, the README, docs/command-line.md and the completions of shells.
+"""Compares the options and their choices in the usage text, the man page, the README, docs/command-line.md and the completions.
 
     tests/completions.py [PROGRAM]        PROGRAM is crates/cmph/out/cmph if it is left out
 
@@ -56,6 +56,19 @@ def of_table(page):
     return {letter: bool(values.strip()) and not values.strip().startswith("flag") for letter, values in rows}
 
 
+def choices_of_man(letter):
+    """What the man page lists below an option."""
+    text = (TOP / "man" / "cmph.1").read_text()
+    below = re.search(rf"^\.It Fl {letter} Ar \w+\n(.*?)^\.It Fl ", text, re.MULTILINE | re.DOTALL)[1]
+    return re.findall(r"^\.It Cm (\w+)$", below, re.MULTILINE)
+
+
+def choices_of_table(page, letter):
+    """What the table of a page gives as the values of an option."""
+    values = re.search(rf"^\| `-{letter}` \|[^|]*\|([^|]*)\|", (TOP / page).read_text(), re.MULTILINE)[1]
+    return re.findall(r"`(\w+)`", values)
+
+
 def of_bash(*words):
     """What bash offers after these words, of which the last is being typed."""
     script = 'source "$1"; shift; COMP_WORDS=("$@"); COMP_CWORD=$(($# - 1)); _cmph; printf "%s\\n" "${COMPREPLY[@]}"'
@@ -88,6 +101,9 @@ def main():
         ("the options of docs/command-line.md", of_table("docs/command-line.md"), options),
         ("the options of bash", options_of_bash(), options),
         ("the options of zsh", of_zsh(), options),
+        ("the algorithms of the man page", choices_of_man("a"), algorithms),
+        ("the algorithms of the README", choices_of_table("README.md", "a"), algorithms),
+        ("the algorithms of docs/command-line.md", choices_of_table("docs/command-line.md", "a"), algorithms),
         ("the algorithms of bash", of_bash("-a", ""), algorithms),
         ("the algorithms of bash after flags", of_bash("-gva", ""), algorithms),
         ("the algorithms of zsh", choices_of_zsh("a"), algorithms),
