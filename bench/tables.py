@@ -68,18 +68,24 @@ def choice(name: str, keys: str) -> str:
         cells = [need, f"`{algorithm}`", numbers, *(ours[algorithm, column] for column in columns)]
         lines.append("| " + " | ".join(cells) + " |")
     facts = (RESULTS / f"{name}.md").read_text().split("\n\n")[0]
-    return f"{int(keys):,} generated keys of 14 bytes. {facts}\n\n" + "\n".join(lines) + "\n\n" + summary(name) + "\n"
+    return f"{int(keys):,} generated keys of 14 bytes. {facts}\n\n" + "\n".join(lines) + "\n" + summary(name)
+
+
+def beside_c(name: str) -> list[dict]:
+    """The rows of what was measured beside the C tool: none if it was not there."""
+    with open(RESULTS / f"{name}.csv", newline="") as file:
+        return [row for row in csv.DictReader(file) if row["to_c"]]
 
 
 def summary(name: str) -> str:
     """The lowest and the greatest ratios of times to the C tool, over all sets of keys."""
-    with open(RESULTS / f"{name}.csv", newline="") as file:
-        rows = [row for row in csv.DictReader(file) if row["to_c"]]
-    said = []
+    rows, said = beside_c(name), []
+    if not rows:
+        return ""
     for measure, what in (("build, s", "builds took"), ("query, s", "queries")):
         ratios = [float(row["to_c"]) for row in rows if row["measure"] == measure]
         said.append(f"{what} {min(ratios):.2f} to {max(ratios):.2f}")
-    return f"Over all sets of keys that were measured, {' and '.join(said)} of the C tool's processor time."
+    return f"\nOver all sets of keys that were measured, {' and '.join(said)} of the C tool's processor time.\n"
 
 
 def content(what: str) -> str:
@@ -115,7 +121,7 @@ def wanted() -> dict[Path, str]:
             pages[path] = page(path.read_text())
         except (Refused, OSError) as fault:
             sys.exit(f"{path.relative_to(TOP)}: {fault}")
-    return {**pages, BARS: drawn()}
+    return {**pages, BARS: drawn()} if beside_c("latest") else pages
 
 
 def record(name: str, command: list[str]) -> None:
