@@ -1,0 +1,262 @@
+"""What the program must do with small files: docs/formats.md and docs/algorithms.md once more, in plain Python.
+
+hostile.py compares the program with it. It is written for clarity, and is fast enough for some hundred keys.
+"""
+
+import sys
+from collections import Counter
+from pathlib import Path
+from typing import NamedTuple
+
+sys.path.append(str(Path(__file__).resolve().parents[2] / "docs"))
+from draw import words  # noqa: E402  the hash lookup2
+
+MOST_KEYS, LONGEST = 16_777_216, 65_535
+NUMBERS = {"chm": 1, "bdz": 2, "bdz_ph": 3}
+NAMES = {number: name for name, number in NUMBERS.items()}
+RATIOS = {"chm": 2_090_000, "bdz": 1_230_000, "bdz_ph": 1_230_000}
+NO_SEED = "no seed of the list gives an empty core"
+
+
+class Fault(Exception):
+    """Why a file is refused."""
+
+
+class Ends(NamedTuple):
+    """How a run ends, and the function file that it leaves, if it replaces it."""
+
+    status: int
+    out: bytes = b""
+    err: bytes = b""
+    dump: bytes | None = None
+
+
+def said(text: str) -> bytes:
+    return f"cmph: {text}\n".encode()
+
+
+# Keys
+
+
+def lines_of(content: bytes) -> list[bytes]:
+    """The keys of a file."""
+    lines = content.split(b"\n")
+    if not lines[-1]:
+        lines.pop()
+    for number, line in enumerate(lines, 1):
+        if len(line) > LONGEST:
+            raise Fault(f"line {number} is too long")
+    return lines
+
+
+# Functions
+
+
+class Function(NamedTuple):
+    name: str
+    keys: int  # how many
+    ratio: int  # in millionths
+    seed: int
+    b: int
+    cells: list[int]
+
+
+def size_of(name: str, keys: int, ratio: int) -> int:
+    """The number of vertices."""
+    if name == "chm":
+        return max(2, -(-ratio * keys // 1_000_000))
+    third = -(-ratio * keys // 3_000_000)
+    third += third % 2 == 0
+    return 3 * (3 if third == 1 else third)
+
+
+def edge_of(name: str, key: bytes, seed: int, n: int) -> list[int]:
+    first, second, third = words(key, seed)
+    if name == "chm":
+        ends = [first % n, second % n]
+        return ends if ends[0] != ends[1] else [ends[0], (ends[1] + 1) % n]
+    r = n // 3
+    return [first % r, r + second % r, 2 * r + third % r]
+
+
+def answer_of(f: Function, key: bytes) -> int | None:
+    ends = edge_of(f.name, key, f.seed, len(f.cells))
+    total = sum(f.cells[end] for end in ends)
+    if f.name == "chm":
+        return total % f.keys
+    chosen = ends[total % 3]
+    if f.name == "bdz_ph":
+        return chosen
+    return None if f.cells[chosen] == 3 else sum(cell != 3 for cell in f.cells[:chosen])
+
+
+def width_of(keys: int) -> int:
+    return max(1, (keys - 1).bit_length())
+
+
+def samples_of(cells: list[int], b: int) -> list[int]:
+    """How many cells before every 2^b-th one are not 3."""
+    return [sum(cell != 3 for cell in cells[:at]) for at in range(0, len(cells), 2**b)]
+
+
+def dump_of(f: Function) -> bytes:
+    numbers = b"".join(number.to_bytes(4, "little") for number in (f.keys, f.ratio, f.seed))
+    head = b"CMPHDMP1" + bytes([NUMBERS[f.name], f.b, 0, 0]) + numbers
+    if f.name == "chm":
+        width = width_of(f.keys)
+        image = sum(cell << width * at for at, cell in enumerate(f.cells))
+        return head + image.to_bytes((len(f.cells) * width + 7) // 8, "little")
+    base, each = (4, 4) if f.name == "bdz" else (3, 5)
+    groups = [f.cells[at : at + each] for at in range(0, len(f.cells), each)]
+    image = bytes(sum(cell * base**at for at, cell in enumerate(group)) for group in groups)
+    ranks = samples_of(f.cells, f.b) if f.name == "bdz" else []
+    return head + image + b"".join(rank.to_bytes(4, "little") for rank in ranks)
+
+
+# Reading a dump
+
+
+def item(data: bytes, at: int, size: int) -> bytes:
+    if len(data) < at + size:
+        raise Fault(f"truncated at {len(data)}")
+    return data[at : at + size]
+
+
+def number(data: bytes, at: int, size: int, low: int, high: int) -> int:
+    value = int.from_bytes(item(data, at, size), "little")
+    if not low <= value <= high:
+        raise Fault(f"bad field at {at}")
+    return value
+
+
+def fields(image: bytes, n: int, keys: int) -> list[int]:
+    """The cells of CHM: numbers of as many bits as a number of keys needs."""
+    width, whole = width_of(keys), int.from_bytes(image, "little")
+    cells = [whole >> width * at & (1 << width) - 1 for at in range(n)]
+    for at, cell in enumerate(cells):
+        if cell >= keys:
+            raise Fault(f"bad cell at {24 + at * width // 8}")
+    if whole >> width * n:
+        raise Fault(f"bad padding at {23 + len(image)}")
+    return cells
+
+
+def digits(image: bytes, n: int, base: int, each: int) -> list[int]:
+    """The cells of BDZ and BDZ_PH: digits, so many in a byte."""
+    for at, byte in enumerate(image):
+        if byte >= base**each:
+            raise Fault(f"bad cell at {24 + at}")
+    cells = [byte // base**at % base for byte in image for at in range(each)]
+    if any(cells[n:]):
+        raise Fault(f"bad padding at {23 + len(image)}")
+    return cells[:n]
+
+
+def read_dump(data: bytes) -> Function:
+    """The function that bytes spell, or their first fault."""
+    if item(data, 0, 8) != b"CMPHDMP1":
+        raise Fault("bad magic")
+    name = NAMES.get(item(data, 8, 1)[0])
+    if name is None:
+        raise Fault("bad algorithm")
+    b = number(data, 9, 1, *((3, 10) if name == "bdz" else (0, 0)))
+    number(data, 10, 1, 0, 0)
+    number(data, 11, 1, 0, 0)
+    keys = number(data, 12, 4, 1, MOST_KEYS)
+    ratio = number(data, 16, 4, 1_000_000, 10_000_000)
+    seed = number(data, 20, 4, 0, 2**32 - 1)
+    n = size_of(name, keys, ratio)
+    each = {"bdz": 4, "bdz_ph": 5}.get(name)
+    image = item(data, 24, -(-n // each) if each else (n * width_of(keys) + 7) // 8)
+    cells = fields(image, n, keys) if not each else digits(image, n, 4 if name == "bdz" else 3, each)
+    end = 24 + len(image)
+    if name == "bdz":
+        if sum(cell != 3 for cell in cells) != keys:
+            raise Fault("bad count at 24")
+        for rank in samples_of(cells, b):
+            if int.from_bytes(item(data, end, 4), "little") != rank:
+                raise Fault(f"bad rank at {end}")
+            end += 4
+    if len(data) > end:
+        raise Fault("trailing bytes")
+    return Function(name, keys, ratio, seed, b, cells)
+
+
+# Jobs
+
+
+def query(path: str, dump: bytes, keys_path: str, content: bytes) -> Ends:
+    try:
+        f = read_dump(dump)
+    except Fault as fault:
+        return Ends(3, b"", said(f"{path}: bad dump: {fault}"))
+    seen, out, err, ending = set(), b"", b"", None
+    try:
+        keys = lines_of(content)
+    except Fault as fault:
+        ending = Ends(8, b"", said(f"{keys_path}: {fault}"))
+        keys = content.split(b"\n")[: int(str(fault).split()[1]) - 1]
+    for line, key in enumerate(keys, 1):
+        value = answer_of(f, key)
+        if value is None:
+            err += said(f"line {line}: key is unknown")
+            continue
+        out += key + b" -> %d\n" % value
+        if value in seen:
+            err += said(f"line {line}: value {value} is repeated")
+        seen.add(value)
+    if ending:
+        return Ends(8, out, err + ending.err)
+    return Ends(1 if err else 0, out, err)
+
+
+def peel(edges: list[list[int]]) -> tuple[list[list[tuple[int, int]]], list[int]]:
+    """The rounds, each a list of edges with the positions of their pivots, and the edges that are left."""
+    degree, left, rounds = Counter(end for ends in edges for end in ends), list(range(len(edges))), []
+    while True:
+        alone = [(e, [at for at, end in enumerate(edges[e]) if degree[end] == 1]) for e in left]
+        gone = [(e, places[0]) for e, places in alone if places]
+        if not gone:
+            return rounds, left
+        rounds.append(gone)
+        degree.subtract(end for e, _ in gone for end in edges[e])
+        removed = {e for e, _ in gone}
+        left = [e for e in left if e not in removed]
+
+
+def cells_of(name: str, edges: list[list[int]], rounds: list[list[tuple[int, int]]], n: int) -> list[int]:
+    """The cells, set from the last round to the first."""
+    cells = [3 if name == "bdz" else 0] * n
+    for e, at in (each for gone in reversed(rounds) for each in gone):
+        others = sum(cells[end] for place, end in enumerate(edges[e]) if place != at)
+        cells[edges[e][at]] = (e - others) % len(edges) if name == "chm" else (at - others) % 3
+    return cells
+
+
+def report(name: str, seed: int, keys: list[bytes], edges: list[list[int]], left: list[int]) -> bytes:
+    first = {}
+    for line, key in enumerate(keys, 1):
+        first.setdefault(key, line)
+    text = [f"core {name} seed {seed} edges {len(left)}"]
+    text += [f"edge {e + 1} {' '.join(map(str, edges[e]))}" for e in left]
+    text += [f"equal {first[keys[e]]} {e + 1}" for e in left if first[keys[e]] != e + 1]
+    return "".join(f"{line}\n" for line in text).encode()
+
+
+def build(name: str, keys_path: str, content: bytes, seed: int, seeds: int, ratio: int | None = None, b: int = 7) -> Ends:
+    try:
+        keys = lines_of(content)
+        if not keys:
+            raise Fault("no keys")
+    except Fault as fault:
+        return Ends(8, b"", said(f"{keys_path}: {fault}"))
+    ratio = ratio or RATIOS[name]
+    n, first = size_of(name, len(keys), ratio), None
+    for tried in range(seed, seed + seeds):
+        edges = [edge_of(name, key, tried % 2**32, n) for key in keys]
+        rounds, left = peel(edges)
+        if not left:
+            f = Function(name, len(keys), ratio, tried % 2**32, b if name == "bdz" else 0, cells_of(name, edges, rounds, n))
+            return Ends(0, b"", b"", dump_of(f))
+        first = first or report(name, seed, keys, edges, left)
+    return Ends(1, first, said(NO_SEED))
