@@ -14,9 +14,8 @@ use Rattle.cm_peel.specs.Peeling.{IsPeelingOf, levels_of, is_taken, pivots_in, u
 use Rattle.cm_peel.proofs.First.{kept_next}
 use Rattle.cm_peel.proofs.Unlinking.{pivot_small}
 use Rattle.cm_peel.specs.SetLaws.{filter_agree_on}
-use Rattle.cm_peel.specs.CoreLaws.{left_after_is, IsStable, stable_stays, stable_next, no_length}
+use Rattle.cm_peel.specs.CoreLaws.{left_after_is, IsStable, stable_stays, stable_next}
 use Rattle.cm_peel.specs.RoundLaws.{has_left_from, place_below, length-order}
-use Rattle.cm_peel.proofs.NextRound.{round_long}
 
 pub passes_all : (p : ℕ → Bool) (xs : List ℕ) → filter (λ e. not (p e)) xs ≡ [] → list_all p xs ≡ true
 passes_all p [] h = refl
@@ -71,49 +70,34 @@ pub length-map_numbers : (f : ℕ → ℕ) (b n : ℕ) → length (map f (number
 length-map_numbers f b zero = refl
 length-map_numbers f b (suc n) = ap suc (length-map_numbers f (suc b) n)
 
--- a round that would begin past the order removes nothing
-pub none_next : (graph : Graph) (t : ℕ) (l : Links) (start : ℕ) (order levels bytes : List ℕ) → AtRound graph t l start order levels bytes → length order ≤ start → removed_after graph.edges t ≡ []
-none_next graph t l start order levels bytes a past = no_length (removed_after graph.edges t) (omega (arith, round_long graph t l start order levels bytes a))
-
 -- what is left then is the rest
-pub rest_now : (graph : Graph) (t : ℕ) (l : Links) (start : ℕ) (order levels bytes : List ℕ) → AtRound graph t l start order levels bytes → length order ≤ start → rest_of graph.edges ≡ left_after graph.edges (suc t)
-rest_now graph t l start order levels bytes a past = rest_is graph.edges t few none ∙ sym (stable_stays graph.edges t (stable_at graph.edges t none)) where
-  none : removed_after graph.edges t ≡ []
-  none = none_next graph t l start order levels bytes a past
-
-  few : t ≤ length graph.edges
-  few = omega (arith, a.few, a.start_is, length-order graph.edges t)
+pub rest_now : (edges : List (List ℕ)) (t : ℕ) → t ≤ length edges → removed_after edges t ≡ [] → rest_of edges ≡ left_after edges (suc t)
+rest_now edges t few none = rest_is edges t few none ∙ sym (stable_stays edges t (stable_at edges t none))
 
 -- the edges that are not taken are those that are left, and the order has the others
 abbrev pub is_untaken : List ℕ → ℕ → Bool
 is_untaken bytes e = not (is_taken bytes e)
 
-untaken_are : (graph : Graph) (t : ℕ) (l : Links) (start : ℕ) (order levels bytes : List ℕ) → AtRound graph t l start order levels bytes → untaken_of bytes ≡ left_after graph.edges (suc t)
-untaken_are graph t l start order levels bytes a = ap (λ m. filter (is_untaken bytes) (numbers_from 0 m)) a.bytes_long ∙ (filter_agree_on (is_untaken bytes) (is_left graph.edges (suc t)) (places graph.edges)
+untaken_are : (graph : Graph) (t : ℕ) (l : Links) (levels bytes : List ℕ) → AtRound graph t l levels bytes → untaken_of bytes ≡ left_after graph.edges (suc t)
+untaken_are graph t l levels bytes a = ap (λ m. filter (is_untaken bytes) (numbers_from 0 m)) a.bytes_long ∙ (filter_agree_on (is_untaken bytes) (is_left graph.edges (suc t)) (places graph.edges)
     (λ e m. ap not (a.taken e (place_below graph.edges e m)) ∙ not-not (is_left graph.edges (suc t) e)) ∙ sym (left_after_is graph.edges (suc t))) where
       not-not : (b : Bool) → not (not b) ≡ b
       not-not true = refl
       not-not false = refl
 
-pub untaken_many : (graph : Graph) (t : ℕ) (l : Links) (start : ℕ) (order levels bytes : List ℕ) → AtRound graph t l start order levels bytes → length order + length (untaken_of bytes) ≡ length graph.edges
-untaken_many graph t l start order levels bytes a = omega (arith, length-order graph.edges (suc t), ap length a.order_is, ap length (untaken_are graph t l start order levels bytes a))
+pub untaken_many : (graph : Graph) (t : ℕ) (l : Links) (levels bytes : List ℕ) → AtRound graph t l levels bytes → length (order_upto graph.edges (suc t)) + length (untaken_of bytes) ≡ length graph.edges
+untaken_many graph t l levels bytes a = omega (arith, length-order graph.edges (suc t), ap length (untaken_are graph t l levels bytes a))
 
-pub ended : (k : ℕ) (graph : Graph) (t : ℕ) (l : Links) (start : ℕ) (order levels bytes rest : List ℕ) → k ≤ 3 → AreEdges k graph.vertices graph.edges → AtRound graph t l start order levels bytes → length order ≤ start → rest ≡ untaken_of bytes
+pub ended : (k : ℕ) (graph : Graph) (t : ℕ) (l : Links) (order levels bytes rest : List ℕ) → k ≤ 3 → AreEdges k graph.vertices graph.edges → AtRound graph t l levels bytes → t ≤ length graph.edges → removed_after graph.edges t ≡ [] → order ≡ order_upto graph.edges (suc t) → rest ≡ untaken_of bytes
     → IsPeelingOf graph.edges (record { order = order; levels = levels; pivots = pivots_in bytes; rest = rest })
-ended k graph t l start order levels bytes rest small are a past rest_are = record {
-  order = a.order_is ∙ (ap (λ (xs : List ℕ). order_upto edges t ++ xs) none ∙ (append-nil _ ∙ sym (order_is edges t few none)));
+ended k graph t l order levels bytes rest small are a few none order_are rest_are = record {
+  order = order_are ∙ (ap (λ (xs : List ℕ). order_upto edges t ++ xs) none ∙ (append-nil _ ∙ sym (order_is edges t few none)));
   pivot = λ e h above. pivot e h (a.byte e h (gone e h above (cases_Bool (is_left edges (suc t) e))));
   pivots_long = length-map bytes (λ b. b % 4) ∙ a.bytes_long;
-  rest = rest_are ∙ (untaken_are graph t l start order levels bytes a ∙ sym (rest_now graph t l start order levels bytes a past));
+  rest = rest_are ∙ (untaken_are graph t l levels bytes a ∙ sym (rest_now edges t few none));
 } where
   edges : List (List ℕ)
   edges = graph.edges
-
-  none : removed_after graph.edges t ≡ []
-  none = none_next graph t l start order levels bytes a past
-
-  few : t ≤ length graph.edges
-  few = omega (arith, a.few, a.start_is, length-order graph.edges t)
 
   pivot : (e : ℕ) → e < length graph.edges → get_or bytes e 0 ≡ byte_of graph.edges e → get_or (map (λ b. b % 4) bytes) e 0 ≡ pivot_of graph.edges e
   pivot e h is =
@@ -124,18 +108,18 @@ ended k graph t l start order levels bytes rest small are a past rest_are = reco
 
   gone : (e : ℕ) → e < length graph.edges → 0 < level_of graph.edges e → (is_left graph.edges (suc t) e ≡ true) ⊎ (is_left graph.edges (suc t) e ≡ false) → is_left graph.edges (suc t) e ≡ false
   gone e h above (inl here) =
-      let z : level_of graph.edges e ≡ 0 = level_zero edges e (ap (λ (xs : List ℕ). has xs e) (rest_now graph t l start order levels bytes a past) ∙ has_left_from edges (suc t) e h here) in
+      let z : level_of graph.edges e ≡ 0 = level_zero edges e (ap (λ (xs : List ℕ). has xs e) (rest_now graph.edges t few none) ∙ has_left_from edges (suc t) e h here) in
       absurd (omega arith)
   gone e h above (inr out) = out
 
 -- the levels that are noted then
-pub levels_ended : (graph : Graph) (t : ℕ) (l : Links) (start : ℕ) (order levels bytes : List ℕ) → AtRound graph t l start order levels bytes → length order ≤ start → (e : ℕ) → e < length levels → get_or levels e 0 ≡ level_of graph.edges e
-levels_ended graph t l start order levels bytes a past e h = a.level e h ∙ go (cases_Bool (is_left graph.edges (suc t) e)) where
+pub levels_ended : (graph : Graph) (t : ℕ) (l : Links) (levels bytes : List ℕ) → AtRound graph t l levels bytes → t ≤ length graph.edges → removed_after graph.edges t ≡ [] → (e : ℕ) → e < length levels → get_or levels e 0 ≡ level_of graph.edges e
+levels_ended graph t l levels bytes a few none e h = a.level e h ∙ go (cases_Bool (is_left graph.edges (suc t) e)) where
   place : e < length graph.edges
   place = omega (arith, a.levels_kept (omega arith))
 
   go : (is_left graph.edges (suc t) e ≡ true) ⊎ (is_left graph.edges (suc t) e ≡ false) → cond (is_left graph.edges (suc t) e) 0 (level_of graph.edges e) ≡ level_of graph.edges e
-  go (inl here) = cond-true _ 0 (level_of graph.edges e) here ∙ sym (level_zero graph.edges e (ap (λ (xs : List ℕ). has xs e) (rest_now graph t l start order levels bytes a past) ∙ has_left_from graph.edges (suc t) e place here))
+  go (inl here) = cond-true _ 0 (level_of graph.edges e) here ∙ sym (level_zero graph.edges e (ap (λ (xs : List ℕ). has xs e) (rest_now graph.edges t few none) ∙ has_left_from graph.edges (suc t) e place here))
   go (inr out) = cond-false _ 0 (level_of graph.edges e) out
 
 -- a table of all levels

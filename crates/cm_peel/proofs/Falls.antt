@@ -1,12 +1,12 @@
 -- The round in which an edge is removed.
-use Rattle.std.proofs.Common.{◌≡◌, ◌⊎◌, ℕ, zero, suc, ◌-◌, ◌<◌, true, false, List, length, get_or, sym, subst, inl, inr, arith}
-use Rattle.std.proofs.lemmas.Bool.{both_ways, cases_Bool, and_from, false≢true}
+use Rattle.std.proofs.Common.{◌≡◌, ◌⊎◌, ℕ, zero, suc, ◌-◌, ◌<◌, Bool, true, false, not, ◌∙◌, List, length, get_or, sym, refl, subst, inl, inr, arith}
+use Rattle.std.proofs.lemmas.Bool.{both_ways, cases_Bool, and_parts, and_from, and_right, false≢true}
 use Rattle.std.proofs.lemmas.List.Sums.{AllPass-from_list_all}
 use Rattle.cm_spec.specs.Lists.{has}
-use Rattle.cm_spec.specs.Rounds.{is_left, is_held, left_after, level_of}
+use Rattle.cm_spec.specs.Rounds.{is_left, is_held, left_after, removed_after, level_of}
 use Rattle.cm_peel.specs.SetLaws.{Contains-from_has}
 use Rattle.cm_peel.specs.CoreLaws.{progress}
-use Rattle.cm_peel.specs.RoundLaws.{has_left_from, level_is}
+use Rattle.cm_peel.specs.RoundLaws.{has_left_from, has_removed, level_is}
 
 -- an edge that is not left was removed by some round
 pub fell_at : (edges : List (List ℕ)) (t e : ℕ) → is_left edges t e ≡ false → (s : ℕ) × (s < t) × (is_left edges s e ≡ true) × (is_left edges (suc s) e ≡ false)
@@ -31,3 +31,12 @@ falls_early edges s e h here gone =
 
 pub falls_level : (edges : List (List ℕ)) (s e : ℕ) → e < length edges → is_left edges s e ≡ true → is_left edges (suc s) e ≡ false → level_of edges e - 1 ≡ s
 falls_level edges s e h here gone = omega (arith, level_is edges s e h (falls_early edges s e h here gone) here gone)
+
+-- what a round removes is not left after it
+pub removed_gone : (edges : List (List ℕ)) (t e : ℕ) → has (removed_after edges t) e ≡ true → is_left edges (suc t) e ≡ false
+removed_gone edges t e m =
+    let both = and_parts (has (left_after edges t) e) (not (is_held edges (left_after edges t) e)) (sym (has_removed edges t e) ∙ m) in
+    and_right (is_left edges t e) _ (fails (is_held edges (left_after edges t) e) both.1) where
+      fails : (b : Bool) → not b ≡ true → b ≡ false
+      fails true h = absurd (false≢true h)
+      fails false h = refl

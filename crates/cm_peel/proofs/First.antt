@@ -57,19 +57,31 @@ first_is k l edges e b ends are is =
     let free : position_or_len (λ d. eqb d 1) (map (degree_of l) ends) ≡ free_position l edges e = position-map (λ d. eqb d 1) (degree_of l) ends ∙ ap (position_or_len (λ v. eqb (degree_of l v) 1)) are in
     is ∙ ap (λ n. cond (ltb n k) n 8) free
 
+-- which edges the first round removes
+pub picked_byte : (k : ℕ) (graph : Graph) (l : Links) (bytes : List ℕ) → k ≤ 3 → AreEdges k graph.vertices graph.edges → ((e : ℕ) → e < length graph.edges → get_or bytes e 0 ≡ first_byte k l graph.edges e) → (e : ℕ) → e < length graph.edges → ltb (get_or bytes e 0) 8 ≡ is_picked l graph.edges e
+picked_byte k graph l bytes small are set e h = ap (λ x. ltb x 8) (set e h) ∙ go (cases_lt (free_position l graph.edges e) k) where
+  found : ltb (free_position l graph.edges e) k ≡ is_picked l graph.edges e
+  found = found_within (is_free l) (ends_at graph.edges e) k (are e [] h).0
+
+  go : (free_position l graph.edges e < k) ⊎ (k ≤ free_position l graph.edges e) → ltb (first_byte k l graph.edges e) 8 ≡ is_picked l graph.edges e
+  go (inl low) = ap (λ x. ltb x 8) (cond-true _ (free_position l graph.edges e) 8 (lt-ltb _ k low)) ∙ (lt-ltb _ 8 (omega arith) ∙ (sym (lt-ltb _ k low) ∙ found))
+  go (inr high) = ap (λ x. ltb x 8) (cond-false _ (free_position l graph.edges e) 8 (le-ltb _ k high)) ∙ (sym (le-ltb _ k high) ∙ found)
+
+pub first_taken : (k : ℕ) (graph : Graph) (l : Links) (bytes : List ℕ) → k ≤ 3 → AreEdges k graph.vertices graph.edges → AreLinked graph (λ _ _. true) l → length bytes ≡ length graph.edges → ((e : ℕ) → e < length graph.edges → get_or bytes e 0 ≡ first_byte k l graph.edges e) → taken_of bytes ≡ removed_after graph.edges 0
+first_taken k graph l bytes small are a blong set =
+    ap (λ n. filter (λ e. ltb (get_or bytes e 0) 8) (numbers_from 0 n)) blong
+    ∙ (filter_agree_on (λ e. ltb (get_or bytes e 0) 8) (is_picked l graph.edges) (places graph.edges) (λ e m. picked_byte k graph l bytes small are set e (place_below graph.edges e m)) ∙ picked_first graph l a)
+
 -- the state before the first round
-pub first_round : (k : ℕ) (graph : Graph) (l : Links) (order levels levels' bytes : List ℕ) → k ≤ 3 → AreEdges k graph.vertices graph.edges → AreLinked graph (λ _. true) l → (0 < length levels → length levels ≡ length graph.edges) → ((e : ℕ) → e < length levels → get_or levels e 0 ≡ 0) → length bytes ≡ length graph.edges
-    → ((e : ℕ) → e < length graph.edges → get_or bytes e 0 ≡ first_byte k l graph.edges e) → order ≡ taken_of bytes → length levels' ≡ length levels → ((e : ℕ) → e < length levels → get_or levels' e 0 ≡ cond (has order e) 1 (get_or levels e 0)) → AtRound graph 0 l 0 order levels' bytes
-first_round k graph l order levels levels' bytes small are a kept zero blong set order_is llong lset = record {
+pub first_round : (k : ℕ) (graph : Graph) (l : Links) (round levels levels' bytes : List ℕ) → k ≤ 3 → AreEdges k graph.vertices graph.edges → AreLinked graph (λ _ _. true) l → (0 < length levels → length levels ≡ length graph.edges) → ((e : ℕ) → e < length levels → get_or levels e 0 ≡ 0) → length bytes ≡ length graph.edges
+    → ((e : ℕ) → e < length graph.edges → get_or bytes e 0 ≡ first_byte k l graph.edges e) → round ≡ removed_after graph.edges 0 → length levels' ≡ length levels → ((e : ℕ) → e < length levels → get_or levels' e 0 ≡ cond (has round e) 1 (get_or levels e 0)) → AtRound graph 0 l levels' bytes
+first_round k graph l round levels levels' bytes small are a kept zero blong set is llong lset = record {
   linked = a;
-  start_is = refl;
-  order_is = is;
-  few = omega arith;
   levels_kept = λ n. llong ∙ kept (omega arith);
   bytes_long = blong;
   level = λ e h. level e (omega arith);
   byte = λ e h gone. byte e h gone;
-  taken = λ e h. picked e h ∙ (removed e h ∙ (sym (or_none (has (removed_after edges 0) e)) ∙ gone_next edges 0 e h));
+  taken = λ e h. picked_byte k graph l bytes small are set e h ∙ (removed e h ∙ (sym (or_none (has (removed_after edges 0) e)) ∙ gone_next edges 0 e h));
 } where
   edges : List (List ℕ)
   edges = graph.edges
@@ -77,24 +89,15 @@ first_round k graph l order levels levels' bytes small are a kept zero blong set
   found : (e : ℕ) → e < length graph.edges → ltb (free_position l graph.edges e) k ≡ is_picked l graph.edges e
   found e h = found_within (is_free l) (ends_at edges e) k (are e [] h).0
 
-  picked : (e : ℕ) → e < length graph.edges → ltb (get_or bytes e 0) 8 ≡ is_picked l graph.edges e
-  picked e h = ap (λ x. ltb x 8) (set e h) ∙ go (cases_lt (free_position l edges e) k) where
-    go : (free_position l graph.edges e < k) ⊎ (k ≤ free_position l graph.edges e) → ltb (first_byte k l graph.edges e) 8 ≡ is_picked l graph.edges e
-    go (inl low) = ap (λ x. ltb x 8) (cond-true _ (free_position l graph.edges e) 8 (lt-ltb _ k low)) ∙ (lt-ltb _ 8 (omega arith) ∙ (sym (lt-ltb _ k low) ∙ found e h))
-    go (inr high) = ap (λ x. ltb x 8) (cond-false _ (free_position l graph.edges e) 8 (le-ltb _ k high)) ∙ (sym (le-ltb _ k high) ∙ found e h)
-
   removed : (e : ℕ) → e < length graph.edges → is_picked l graph.edges e ≡ has (removed_after graph.edges 0) e
   removed e h =
       let here : has (left_after edges 0) e ≡ true = has_left_from edges 0 e h refl in
       picked_is graph 0 l e a here ∙ sym (has_removed edges 0 e ∙ ap (λ b. b && not (is_held edges (left_after edges 0) e)) here)
 
-  is : order ≡ removed_after graph.edges 0
-  is = order_is ∙ (ap (λ n. filter (λ e. ltb (get_or bytes e 0) 8) (numbers_from 0 n)) blong ∙ (filter_agree_on (λ e. ltb (get_or bytes e 0) 8) (is_picked l edges) (places edges) (λ e m. picked e (place_below edges e m)) ∙ picked_first graph l a))
-
   level : (e : ℕ) → e < length levels → get_or levels' e 0 ≡ cond (is_left graph.edges 1 e) 0 (level_of graph.edges e)
   level e h =
       let place : e < length edges = omega (arith, kept (omega arith)) in
-      lset e h ∙ (ap (λ x. cond (has order e) 1 x) (zero e h) ∙ (ap (λ (xs : List ℕ). cond (has xs e) 1 0) is ∙ levels_next edges 0 e place (λ _. omega arith)))
+      lset e h ∙ (ap (λ x. cond (has round e) 1 x) (zero e h) ∙ (ap (λ (xs : List ℕ). cond (has xs e) 1 0) is ∙ levels_next edges 0 e place))
 
   byte : (e : ℕ) → e < length graph.edges → is_left graph.edges 1 e ≡ false → get_or bytes e 0 ≡ byte_of graph.edges e
   byte e h gone =

@@ -1,5 +1,6 @@
 pub mod Advance
 pub mod Alone
+pub mod ByBlocks
 pub mod Chunks
 pub mod Ending
 pub mod Falls
@@ -8,10 +9,14 @@ pub mod Halves
 pub mod InRound
 pub mod Incident
 pub mod Listing
+pub mod Marked
 pub mod Marking
 pub mod NextRound
+pub mod Pairs
+pub mod Parts
 pub mod Pieces
 pub mod RoundFacts
 pub mod Sets
 pub mod Taking
 pub mod Unlinking
+pub mod Waits

@@ -1,26 +1,28 @@
 -- From one round to the next.
-use Rattle.std.proofs.Common.{◌≡◌, ◌⊎◌, ℕ, suc, ◌+◌, ◌-◌, ◌<◌, ◌≤◌, Bool, true, false, cond, not, eqb, ◌&&◌, ◌||◌, List, ◌++◌, length, get_or, take, drop, sym, refl, ap, ◌∙◌, subst, inl, inr, arith, append_assoc, length-append, length-drop, nat_cmp}
+use Rattle.std.proofs.Common.{◌≡◌, ◌≢◌, ◌⊎◌, ℕ, suc, ◌+◌, ◌*◌, ◌/◌, ◌%◌, ◌<◌, ◌≤◌, Bool, true, false, cond, not, eqb, ◌&&◌, ◌||◌, List, [], length, get_or, take, drop, sym, refl, ap, ◌∙◌, subst, inl, inr, arith, length-drop, nat_cmp}
 use Rattle.std.specs.List.{All, IsDistinct}
 use Rattle.std.specs.List.Sorted.{IsStrictlyIncreasing, IsSorted, IsPermutation}
-use Rattle.std.proofs.Math.Seq.{drop-append-add, drop-append_seam, take-append_seam, take-length}
-use Rattle.std.proofs.lemmas.Bool.{cases_Bool, and_parts, and_from, cases_eq, eq-eqb, ne_eqb}
-use Rattle.std.proofs.lemmas.List.{get_or-take, get_or-drop, take-append-le, drop-append-le, take-append-drop, length-take-le, take_all}
+use Rattle.std.proofs.lemmas.Bool.{cases_Bool, and_parts, and_from, or_right, cases_eq, eq-eqb, ne_eqb, not_from_false}
+use Rattle.std.proofs.lemmas.List.{get_or-take, get_or-drop, length-take-le}
 use Rattle.std.proofs.lemmas.List.Elements.{All-from_get_or, Contains-get_or}
 use Rattle.std.proofs.lemmas.List.Sorted.{list_any-IsPermutation}
 use Rattle.std.proofs.lemmas.Map.Keys.{IsDistinct-IsPermutation}
 use Rattle.cm_spec.specs.Lists.{has}
-use Rattle.cm_spec.specs.Rounds.{is_left, is_held, left_after, removed_after, level_of, order_upto}
+use Rattle.cm_spec.specs.Graph.{AreEdges, ends_at}
+use Rattle.cm_spec.specs.Rounds.{is_left, is_held, left_after, removed_after, level_of, pivot_of}
 use Rattle.cm_graph.specs.Graph.{Graph, Links}
-use Rattle.cm_peel.specs.Incident.{AreLinked, is_picked}
-use Rattle.cm_peel.specs.AtRound.{AtRound, InRound, byte_of}
+use Rattle.cm_peel.specs.Incident.{AreLinked, is_half_left, is_picked}
+use Rattle.cm_peel.specs.AtRound.{AtRound, InRound, byte_of, is_half_kept, other_places}
 use Rattle.cm_peel.specs.SetLaws.{increasing_from_Rises, Rises-from_increasing, has-from_Contains}
-use Rattle.cm_peel.specs.RoundLaws.{has_left, has_place, has_left_from, is_left_from, has_removed, removed_rises, removed_is_left, length-order}
+use Rattle.cm_peel.specs.RoundLaws.{has_left, has_place, has_left_from, is_left_from, has_removed, removed_rises, removed_is_left}
 use Rattle.cm_peel.proofs.Incident.{AreLinked-agree}
+use Rattle.cm_peel.proofs.Halves.{others_place_found, others_place_there}
 use Rattle.cm_peel.proofs.Pieces.{rises_sorted}
 use Rattle.cm_peel.proofs.Sets.{same_from}
 use Rattle.cm_peel.proofs.Taking.{are_distinct}
 use Rattle.cm_peel.proofs.RoundFacts.{picked_is, rising_same}
-use Rattle.cm_peel.proofs.Advance.{byte_is, falls_removed, levels_next, still_early}
+use Rattle.cm_peel.proofs.Falls.{falls_early, removed_gone}
+use Rattle.cm_peel.proofs.Advance.{byte_is, falls_removed, levels_next}
 
 -- the edges of a round
 pub round_rises : (edges : List (List ℕ)) (t : ℕ) → IsStrictlyIncreasing (removed_after edges t)
@@ -31,13 +33,6 @@ round_inside edges t e m = is_left_from edges t e (removed_is_left edges t e m)
 
 pub round_places : (edges : List (List ℕ)) (t : ℕ) → All (λ e. e < length edges) (removed_after edges t)
 round_places edges t = All-from_get_or (λ e. e < length edges) (removed_after edges t) 0 (λ k h. (round_inside edges t _ (has-from_Contains (removed_after edges t) _ (Contains-get_or (removed_after edges t) k 0 h))).0)
-
--- the round stands in the order
-pub piece_is : (upto round next order : List ℕ) (start at d n : ℕ) → order ≡ (upto ++ round) ++ next → start ≡ length upto → at ≡ start + d → d + n ≤ length round → take n (drop at order) ≡ take n (drop d round)
-piece_is upto round next order start at d n is from place few =
-    let z : at ≡ length upto + d = omega arith in
-    ap (λ k. take n (drop k order)) z ∙ (ap (λ (xs : List ℕ). take n (drop (length upto + d) xs)) (is ∙ append_assoc upto round next) ∙ (ap (take n) (drop-append-add upto (round ++ next) d)
-    ∙ (ap (take n) (drop-append-le d round next (omega arith)) ∙ take-append-le n (drop d round) next (omega (arith, length-drop d round)))))
 
 -- a piece of the round
 pub piece_at : (round : List ℕ) (d n k : ℕ) → k < n → get_or (take n (drop d round)) k 0 ≡ get_or round (d + k) 0
@@ -52,21 +47,46 @@ piece_rises round d n up few k h =
     let less : get_or round (d + k) 0 < get_or round ((d + k) + 1) 0 = up (d + k) (omega arith) in
     omega arith
 
--- after the last chunk
-pub all_unlinked : (graph : Graph) (t : ℕ) (l : Links) → AreLinked graph (λ e. is_left graph.edges t e && not (has (take (length (removed_after graph.edges t)) (removed_after graph.edges t)) e)) l → AreLinked graph (is_left graph.edges (suc t)) l
-all_unlinked graph t l a =
-    let edges : List (List ℕ) = graph.edges in
-    AreLinked-agree graph (λ e. is_left edges t e && not (has (take (length (removed_after edges t)) (removed_after edges t)) e)) (is_left edges (suc t)) l a (λ k h.
-    let left : has (left_after edges t) k ≡ is_left edges t k = has_left edges t k ∙ ap (λ b. b && is_left edges t k) (has_place edges k h) in
-    let gone : has (removed_after edges t) k ≡ (is_left edges t k && not (is_held edges (left_after edges t) k)) = has_removed edges t k ∙ ap (λ b. b && not (is_held edges (left_after edges t) k)) left in
-    sym (ap (λ (xs : List ℕ). is_left edges t k && not (has xs k)) (take-length (removed_after edges t)) ∙ (ap (λ b. is_left edges t k && not b) gone ∙ keeps (is_left edges t k) (is_held edges (left_after edges t) k)))) where
-      keeps : (a b : Bool) → (a && not (a && not b)) ≡ (a && b)
-      keeps true true = refl
-      keeps true false = refl
-      keeps false b = refl
+-- after the last removal
+pub all_unlinked : (k : ℕ) (graph : Graph) (t : ℕ) (l : Links) → k ≤ 3 → AreEdges k graph.vertices graph.edges → AreLinked graph (is_half_kept graph.edges t (other_places graph.edges (removed_after graph.edges t))) l → AreLinked graph (is_half_left graph.edges (suc t)) l
+all_unlinked k graph t l small are a = AreLinked-agree graph (is_half_kept edges t (other_places edges (removed_after edges t))) (is_half_left edges (suc t)) l a (λ e j h low. go e j h low (cases_eq j (pivot_of edges e))) where
+  edges : List (List ℕ)
+  edges = graph.edges
+
+  round : List ℕ
+  round = removed_after graph.edges t
+
+  few : (e : ℕ) → has round e ≡ true → length (ends_at graph.edges e) ≤ 4
+  few e m = omega (arith, (are e [] (round_inside edges t e m).0).0)
+
+  found : (e j : ℕ) → e < length graph.edges → j < length (ends_at graph.edges e) → has (other_places graph.edges round) (4 * e + j) ≡ true → (has round e ≡ true) × (j ≢ pivot_of graph.edges e)
+  found e j h low m =
+      let r = others_place_found edges (pivot_of edges) round (4 * e + j) few m in
+      let edge : (4 * e + j) / 4 ≡ e = omega (arith, low, (are e [] h).0) in
+      let position : (4 * e + j) % 4 ≡ j = omega (arith, low, (are e [] h).0) in
+      (subst (λ x. has round x ≡ true) edge r.0, λ s. r.1 (position ∙ (s ∙ ap (pivot_of edges) (sym edge))))
+
+  keeps : (a b : Bool) → ((a && b) || false) ≡ ((a || false) && not (a && not b))
+  keeps true true = refl
+  keeps true false = refl
+  keeps false b = refl
+
+  go : (e j : ℕ) → e < length graph.edges → j < length (ends_at graph.edges e) → (j ≡ pivot_of graph.edges e) ⊎ (j ≡ pivot_of graph.edges e → ⊥) → is_half_left graph.edges (suc t) e j ≡ is_half_kept graph.edges t (other_places graph.edges round) e j
+  go e j h low (inl pivot) =
+      let here : eqb j (pivot_of edges e) ≡ true = eq-eqb _ _ pivot in
+      or_right (is_left edges (suc t) e) _ here ∙ sym (and_from _ _ (or_right (is_left edges t e) _ here) (not_from_false _ (by (cases_Bool (has (other_places edges round) (4 * e + j)))))) where
+        by : (has (other_places graph.edges round) (4 * e + j) ≡ true) ⊎ (has (other_places graph.edges round) (4 * e + j) ≡ false) → has (other_places graph.edges round) (4 * e + j) ≡ false
+        by (inr m) = m
+        by (inl m) = absurd ((found e j h low m).1 pivot)
+  go e j h low (inr other) =
+      let left : has (left_after edges t) e ≡ is_left edges t e = has_left edges t e ∙ ap (λ b. b && is_left edges t e) (has_place edges e h) in
+      let gone : has round e ≡ (is_left edges t e && not (is_held edges (left_after edges t) e)) = has_removed edges t e ∙ ap (λ b. b && not (is_held edges (left_after edges t) e)) left in
+      let lost : has (other_places edges round) (4 * e + j) ≡ has round e = same_from (λ m. (found e j h low m).0) (λ m. others_place_there edges (pivot_of edges) round e j m low other) in
+      ap (λ b. is_left edges (suc t) e || b) (ne_eqb _ _ other) ∙ (keeps (is_left edges t e) (is_held edges (left_after edges t) e)
+      ∙ (ap (λ b. (is_left edges t e || false) && not b) (sym (lost ∙ gone)) ∙ ap (λ b. (is_left edges t e || b) && not (has (other_places edges round) (4 * e + j))) (sym (ne_eqb _ _ other))))
 
 -- what was added is the next round
-pub next_members : (graph : Graph) (t : ℕ) (l : Links) (next : List ℕ) → AreLinked graph (is_left graph.edges (suc t)) l → ((e : ℕ) → has next e ≡ true → e < length graph.edges) → ((e : ℕ) → e < length graph.edges → has next e ≡ (is_left graph.edges (suc t) e && is_picked l graph.edges e))
+pub next_members : (graph : Graph) (t : ℕ) (l : Links) (next : List ℕ) → AreLinked graph (is_half_left graph.edges (suc t)) l → ((e : ℕ) → has next e ≡ true → e < length graph.edges) → ((e : ℕ) → e < length graph.edges → has next e ≡ (is_left graph.edges (suc t) e && is_picked l graph.edges e))
     → (e : ℕ) → (has next e ≡ true → has (removed_after graph.edges (suc t)) e ≡ true) × (has (removed_after graph.edges (suc t)) e ≡ true → has next e ≡ true)
 next_members graph t l next a inside members e = (to, from) where
   to : has next e ≡ true → has (removed_after graph.edges (suc t)) e ≡ true
@@ -88,15 +108,15 @@ eqb-flip x y = elim (cases_eq x y) [
   | inr other ↦ ne_eqb x y other ∙ sym (ne_eqb y x (λ s. other (sym s)))
 ]
 
-pub next_sorted : (graph : Graph) (t : ℕ) (l : Links) (order bytes xs : List ℕ) (r : InRound graph t (length (removed_after graph.edges t)) l order bytes) → IsPermutation r.next xs → IsSorted nat_cmp xs → xs ≡ removed_after graph.edges (suc t)
-next_sorted graph t l order bytes xs r moved up =
-    let a : AreLinked graph (is_left graph.edges (suc t)) l = all_unlinked graph t l r.linked in
-    let apart : IsDistinct eqb xs = IsDistinct-IsPermutation eqb eqb-flip r.next xs moved (are_distinct r.next r.apart) in
-    let same : (e : ℕ) → has r.next e ≡ has xs e = (λ e. list_any-IsPermutation (λ x. eqb x e) r.next xs moved) in
+pub next_sorted : (k : ℕ) (graph : Graph) (t : ℕ) (l : Links) (next bytes xs : List ℕ) → InRound graph t (other_places graph.edges (removed_after graph.edges t)) l next bytes → k ≤ 3 → AreEdges k graph.vertices graph.edges → IsPermutation next xs → IsSorted nat_cmp xs → xs ≡ removed_after graph.edges (suc t)
+next_sorted k graph t l next bytes xs r small are moved up =
+    let a : AreLinked graph (is_half_left graph.edges (suc t)) l = all_unlinked k graph t l small are r.linked in
+    let apart : IsDistinct eqb xs = IsDistinct-IsPermutation eqb eqb-flip next xs moved (are_distinct next r.apart) in
+    let same : (e : ℕ) → has next e ≡ has xs e = (λ e. list_any-IsPermutation (λ x. eqb x e) next xs moved) in
     rising_same graph.edges xs (removed_after graph.edges (suc t)) (Rises-from_increasing 0 xs (rises_sorted xs up apart) (λ _. omega arith)) (removed_rises graph.edges (suc t))
     (λ e m. (round_inside graph.edges (suc t) e m).0)
-    (λ e m. (next_members graph t l r.next a r.inside r.members e).0 (same e ∙ m))
-    (λ e m. sym (same e) ∙ (next_members graph t l r.next a r.inside r.members e).1 m)
+    (λ e m. (next_members graph t l next a r.inside r.members e).0 (same e ∙ m))
+    (λ e m. sym (same e) ∙ (next_members graph t l next a r.inside r.members e).1 m)
 
 -- what a round removes is not left after it, and the rest of what was left before is
 pub gone_next : (edges : List (List ℕ)) (t e : ℕ) → e < length edges → (has (removed_after edges t) e || not (is_left edges t e)) ≡ not (is_left edges (suc t) e)
@@ -110,67 +130,42 @@ gone_next edges t e h =
       go false b = refl
 
 -- the state after one more round
-pub next_round : (graph : Graph) (t : ℕ) (l m : Links) (start : ℕ) (order levels bytes order₁ bytes₁ order₂ levels₂ : List ℕ) → AtRound graph t l start order levels bytes → start < length order
-    → (r : InRound graph t (length (removed_after graph.edges t)) m order₁ bytes₁) → (xs : List ℕ) → xs ≡ removed_after graph.edges (suc t) → order₂ ≡ order_upto graph.edges (suc t) ++ xs
-    → length levels₂ ≡ length levels → ((e : ℕ) → e < length levels → get_or levels₂ e 0 ≡ cond (has xs e) (suc (suc t)) (get_or levels e 0)) → AtRound graph (suc t) m (length order) order₂ levels₂ bytes₁
-next_round graph t l m start order levels bytes order₁ bytes₁ order₂ levels₂ a some r xs is order_is llong lset =
-    let edges : List (List ℕ) = graph.edges in
-    let same : length order ≡ length (order_upto edges (suc t)) = ap length a.order_is in
-    record {
-      linked = linked;
-      start_is = same;
-      order_is = order_is ∙ ap (λ (ys : List ℕ). order_upto edges (suc t) ++ ys) is;
-      few = omega (arith, a.few);
-      levels_kept = λ n. llong ∙ a.levels_kept (omega arith);
-      bytes_long = r.bytes_long;
-      level = λ e h. level e (omega arith);
-      byte = λ e h gone. byte e h gone (cases_Bool (is_left edges (suc t) e));
-      taken = λ e h. r.taken e h ∙ (ap (λ b. b || not (is_left edges (suc t) e)) (members e) ∙ gone_next edges (suc t) e h);
-    } where
-      linked : AreLinked graph (is_left graph.edges (suc t)) m
-      linked = all_unlinked graph t m r.linked
+pub next_round : (k : ℕ) (graph : Graph) (t : ℕ) (l m : Links) (levels bytes next bytes₁ round levels₂ : List ℕ) → k ≤ 3 → AreEdges k graph.vertices graph.edges → AtRound graph t l levels bytes → InRound graph t (other_places graph.edges (removed_after graph.edges t)) m next bytes₁ → round ≡ removed_after graph.edges (suc t)
+    → length levels₂ ≡ length levels → ((e : ℕ) → e < length levels → get_or levels₂ e 0 ≡ cond (has round e) (suc (suc t)) (get_or levels e 0)) → AtRound graph (suc t) m levels₂ bytes₁
+next_round k graph t l m levels bytes next bytes₁ round levels₂ small are a r is llong lset = record {
+  linked = linked;
+  levels_kept = λ n. llong ∙ a.levels_kept (omega arith);
+  bytes_long = r.bytes_long;
+  level = λ e h. level e (omega arith);
+  byte = λ e h gone. byte e h gone (cases_Bool (is_left edges (suc t) e));
+  taken = λ e h. r.taken e h ∙ (ap (λ b. b || not (is_left edges (suc t) e)) (members e) ∙ gone_next edges (suc t) e h);
+} where
+  edges : List (List ℕ)
+  edges = graph.edges
 
-      early : (e : ℕ) → e < length graph.edges → is_left graph.edges (suc t) e ≡ true → suc t < length graph.edges
-      early = still_early graph.edges (suc t) (omega (arith, a.few, ap length a.order_is, length-order graph.edges (suc t)))
+  linked : AreLinked graph (is_half_left graph.edges (suc t)) m
+  linked = all_unlinked k graph t m small are r.linked
 
-      level : (e : ℕ) → e < length levels → get_or levels₂ e 0 ≡ cond (is_left graph.edges (suc (suc t)) e) 0 (level_of graph.edges e)
-      level e h =
-          let edges : List (List ℕ) = graph.edges in
-          let place : e < length edges = omega (arith, a.levels_kept (omega arith)) in
-          lset e h ∙ (ap (λ x. cond (has xs e) (suc (suc t)) x) (a.level e h) ∙ (ap (λ (ys : List ℕ). cond (has ys e) (suc (suc t)) (cond (is_left edges (suc t) e) 0 (level_of edges e))) is ∙ levels_next edges (suc t) e place (early e place)))
+  level : (e : ℕ) → e < length levels → get_or levels₂ e 0 ≡ cond (is_left graph.edges (suc (suc t)) e) 0 (level_of graph.edges e)
+  level e h =
+      let place : e < length edges = omega (arith, a.levels_kept (omega arith)) in
+      lset e h ∙ (ap (λ x. cond (has round e) (suc (suc t)) x) (a.level e h) ∙ (ap (λ (ys : List ℕ). cond (has ys e) (suc (suc t)) (cond (is_left edges (suc t) e) 0 (level_of edges e))) is ∙ levels_next edges (suc t) e place))
 
-      members : (e : ℕ) → has r.next e ≡ has (removed_after graph.edges (suc t)) e
-      members e = let both = next_members graph t m r.next linked r.inside r.members e in same_from both.0 both.1
+  members : (e : ℕ) → has next e ≡ has (removed_after graph.edges (suc t)) e
+  members e = let both = next_members graph t m next linked r.inside r.members e in same_from both.0 both.1
 
-      byte : (e : ℕ) → e < length graph.edges → is_left graph.edges (suc (suc t)) e ≡ false → (is_left graph.edges (suc t) e ≡ true) ⊎ (is_left graph.edges (suc t) e ≡ false) → get_or bytes₁ e 0 ≡ byte_of graph.edges e
-      byte e h gone (inr before) = r.byte e h before
-      byte e h gone (inl here) = r.next_byte e (members e ∙ falls_removed graph.edges (suc t) e h here gone) ∙ byte_is graph (suc t) m e linked h here gone
+  byte : (e : ℕ) → e < length graph.edges → is_left graph.edges (suc (suc t)) e ≡ false → (is_left graph.edges (suc t) e ≡ true) ⊎ (is_left graph.edges (suc t) e ≡ false) → get_or bytes₁ e 0 ≡ byte_of graph.edges e
+  byte e h gone (inr before) = r.byte e h before
+  byte e h gone (inl here) = r.next_byte e (members e ∙ falls_removed graph.edges (suc t) e h here gone) ∙ byte_is graph (suc t) m e linked h here gone
 
--- what stands in the order after the round
-pub next_is : (graph : Graph) (t : ℕ) (l : Links) (order bytes old : List ℕ) (at : ℕ) → (r : InRound graph t (length (removed_after graph.edges t)) l order bytes) → old ≡ order → at ≡ length (order_upto graph.edges (suc t)) → drop at old ≡ r.next
-next_is graph t l order bytes old at r is place =
-    let upto : List ℕ = order_upto graph.edges (suc t) in
-    ap (drop at) (is ∙ r.order_is) ∙ (ap (λ n. drop n (upto ++ r.next)) place ∙ drop-append_seam upto r.next)
+pub next_places : (graph : Graph) (t : ℕ) (gone : List ℕ) (l : Links) (next bytes : List ℕ) → InRound graph t gone l next bytes → All (λ e. e < length graph.edges) next
+next_places graph t gone l next bytes r = All-from_get_or (λ e. e < length graph.edges) next 0 (λ i h. r.inside _ (has-from_Contains next _ (Contains-get_or next i 0 h)))
 
-pub next_places : (graph : Graph) (t : ℕ) (l : Links) (order bytes : List ℕ) → (r : InRound graph t (length (removed_after graph.edges t)) l order bytes) → All (λ e. e < length graph.edges) r.next
-next_places graph t l order bytes r = All-from_get_or (λ e. e < length graph.edges) r.next 0 (λ i h. r.inside _ (has-from_Contains r.next _ (Contains-get_or r.next i 0 h)))
-
--- the order after its end is sorted
-pub sorted_round : (graph : Graph) (t : ℕ) (l : Links) (order bytes old new : List ℕ) (at : ℕ) → InRound graph t (length (removed_after graph.edges t)) l order bytes → old ≡ order → at ≡ length (order_upto graph.edges (suc t)) → take at new ≡ take at old → IsSorted nat_cmp (drop at new) → IsPermutation (drop at old) (drop at new)
-    → (drop at new ≡ removed_after graph.edges (suc t)) × (new ≡ order_upto graph.edges (suc t) ++ drop at new)
-sorted_round graph t l order bytes old new at r is place front up moved =
-    let upto : List ℕ = order_upto graph.edges (suc t) in
-    let whole : old ≡ upto ++ r.next = is ∙ r.order_is in
-    let before : take at old ≡ upto = ap (take at) whole ∙ (ap (λ n. take n (upto ++ r.next)) place ∙ take-append_seam upto r.next) in
-    let next : drop at old ≡ r.next = next_is graph t l order bytes old at r is place in
-    (next_sorted graph t l order bytes (drop at new) r (subst (λ (xs : List ℕ). IsPermutation xs (drop at new)) next moved) up, sym (take-append-drop at new) ∙ ap (λ (xs : List ℕ). xs ++ drop at new) (front ∙ before))
-
-pub tail_is : (xs : List ℕ) (at : ℕ) → take (length xs - at) (drop at xs) ≡ drop at xs
-tail_is xs at = take_all (length xs - at) (drop at xs) (omega (arith, length-drop at xs))
-
--- how long the order is
-pub order_fits : (graph : Graph) (t : ℕ) (l : Links) (start : ℕ) (order levels bytes : List ℕ) → AtRound graph t l start order levels bytes → length order ≤ length graph.edges
-order_fits graph t l start order levels bytes a = omega (arith, ap length a.order_is, length-order graph.edges (suc t))
-
-pub round_long : (graph : Graph) (t : ℕ) (l : Links) (start : ℕ) (order levels bytes : List ℕ) → AtRound graph t l start order levels bytes → length order ≡ start + length (removed_after graph.edges t)
-round_long graph t l start order levels bytes a = omega (arith, ap length a.order_is, a.start_is, length-append (order_upto graph.edges t) (removed_after graph.edges t))
+-- a round that removes an edge is one of fewer than there are edges
+pub round_early : (edges : List (List ℕ)) (t : ℕ) → 0 < length (removed_after edges t) → t < length edges
+round_early edges t some =
+    let round : List ℕ = removed_after edges t in
+    let e : ℕ = get_or round 0 0 in
+    let m : has round e ≡ true = has-from_Contains round e (Contains-get_or round 0 0 some) in
+    let in₁ = round_inside edges t e m in
+    falls_early edges t e in₁.0 in₁.1 (removed_gone edges t e m)

@@ -1,30 +1,12 @@
 -- Pieces of the lists that peeling keeps.
-use Rattle.std.proofs.Common.{◌≡◌, ◌≢◌, ℕ, zero, suc, ◌+◌, ◌-◌, ◌<◌, ◌≤◌, true, eqb, List, [], ◌∷◌, ◌++◌, length, get_or, take, drop, sym, refl, ap, ◌∙◌, inl, inr, arith, append-nil, length-append, length-drop, nat_cmp}
-use Rattle.std.specs.List.{All, IsDistinct}
+use Rattle.std.proofs.Common.{◌≡◌, ◌≢◌, ℕ, zero, suc, ◌+◌, ◌<◌, ◌≤◌, true, eqb, List, ◌∷◌, ◌++◌, length, get_or, take, drop, sym, refl, ap, ◌∙◌, inl, inr, arith, length-append, length-drop, nat_cmp}
+use Rattle.std.specs.List.{IsDistinct}
 use Rattle.std.specs.Ordering.{is_lt}
 use Rattle.std.specs.List.Sorted.{IsSorted, IsStrictlyIncreasing}
 use Rattle.std.proofs.lemmas.Bool.{cases_lt, lt-ltb, eqb-false, false≢true}
 use Rattle.std.proofs.lemmas.Map.Keys.{apart_from_distinct}
-use borrow.Rule.Slice.PartMut.{put_mid}
-use Rattle.std.proofs.Math.Seq.{drop-append_seam}
 use Rattle.std.proofs.lemmas.List.{length-take-le, take-append-le, take_all}
-use Rattle.std.proofs.lemmas.List.Elements.{All-from_get_or}
 use Rattle.cm_spec.specs.Lists.{numbers_from}
-use Rattle.cm_peel.specs.SetLaws.{length-numbers, get_or-numbers}
-
-drop_all : {X : Type 0} (xs : List X) (n : ℕ) → length xs ≤ n → drop n xs ≡ []
-drop_all [] zero h = refl
-drop_all [] (suc n) h = refl
-drop_all (x ∷ xs) zero h = absurd (omega arith)
-drop_all (x ∷ xs) (suc n) h = drop_all xs n (omega arith)
-
--- what a write to the end of a list leaves there
-pub tail_written : (xs ys : List ℕ) (a : ℕ) → a ≤ length xs → length ys ≡ length xs - a → drop a (put_mid a (length xs - a) xs ys) ≡ ys
-tail_written xs ys a h long =
-    let n : length (take a xs) ≡ a = length-take-le a xs h in
-    let past : List ℕ = drop (length xs - a) (drop a xs) in
-    let none : past ≡ [] = drop_all (drop a xs) (length xs - a) (omega (arith, length-drop a xs)) in
-    ap (λ k. drop k (take a xs ++ (ys ++ past))) (sym n) ∙ (drop-append_seam (take a xs) (ys ++ past) ∙ (ap (λ zs. ys ++ zs) none ∙ append-nil ys))
 
 -- a sorted list in which no number stands twice rises
 pub rises_sorted : (xs : List ℕ) → IsSorted nat_cmp xs → IsDistinct eqb xs → IsStrictlyIncreasing xs
@@ -54,11 +36,6 @@ numbers-append b (suc a) n =
     let z : b + suc a ≡ suc b + a = omega arith in
     let y : suc a + n ≡ suc (a + n) = omega arith in
     rw (z, y) (ap (λ xs. b ∷ xs) (numbers-append (suc b) a n))
-
-pub numbers_below : (b n m : ℕ) → b + n ≤ m → All (λ e. e < m) (numbers_from b n)
-numbers_below b n m h = All-from_get_or (λ e. e < m) (numbers_from b n) 0 (λ k low.
-    let short : k < n = omega (arith, length-numbers b n) in
-    omega (arith, get_or-numbers b n k short))
 
 -- a slice that is written back to its Vec
 pub written_back : {X : Type 0} (new old : List X) (n : ℕ) → n ≡ length old → length new ≡ length old → take n (new ++ drop (length new) old) ≡ new

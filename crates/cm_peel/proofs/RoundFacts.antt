@@ -6,29 +6,26 @@ use Rattle.cm_spec.specs.Lists.{has}
 use Rattle.cm_spec.specs.Graph.{touches, places, ends_at, degree_in}
 use Rattle.cm_spec.specs.Rounds.{is_left, is_held, left_after, removed_after}
 use Rattle.cm_graph.specs.Graph.{Graph, Links, degree_of}
-use Rattle.cm_peel.specs.Incident.{AreLinked, is_picked}
-use Rattle.cm_peel.proofs.Incident.{IsLive, degree_linked, live_linked}
-use Rattle.cm_peel.specs.SetLaws.{count_by-cons, Rises, filter_agree_on, rising_is_filter}
+use Rattle.cm_peel.specs.Incident.{AreLinked, is_half_left, is_picked}
+use Rattle.cm_peel.proofs.Incident.{IsLive, lies, degree_is, lies_left, live}
+use Rattle.cm_peel.specs.SetLaws.{count_by-cons, count_by-filter, Rises, filter_agree_on, rising_is_filter}
 use Rattle.cm_peel.specs.CoreLaws.{left_after-zero, left_after_is}
-use Rattle.cm_peel.specs.RoundLaws.{degree_some, is_left_from}
+use Rattle.cm_peel.specs.RoundLaws.{degree_some, is_left_from, place_below}
 
-pub count_by_found : (p : ℕ → Bool) (xs : List ℕ) → 1 ≤ count_by p xs → (e : ℕ) × (has xs e ≡ true) × (p e ≡ true)
-count_by_found p [] h = absurd (omega arith)
-count_by_found p (x ∷ xs) h = go (cases_Bool (p x)) (count_by_found p xs) where
-  go : (p x ≡ true) ⊎ (p x ≡ false) → (1 ≤ count_by p xs → (e : ℕ) × (has xs e ≡ true) × (p e ≡ true)) → (e : ℕ) × (has (x ∷ xs) e ≡ true) × (p e ≡ true)
-  go (inl pass) ih = (x, or_left (eqb x x) (has xs x) (eq-eqb x x refl), pass)
-  go (inr fail) ih =
-      let o : cond {A = ℕ} (p x) 1 0 ≡ 0 = ap (λ (b : Bool). cond {A = ℕ} b 1 0) fail in
-      let c : count_by p (x ∷ xs) ≡ cond (p x) 1 0 + count_by p xs = count_by-cons p x xs in
-      let r = ih (omega arith) in
-      (r.0, or_right (eqb x r.0) (has xs r.0) r.1, r.2)
+-- how many pass a test that agrees with another one
+pub count_by_agree : (p q : ℕ → Bool) (xs : List ℕ) → ((e : ℕ) → has xs e ≡ true → p e ≡ q e) → count_by p xs ≡ count_by q xs
+count_by_agree p q [] same = refl
+count_by_agree p q (x ∷ xs) same =
+    count_by-cons p x xs ∙ (ap (λ b. cond b 1 0 + count_by p xs) (same x (or_left _ _ (eq-eqb x x refl)))
+    ∙ (ap (λ n. cond (q x) 1 0 + n) (count_by_agree p q xs (λ e m. same e (or_right (eqb x e) _ m))) ∙ sym (count_by-cons q x xs)))
 
 -- degrees in the incidence
-pub live_left : (edges : List (List ℕ)) (t e v : ℕ) → e < length edges → is_left edges t e ≡ true → touches v (ends_at edges e) ≡ true → IsLive edges (is_left edges t) v
-live_left edges t e v h here touching = live_linked edges (is_left edges t) t e v (λ x gone. and_left (is_left edges t x) (is_held edges (left_after edges t) x) gone) h here here touching
-
-pub degree_left : (graph : Graph) (t : ℕ) (l : Links) (v : ℕ) → AreLinked graph (is_left graph.edges t) l → IsLive graph.edges (is_left graph.edges t) v → degree_of l v ≡ degree_in graph.edges (left_after graph.edges t) v
-degree_left graph t l v a alone = degree_linked graph (is_left graph.edges t) l v a alone ∙ ap (λ s. degree_in graph.edges s v) (sym (left_after_is graph.edges t))
+pub degree_left : (graph : Graph) (t : ℕ) (l : Links) (v : ℕ) → AreLinked graph (is_half_left graph.edges t) l → IsLive graph.edges t v → degree_of l v ≡ degree_in graph.edges (left_after graph.edges t) v
+degree_left graph t l v a alone =
+    let edges : List (List ℕ) = graph.edges in
+    degree_is graph (is_half_left edges t) l v a
+    ∙ (count_by_agree (lies edges (is_half_left edges t) v) (λ e. is_left edges t e && touches v (ends_at edges e)) (places edges) (λ e m. lies_left edges t v e (alone e (place_below edges e m)))
+    ∙ (sym (count_by-filter (is_left edges t) (λ e. touches v (ends_at edges e)) (places edges)) ∙ ap (λ s. degree_in edges s v) (sym (left_after_is edges t))))
 
 pub any_not_all : (d e : ℕ → ℕ) (ends : List ℕ) → ((v : ℕ) → has ends v ≡ true → d v ≡ e v) → ((v : ℕ) → has ends v ≡ true → 1 ≤ d v) → list_any (λ v. eqb (d v) 1) ends ≡ not (list_all (λ v. leb 2 (e v)) ends)
 any_not_all d e [] same some = refl
@@ -43,16 +40,16 @@ any_not_all d e (x ∷ xs) same some = go (cases_lt (d x) 2) (same x (or_left _ 
       ap (λ b. b || list_any (λ v. eqb (d v) 1) xs) f ∙ (ih ∙ sym (ap (λ b. not (b && list_all (λ v. leb 2 (e v)) xs)) g))
 
 -- an edge that is left is picked exactly where the next round removes it
-pub picked_is : (graph : Graph) (t : ℕ) (l : Links) (e : ℕ) → AreLinked graph (is_left graph.edges t) l → has (left_after graph.edges t) e ≡ true → is_picked l graph.edges e ≡ not (is_held graph.edges (left_after graph.edges t) e)
+pub picked_is : (graph : Graph) (t : ℕ) (l : Links) (e : ℕ) → AreLinked graph (is_half_left graph.edges t) l → has (left_after graph.edges t) e ≡ true → is_picked l graph.edges e ≡ not (is_held graph.edges (left_after graph.edges t) e)
 picked_is graph t l e a m =
     let here = is_left_from graph.edges t e m in
-    let same : (v : ℕ) → has (ends_at graph.edges e) v ≡ true → degree_of l v ≡ degree_in graph.edges (left_after graph.edges t) v = λ v h. degree_left graph t l v a (live_left graph.edges t e v here.0 here.1 h) in
+    let same : (v : ℕ) → has (ends_at graph.edges e) v ≡ true → degree_of l v ≡ degree_in graph.edges (left_after graph.edges t) v = λ v h. degree_left graph t l v a (live graph.edges t e v here.0 here.1 h) in
     any_not_all (degree_of l) (degree_in graph.edges (left_after graph.edges t)) (ends_at graph.edges e) same (λ v h. omega (arith, degree_some graph.edges t e v m h, same v h))
 
-pub picked_within : (graph : Graph) (t : ℕ) (l : Links) (xs : List ℕ) → AreLinked graph (is_left graph.edges t) l → ((e : ℕ) → has xs e ≡ true → has (left_after graph.edges t) e ≡ true) → filter (is_picked l graph.edges) xs ≡ filter (λ e. not (is_held graph.edges (left_after graph.edges t) e)) xs
+pub picked_within : (graph : Graph) (t : ℕ) (l : Links) (xs : List ℕ) → AreLinked graph (is_half_left graph.edges t) l → ((e : ℕ) → has xs e ≡ true → has (left_after graph.edges t) e ≡ true) → filter (is_picked l graph.edges) xs ≡ filter (λ e. not (is_held graph.edges (left_after graph.edges t) e)) xs
 picked_within graph t l xs a inside = filter_agree_on (is_picked l graph.edges) (λ e. not (is_held graph.edges (left_after graph.edges t) e)) xs (λ e m. picked_is graph t l e a (inside e m))
 
-pub picked_first : (graph : Graph) (l : Links) → AreLinked graph (is_left graph.edges 0) l → filter (is_picked l graph.edges) (places graph.edges) ≡ removed_after graph.edges 0
+pub picked_first : (graph : Graph) (l : Links) → AreLinked graph (is_half_left graph.edges 0) l → filter (is_picked l graph.edges) (places graph.edges) ≡ removed_after graph.edges 0
 picked_first graph l a =
     ap (filter (is_picked l graph.edges)) (sym (left_after-zero graph.edges)) ∙ picked_within graph 0 l (left_after graph.edges 0) a (λ e m. m)
 
@@ -70,14 +67,6 @@ has_map_from f (y ∷ ys) x h = go (or_cases (eqb y x) (has ys x) h) (has_map_fr
   go : (eqb y x ≡ true) ⊎ (has ys x ≡ true) → (has ys x ≡ true → has (map f ys) (f x) ≡ true) → (eqb (f y) (f x) || has (map f ys) (f x)) ≡ true
   go (inl same) ih = or_left _ _ (eq-eqb (f y) (f x) (ap f (eqb-true y x same)))
   go (inr more) ih = or_right _ _ (ih more)
-
--- a degree that fell was that of a removed edge's end
-pub count_by-both : (p q : ℕ → Bool) (xs : List ℕ) → count_by q (filter p xs) + count_by q (filter (λ e. not (p e)) xs) ≡ count_by q xs
-count_by-both p q [] = refl
-count_by-both p q (x ∷ xs) = go (p x) (count_by-both p q xs) where
-  go : (b : Bool) → count_by q (filter p xs) + count_by q (filter (λ e. not (p e)) xs) ≡ count_by q xs → count_by q (cond b (x ∷ filter p xs) (filter p xs)) + count_by q (cond (not b) (x ∷ filter (λ e. not (p e)) xs) (filter (λ e. not (p e)) xs)) ≡ count_by q (x ∷ xs)
-  go true ih = omega (arith, count_by-cons q x (filter p xs), count_by-cons q x xs)
-  go false ih = omega (arith, count_by-cons q x (filter (λ e. not (p e)) xs), count_by-cons q x xs)
 
 -- two rising lists of places that have the same
 pub rising_same : (edges : List (List ℕ)) (xs ys : List ℕ) → Rises 0 xs → Rises 0 ys → ((e : ℕ) → has ys e ≡ true → e < length edges) → ((e : ℕ) → has xs e ≡ true → has ys e ≡ true) → ((e : ℕ) → has ys e ≡ true → has xs e ≡ true) → xs ≡ ys

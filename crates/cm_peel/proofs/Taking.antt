@@ -125,9 +125,9 @@ least-is tag (p ∷ places) e b = go (eqb (p / 4) e) refl (least-is tag places e
   ]
 
 -- a place whose edge is of the round before, of the next one, or of none
-pub taken_more : (t : ℕ) (places : List ℕ) (q e x : ℕ) (bytes now bytes' order kept order' : List ℕ) → AreTaken t places bytes now order kept → e ≡ q / 4 → e < length bytes
-    → x ≡ cond (eqb (get_or bytes e 0 / 4) (t % 2)) (get_or now e 0) (min (get_or now e 0) (tag_of (suc t) + q % 4)) → bytes' ≡ set now e x → order' ≡ kept ++ cond (leb 8 (get_or now e 0)) (e ∷ []) [] → AreTaken t (places ++ q ∷ []) bytes bytes' order order'
-taken_more t places q e x bytes now bytes' order kept order' r at h is bytes_are order_is = go (cases_lt (get_or now e 0) 8) where
+pub taken_more : (t : ℕ) (places : List ℕ) (q e x : ℕ) (bytes now bytes' next kept next' : List ℕ) → AreTaken t places bytes now next kept → e ≡ q / 4 → e < length bytes
+    → x ≡ cond (eqb (get_or bytes e 0 / 4) (t % 2)) (get_or now e 0) (min (get_or now e 0) (tag_of (suc t) + q % 4)) → bytes' ≡ set now e x → next' ≡ kept ++ cond (leb 8 (get_or now e 0)) (e ∷ []) [] → AreTaken t (places ++ q ∷ []) bytes bytes' next next'
+taken_more t places q e x bytes now bytes' next kept next' r at h is bytes_are next_is = go (cases_lt (get_or now e 0) 8) where
   tag : ℕ
   tag = tag_of (suc t)
 
@@ -168,10 +168,10 @@ taken_more t places q e x bytes now bytes' order kept order' r at h is bytes_are
   longer : length bytes' ≡ length bytes
   longer = ap length bytes_are ∙ (length-set _ _ _ ∙ r.bytes_long)
 
-  push : 8 ≤ get_or now e 0 → AreTaken t (places ++ q ∷ []) bytes bytes' order order'
+  push : 8 ≤ get_or now e 0 → AreTaken t (places ++ q ∷ []) bytes bytes' next next'
   push far = record {
     fresh = r.fresh ++ e ∷ [];
-    order_is = order_is ∙ (ap (λ b. kept ++ cond b (e ∷ []) []) (le-leb 8 _ far) ∙ (ap (λ (xs : List ℕ). xs ++ e ∷ []) r.order_is ∙ append_assoc order r.fresh (e ∷ [])));
+    next_is = next_is ∙ (ap (λ b. kept ++ cond b (e ∷ []) []) (le-leb 8 _ far) ∙ (ap (λ (xs : List ℕ). xs ++ e ∷ []) r.next_is ∙ append_assoc next r.fresh (e ∷ [])));
     apart = AreApart-push r.fresh e r.apart new;
     members = λ k. members k (cases_eq e k);
     bytes_long = longer;
@@ -200,10 +200,10 @@ taken_more t places q e x bytes now bytes' order kept order' r at h is bytes_are
         let fails : eqb (q / 4) k ≡ false = ne_eqb _ _ (λ s. other (at ∙ s)) in
         has-push_other r.fresh e k other ∙ (r.members k ∙ ap (λ b. b && not (is_taken bytes k)) (sym (listed-push places q k ∙ (ap (λ b. is_listed places k || b) fails ∙ or_none (is_listed places k)))))
 
-  skip : get_or now e 0 < 8 → AreTaken t (places ++ q ∷ []) bytes bytes' order order'
+  skip : get_or now e 0 < 8 → AreTaken t (places ++ q ∷ []) bytes bytes' next next'
   skip near = record {
     fresh = r.fresh;
-    order_is = order_is ∙ (ap (λ b. kept ++ cond b (e ∷ []) []) (lt-leb 8 _ near) ∙ (append-nil kept ∙ r.order_is));
+    next_is = next_is ∙ (ap (λ b. kept ++ cond b (e ∷ []) []) (lt-leb 8 _ near) ∙ (append-nil kept ∙ r.next_is));
     apart = r.apart;
     members = λ k. r.members k ∙ members k (cases_eq e k) (cases_lt (get_or bytes e 0) 8) (cases_Bool (is_listed places e));
     bytes_long = longer;
@@ -222,6 +222,6 @@ taken_more t places q e x bytes now bytes' order kept order' r at h is bytes_are
         let fails : eqb (q / 4) k ≡ false = ne_eqb _ _ (λ s. other (at ∙ s)) in
         ap (λ b. b && not (is_taken bytes k)) (sym (listed-push places q k ∙ (ap (λ b. is_listed places k || b) fails ∙ or_none (is_listed places k))))
 
-  go : (get_or now e 0 < 8) ⊎ (8 ≤ get_or now e 0) → AreTaken t (places ++ q ∷ []) bytes bytes' order order'
+  go : (get_or now e 0 < 8) ⊎ (8 ≤ get_or now e 0) → AreTaken t (places ++ q ∷ []) bytes bytes' next next'
   go (inl near) = skip near
   go (inr far) = push far

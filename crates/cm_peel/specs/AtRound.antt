@@ -1,10 +1,10 @@
 -- The states of peeling. Only the contracts of its steps cite this.
-use Rattle.std.specs.Prelude.{◌≡◌, ℕ, suc, ◌+◌, ◌-◌, ◌*◌, ◌/◌, ◌%◌, ◌<◌, ◌≤◌, ◌==◌, Bool, false, true, not, ◌&&◌, ◌||◌, min, if◌then◌else◌, List, [], ◌∷◌, ◌++◌, length, slice_index, take}
+use Rattle.std.specs.Prelude.{◌≡◌, ◌≢◌, ℕ, suc, ◌+◌, ◌-◌, ◌*◌, ◌/◌, ◌%◌, ◌<◌, ◌==◌, Bool, false, true, not, ◌&&◌, ◌||◌, min, if◌then◌else◌, List, [], ◌∷◌, ◌++◌, length, map, slice_index}
 use Rattle.std.specs.List.{list_any}
 use Rattle.cm_spec.specs.Lists.{has}
-use Rattle.cm_spec.specs.Rounds.{is_left, removed_after, order_upto, level_of, pivot_of}
+use Rattle.cm_spec.specs.Rounds.{is_left, removed_after, level_of, pivot_of}
 use Rattle.cm_graph.specs.Graph.{Graph, Links}
-use Rattle.cm_peel.specs.Incident.{AreLinked, is_picked, free_position}
+use Rattle.cm_peel.specs.Incident.{AreLinked, is_half_left, is_picked, free_position, other_halves_all}
 use Rattle.cm_peel.specs.Peeling.{is_taken}
 
 -- no number stands twice in a list
@@ -20,14 +20,10 @@ tag_of t = 4 * (t % 2)
 abbrev pub byte_of : List (List ℕ) → ℕ → ℕ
 byte_of edges e = tag_of (level_of edges e - 1) + pivot_of edges e
 
--- t rounds went before, and the edges of the next one stand in the order from `start` on
-pub record AtRound (graph : Graph) (t : ℕ) (l : Links) (start : ℕ) (order levels bytes : List ℕ) : Type 0 where
-  -- the linked edges are those that are left
-  pub linked : AreLinked graph (is_left graph.edges t) l
-  pub start_is : start ≡ length (order_upto graph.edges t)
-  pub order_is : order ≡ order_upto graph.edges (suc t)
-  -- each round removed an edge
-  pub few : t ≤ start
+-- t rounds went before, and the edges of the next one are taken
+pub record AtRound (graph : Graph) (t : ℕ) (l : Links) (levels bytes : List ℕ) : Type 0 where
+  -- the edges that are left are linked
+  pub linked : AreLinked graph (is_half_left graph.edges t) l
   -- levels are kept of all edges, or of none
   pub levels_kept : 0 < length levels → length levels ≡ length graph.edges
   pub bytes_long : length bytes ≡ length graph.edges
@@ -36,11 +32,22 @@ pub record AtRound (graph : Graph) (t : ℕ) (l : Links) (start : ℕ) (order le
   pub byte : (e : ℕ) → e < length graph.edges → is_left graph.edges (suc t) e ≡ false → slice_index bytes e ≡ byte_of graph.edges e
   pub taken : (e : ℕ) → e < length graph.edges → is_taken bytes e ≡ not (is_left graph.edges (suc t) e)
 
--- the first d edges of that round are unlinked but for their pivots, and the edges that this has freed stand at the end of the order
-pub record InRound (graph : Graph) (t d : ℕ) (l : Links) (order bytes : List ℕ) : Type 0 where
-  pub linked : AreLinked graph (λ e. is_left graph.edges t e && not (has (take d (removed_after graph.edges t)) e)) l
-  pub next : List ℕ
-  pub order_is : order ≡ order_upto graph.edges (suc t) ++ next
+-- the place of an edge that this round removes, at another position than its pivot's
+abbrev pub IsOtherPlace : List (List ℕ) → ℕ → ℕ → Type 0
+IsOtherPlace edges t q = (has (removed_after edges t) (q / 4) ≡ true) × (q % 4 ≢ pivot_of edges (q / 4))
+
+-- all such places of some edges
+abbrev pub other_places : List (List ℕ) → List ℕ → List ℕ
+other_places edges es = map (λ h. h.place) (other_halves_all edges (pivot_of edges) es)
+
+-- what t rounds leave, without the half-edges at some places
+abbrev pub is_half_kept : List (List ℕ) → ℕ → List ℕ → ℕ → ℕ → Bool
+is_half_kept edges t gone e j = is_half_left edges t e j && not (has gone (4 * e + j))
+
+-- in that round: the half-edges at the places in `gone` are removed so far, and `next` has the edges that this has freed
+pub record InRound (graph : Graph) (t : ℕ) (gone : List ℕ) (l : Links) (next bytes : List ℕ) : Type 0 where
+  pub linked : AreLinked graph (is_half_kept graph.edges t gone) l
+  pub others : (q : ℕ) → has gone q ≡ true → IsOtherPlace graph.edges t q
   pub apart : AreApart next
   pub inside : (e : ℕ) → has next e ≡ true → e < length graph.edges
   pub members : (e : ℕ) → e < length graph.edges → has next e ≡ (is_left graph.edges (suc t) e && is_picked l graph.edges e)
@@ -60,10 +67,10 @@ least tag [] e byte = byte
 least tag (q ∷ places) e byte = if q / 4 == e then min (tag + q % 4) (least tag places e byte) else least tag places e byte
 
 -- the edges of some places are taken for the round after t rounds and one more: an edge that was not taken stands at the end of the
--- order now, and each gets the least byte, but for those of the round before, which stay
-pub record AreTaken (t : ℕ) (places bytes bytes' order order' : List ℕ) : Type 0 where
+-- list now, and each gets the least byte, but for those of the round before, which stay
+pub record AreTaken (t : ℕ) (places bytes bytes' next next' : List ℕ) : Type 0 where
   pub fresh : List ℕ
-  pub order_is : order' ≡ order ++ fresh
+  pub next_is : next' ≡ next ++ fresh
   pub apart : AreApart fresh
   pub members : (e : ℕ) → has fresh e ≡ (is_listed places e && not (is_taken bytes e))
   pub bytes_long : length bytes' ≡ length bytes

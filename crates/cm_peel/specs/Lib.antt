@@ -5,3 +5,4 @@ pub mod Marks
 pub mod Peeling
 pub mod RoundLaws
 pub mod SetLaws
+pub mod Waiting

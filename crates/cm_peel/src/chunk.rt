@@ -1,13 +1,12 @@
 //! A round is worked on by chunks: what lies far apart in memory is first read into small arrays, so that no store waits
 //! for a load.
-ghost use Rattle.std.specs.Prelude.{◌≡◌, ℕ, ◌+◌, ◌*◌, ◌/◌, ◌%◌, ◌<◌, ◌≤◌, ◌++◌, ◌==◌, nat_lt, if◌then◌else◌, length, All, map, take, slice_index, OnOk};
+ghost use Rattle.std.specs.Prelude.{◌≡◌, ℕ, ◌+◌, ◌*◌, ◌/◌, ◌%◌, ◌<◌, ◌≤◌, ◌++◌, ◌==◌, nat_lt, if◌then◌else◌, length, All, map, take, slice_index};
 ghost use Rattle.std.specs.List.{position_or_len};
 ghost use Rattle.cm_graph.specs.Graph.{degree_of};
 ghost use Rattle.cm_peel.specs.AtRound.{AreTaken};
-ghost use Rattle.cm_peel.specs.Incident.{other_halves, other_halves_all};
+ghost use Rattle.cm_peel.specs.Incident.{other_halves, other_halves_all, pivot_in};
 
 use cm_graph::{Edges, Half, Incidence, Steps};
-use std::alloc::AllocError;
 use std::sync::ledger::Ledger;
 
 /// How many edges are worked on together.
@@ -72,7 +71,7 @@ pub(crate) fn list_halves<const K: usize>(
     requires ends { length ends.old ≡ length chunk.now }
     requires marks { length chunk.now ≤ length marks.old }
     requires halves { K * length chunk.now ≤ length halves.old }
-    ensures halves { take result halves.new ≡ other_halves_all edges.now.edges bytes.now chunk.now }
+    ensures halves { take result halves.new ≡ other_halves_all edges.now.edges (pivot_in bytes.now) chunk.now }
     ensures few { result ≤ K * length chunk.now }
 {
     edges.gather(chunk, ends);
@@ -85,7 +84,7 @@ pub(crate) fn list_halves<const K: usize>(
 }
 
 /// Reads the bytes of the edges of some places.
-fn look_up_places(bytes: &[u8], places: &[u32], marks: &mut [u8])
+pub(crate) fn look_up_places(bytes: &[u8], places: &[u32], marks: &mut [u8])
     requires places { All (λ q. q / 4 < length bytes.now) places.now }
     requires room { length places.now ≤ length marks.old }
     ensures { (i : ℕ) → i < length places.now → slice_index marks.new i ≡ slice_index bytes.now (slice_index places.now i / 4) }
@@ -95,50 +94,58 @@ fn look_up_places(bytes: &[u8], places: &[u32], marks: &mut [u8])
     }
 }
 
-/// Takes the edges of these places, `marks` being their bytes.
+/// Takes the edges of these places, `marks` being their bytes, and lists them behind the first `count` of the list. Each edge is written there,
+/// and counted only if it is new, so that no branch asks whether it is.
 fn take_listed(
     places: &[u32],
     marks: &[u8],
     rounds: u32,
     bytes: &mut [u8],
-    order: &mut Vec<u32>,
-) -> Result<(), AllocError>
+    list: &mut [u32],
+    count: usize,
+) -> usize
     requires rounds { rounds < 67108864 }
     requires places { All (λ q. q / 4 < length bytes.old) places.now }
-    requires room { length places.now ≤ length marks.now }
-    requires marks { (i : ℕ) → i < length places.now → slice_index marks.now i ≡ slice_index bytes.old (slice_index places.now i / 4) }
-    ensures { OnOk result (AreTaken rounds places.now bytes.old bytes.new order.old.items order.new.items) }
+    requires marks { length places.now ≤ length marks.now }
+    requires known { (i : ℕ) → i < length places.now → slice_index marks.now i ≡ slice_index bytes.old (slice_index places.now i / 4) }
+    requires room { count + length places.now ≤ length list.old }
+    ensures taken { AreTaken rounds places.now bytes.old bytes.new (take count list.old) (take result list.new) }
+    ensures few { result ≤ count + length places.now }
 {
     let here = (rounds % 2) as u8;
     let next = 4 * ((rounds + 1) % 2) as u8;
+    let mut end = count;
     for (i, place) in places.iter().enumerate() {
         let e = *place / 4;
         let old = bytes[e as usize];
         let least = old.min(next + (*place % 4) as u8);
         bytes[e as usize] = if marks[i] / 4 == here { old } else { least };
-        if old >= UNTAKEN {
-            order.push(e)?;
-        }
+        list[end] = e;
+        end += (old >= UNTAKEN) as usize;
     }
-    Ok(())
+    end
 }
 
-/// Takes the edges of these places for the round after `rounds` and one more. An edge that isn't taken yet is added to the order. One
-/// of that round gets the least position of its places, and one of the round before stays as it is. `marks` is room to work in.
+/// Takes the edges of these places for the round after `rounds` and one more. An edge that isn't taken yet is added to the first `count` of the
+/// list. One of that round gets the least position of its places, and one of the round before stays as it is. `marks` is room to work in. It
+/// says how many are listed then.
 pub(crate) fn take(
     places: &[u32],
     marks: &mut [u8],
     rounds: u32,
     bytes: &mut [u8],
-    order: &mut Vec<u32>,
-) -> Result<(), AllocError>
+    list: &mut [u32],
+    count: usize,
+) -> usize
     requires rounds { rounds < 67108864 }
     requires places { All (λ q. q / 4 < length bytes.old) places.now }
-    requires room { length places.now ≤ length marks.old }
-    ensures { OnOk result (AreTaken rounds places.now bytes.old bytes.new order.old.items order.new.items) }
+    requires marks { length places.now ≤ length marks.old }
+    requires room { count + length places.now ≤ length list.old }
+    ensures taken { AreTaken rounds places.now bytes.old bytes.new (take count list.old) (take result list.new) }
+    ensures few { result ≤ count + length places.now }
 {
     look_up_places(bytes, places, marks);
-    take_listed(places, marks, rounds, bytes, order)
+    take_listed(places, marks, rounds, bytes, list, count)
 }
 
 /// The degrees of an edge's ends.

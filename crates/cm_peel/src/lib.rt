@@ -1,6 +1,7 @@
 //! Peeling of edges by rounds, and what it leaves: the 2-core.
 #![tactic(auto)]
 
+mod blocks;
 mod chunk;
 pub mod laws;
 mod marks;

@@ -1,10 +1,11 @@
 //! Peeling, and what it gives.
-ghost use Rattle.std.specs.Prelude.{◌≡◌, ℕ, ◌+◌, ◌*◌, ◌<◌, ◌≤◌, ◌^◌, [], length, IfOk, slice_index};
+ghost use Rattle.std.specs.Prelude.{◌≡◌, ℕ, ◌+◌, ◌*◌, ◌<◌, ◌≤◌, [], length, IfOk, slice_index};
 ghost use Rattle.cm_spec.specs.Core.{IsCore};
 ghost use Rattle.cm_spec.specs.Rounds.{level_of};
 ghost use Rattle.cm_peel.specs.Peeling.{IsPeelingOf, levels_of, untaken_of};
 
-use crate::chunk::UNTAKEN;
+use crate::blocks::count_blocks;
+use crate::chunk::{CHUNK_ENDS, UNTAKEN};
 use crate::round::{advance, begin};
 use cm_graph::{Edges, Incidence, Steps};
 use std::alloc::{AllocError, Global};
@@ -97,35 +98,40 @@ fn peel_noting<const K: usize, I: Incidence<K> + Drop, L: Ledger>(
     let m = edges.len();
     let mut incidence = I::from_edges(alloc, edges, steps)?;
     let mut bytes = vec![in alloc; UNTAKEN; m as usize]?;
-    let mut order = Vec::with_capacity(alloc, m as usize)?;
-    begin(
+    let mut order = vec![in alloc; 0; m as usize + CHUNK_ENDS]?;
+    let mut end = begin(
         edges,
         &incidence,
         &mut levels,
         &mut bytes,
         &mut order,
         steps,
-    )?;
+    );
     let mut marks = vec![in alloc; 0; m.div_ceil(64) as usize]?;
+    let blocks = count_blocks(edges.vertices() as usize);
+    let mut counts = vec![in alloc; 0; blocks]?;
     let mut start = 0;
     let mut rounds = 0;
-    'rounds: while start < order.len() {
-        let end = order.len();
-        advance(
+    'rounds: while start < end {
+        let (done, room) = order.split_at_mut(end);
+        let count = advance(
             edges,
             &mut incidence,
-            start,
+            &done[start..],
             rounds,
             &mut levels,
             &mut bytes,
-            &mut order,
+            room,
             &mut marks,
+            &mut counts,
             steps,
-        )?;
+        );
         start = end;
+        end += count;
         rounds += 1;
     }
-    let rest = untaken(alloc, &bytes, m as usize - order.len())?;
+    order.truncate(end);
+    let rest = untaken(alloc, &bytes, m as usize - end)?;
     Ok(Peeled {
         order,
         levels,

@@ -1,15 +1,23 @@
-use Rattle.std.proofs.Common.{◌≡◌, ◌+◌, ◌-◌, ◌*◌, ◌≤◌, length, vec_len}
+use Rattle.std.proofs.Common.{◌≡◌, suc, ◌+◌, ◌-◌, ◌*◌, ◌<◌, ◌≤◌, length, take, vec_len}
+use Rattle.cm_spec.specs.Rounds.{order_upto}
 use Rattle.cm_peel.specs.AtRound.{AtRound}
 use Rattle.cm_peel.specs.Marks.{IsUnmarked}
+use Rattle.cm_peel.specs.Waiting.{AreEmpty}
 use Rattle.cm_peel.proofs.peeled.peel_noting.Given as goal
 
 abbrev pub invariant-rounds : goal.invariant-rounds
 invariant-rounds g l = record {
-  state : AtRound l.edges l.rounds (g.I.Incidence.links l.incidence) l.start l.order.items l.levels.items l.bytes.items;
+  state : AtRound l.edges l.rounds (g.I.Incidence.links l.incidence) l.levels.items l.bytes.items;
+  few : l.rounds ≤ length l.edges.edges;
+  room : vec_len l.order ≡ length l.edges.edges + 192;
+  order_is : take l.end l.order.items ≡ order_upto l.edges.edges (suc l.rounds);
+  start_is : l.start ≡ length (order_upto l.edges.edges l.rounds);
+  end_is : l.end ≡ length (order_upto l.edges.edges (suc l.rounds));
   long : length l.levels.items ≡ length l.fn.levels.items;
   fits : length l.edges.edges ≤ 67108864;
   marks : IsUnmarked (length l.edges.edges) l.marks.items;
-  within : l.start ≤ vec_len l.order;
+  empty : AreEmpty l.counts.items;
+  blocks : 0 < length l.counts.items → l.edges.vertices ≤ 65536 * length l.counts.items;
   steps : l.steps ≤ l.fn.steps + 4 * (g.row.K * length l.edges.edges) + 3 * (g.row.K * l.start);
 }
 

@@ -1,0 +1,16 @@
+use Rattle.std.proofs.Common.{◌≡◌, ◌≤◌, ◌+◌, ◌*◌, ◌++◌, ℕ, true, false, List, length, map, sum, take}
+use Rattle.cm_spec.specs.Lists.{has}
+use Rattle.cm_peel.specs.Waiting.{InBlocks, IsOpen, marked_of}
+use Rattle.cm_peel.proofs.Incident.{place_in}
+use Rattle.cm_peel.proofs.blocks.wait.Given as goal
+
+abbrev pub invariant-loop-half : goal.invariant-loop-half
+invariant-loop-half g l = record {
+  room : length l.room ≡ length l.fn.room;
+  counts : length l.counts ≡ length l.fn.counts;
+  marks : length l.marks ≡ length l.fn.marks;
+  free : IsOpen l.size l.counts;
+  state : (done : List ℕ) → ((q : ℕ) → has (map place_in l.halves) q ≡ true → has done q ≡ false) → InBlocks l.edges l.rounds l.size l.fn.room l.fn.counts (g.I.Incidence.links l.fn.incidence) l.fn.marks l.fn.bytes done → InBlocks l.edges l.rounds l.size l.room l.counts (g.I.Incidence.links l.incidence) l.marks l.bytes (done ++ map place_in (take l.half-index l.halves));
+  count : length (marked_of l.marks) ≡ length (marked_of l.fn.marks) + l.count;
+  steps : l.steps + 3 * sum l.counts ≤ l.fn.steps + 3 * (sum l.fn.counts + l.half-index);
+}

@@ -1,0 +1,74 @@
+-- A round that is worked on by blocks: what is marked, and the half-edges that wait. Only the contracts of its steps cite this.
+use Rattle.std.specs.Prelude.{◌≡◌, ℕ, ◌+◌, ◌*◌, ◌/◌, ◌%◌, ◌<◌, ◌≤◌, true, false, ◌||◌, List, [], ◌∷◌, length, All, filter, map, take, drop, slice_index, slice_set}
+use Rattle.cm_spec.specs.Lists.{has, numbers_from}
+use Rattle.cm_spec.specs.Graph.{ends_at}
+use Rattle.cm_graph.specs.declared.incidence.Half.{Half}
+use Rattle.cm_graph.specs.Graph.{Graph, Links}
+use Rattle.cm_peel.specs.AtRound.{AreApart, AreTaken, InRound, IsOtherPlace}
+use Rattle.cm_peel.specs.Marks.{is_marked}
+
+-- the marked edges
+abbrev pub marked_of : List ℕ → List ℕ
+marked_of marks = filter (is_marked marks) (numbers_from 0 (64 * length marks))
+
+-- the edges of some places are taken as `AreTaken` says, and those that are new, so many, are marked
+pub record AreMarked (t : ℕ) (places bytes bytes' marks marks' : List ℕ) (count : ℕ) : Type 0 where
+  pub fresh : List ℕ
+  pub taken : AreTaken t places bytes bytes' [] fresh
+  pub marked : (e : ℕ) → is_marked marks' e ≡ (is_marked marks e || has fresh e)
+  pub many : count ≡ length fresh
+
+-- the half-edges that numbers stand for, two each: vertex and place
+abbrev pub halves_in : List ℕ → List Half
+halves_in [] = []
+halves_in (v ∷ []) = []
+halves_in (v ∷ q ∷ rest) = record { vertex = v; place = q } ∷ halves_in rest
+
+-- the half-edges that wait for block b, which has `size` numbers of the room
+abbrev pub waiting_in : ℕ → List ℕ → List ℕ → ℕ → List Half
+waiting_in size room counts b = halves_in (take (2 * slice_index counts b) (drop (b * size) room))
+
+-- the vertex is the end of the place's edge at its position
+abbrev pub IsEnd : List (List ℕ) → Half → Type 0
+IsEnd edges h = (h.place / 4 < length edges) × (h.place % 4 < length (ends_at edges (h.place / 4))) × (slice_index (ends_at edges (h.place / 4)) (h.place % 4) ≡ h.vertex)
+
+-- a half-edge that waits for block b, which has 65,536 vertices
+pub record Waits (edges : List (List ℕ)) (t b : ℕ) (gone : List ℕ) (h : Half) : Type 0 where
+  pub end : IsEnd edges h
+  pub block : h.vertex / 65536 ≡ b
+  pub other : IsOtherPlace edges t h.place
+  pub there : has gone h.place ≡ false
+
+-- in a round by blocks: each half-edge at a place in `done` is removed, or waits for its block
+pub record InBlocks (graph : Graph) (t size : ℕ) (room counts : List ℕ) (l : Links) (marks bytes done : List ℕ) : Type 0 where
+  -- those that are removed, and what this leaves; the edges that it frees are marked
+  pub gone : List ℕ
+  pub round : InRound graph t gone l (marked_of marks) bytes
+  -- those that wait: each for its block, and none of them twice
+  pub fits : (b : ℕ) → b < length counts → 2 * slice_index counts b ≤ size
+  pub waits : (b : ℕ) → b < length counts → All (Waits graph.edges t b gone) (waiting_in size room counts b)
+  pub apart : (b : ℕ) → b < length counts → AreApart (map (λ h. h.place) (waiting_in size room counts b))
+  -- both together are those in `done`
+  pub waits_done : (b q : ℕ) → b < length counts → has (map (λ h. h.place) (waiting_in size room counts b)) q ≡ true → has done q ≡ true
+  pub gone_done : (q : ℕ) → has gone q ≡ true → has done q ≡ true
+  pub all : (q : ℕ) → has done q ≡ true → (has gone q ≡ false) → (b : ℕ) × (b < length counts) × (has (map (λ h. h.place) (waiting_in size room counts b)) q ≡ true)
+
+-- the room once a half-edge is written behind the c that wait for block b
+abbrev pub put_room : ℕ → List ℕ → ℕ → ℕ → Half → List ℕ
+put_room size room b c h = slice_set (slice_set room (b * size + 2 * c) h.vertex) (b * size + 2 * c + 1) h.place
+
+-- there is room for all blocks and marks
+pub record IsRoom (graph : Graph) (size : ℕ) (room counts marks : List ℕ) : Type 0 where
+  pub even : size ≡ 2 * (size / 2)
+  pub within : length counts * size ≤ length room
+  pub few : length room ≤ 67109056
+  pub blocks : graph.vertices ≤ 65536 * length counts
+  pub all_marks : length graph.edges ≤ 64 * length marks
+
+-- no block's part is full
+abbrev pub IsOpen : ℕ → List ℕ → Type 0
+IsOpen size counts = (b : ℕ) → b < length counts → 2 * slice_index counts b < size
+
+-- no half-edge waits
+abbrev pub AreEmpty : List ℕ → Type 0
+AreEmpty counts = (b : ℕ) → b < length counts → slice_index counts b ≡ 0
