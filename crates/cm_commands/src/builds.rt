@@ -1,6 +1,6 @@
 ghost use Rattle.std.specs.Prelude.{◌≡◌, ◌<◌, ◌≤◌, None, length};
 
-use crate::equal::equal;
+use crate::equal::{expect_equal, expect_true};
 use cm_algo::{BuildFault, Built, assign, build};
 use cm_bits::{Cells, Fields};
 use cm_chm::ChmScheme;
@@ -189,8 +189,8 @@ const TRIPLE: &[&[u8]] = &[b"a", b"b", b"c"];
 fn check_change(rt: &impl Abort, alloc: Global, passes: &[&[&[u8]]], first: u32, now: u32) {
     let mut keys = keys_of(0, passes);
     match built(alloc, &mut keys) {
-        Err(BuildFault::Changed { first: f, now: n }) => assert_eq!(rt; (f, n), (first, now)),
-        _ => assert!(rt; false),
+        Err(BuildFault::Changed { first: f, now: n }) => expect_equal(rt, &(f, n), &(first, now)),
+        _ => panic!(rt; "another outcome"),
     }
 }
 
@@ -209,15 +209,19 @@ fn keys_that_change(rt: HostRuntime) -> Result<(), Fail> {
 fn built_again_after_a_refusal(rt: HostRuntime) -> Result<(), Fail> {
     let mut keys = keys_of(1, &[PAIR, PAIR, PAIR, PAIR]);
     match built(rt.alloc(), &mut keys) {
-        Err(BuildFault::Key(fault)) => assert!(rt; equal(&fault, &KeyFault::Read)),
-        _ => assert!(rt; false),
+        Err(BuildFault::Key(fault)) => expect_equal(&rt, &fault, &KeyFault::Read),
+        _ => panic!(rt; "another outcome"),
     }
     let Ok(function) = built(rt.alloc(), &mut keys) else {
         return Err(Fail::new("no function"));
     };
-    assert!(rt; equal(&(function.m, function.c, function.seed), &(2, 1_500_000, 1)));
+    expect_equal(
+        &rt,
+        &(function.m, function.c, function.seed),
+        &(2, 1_500_000, 1),
+    );
     let cells = listed(rt.alloc(), &function.cells)?;
-    assert!(rt; equal(&cells.as_slice(), &[1, 0, 0].as_slice()));
+    expect_equal(&rt, &cells.as_slice(), &[1, 0, 0].as_slice());
     Ok(())
 }
 
@@ -225,12 +229,12 @@ fn built_again_after_a_refusal(rt: HostRuntime) -> Result<(), Fail> {
 fn cells_of_a_path(rt: HostRuntime) -> Result<(), Fail> {
     let mut edges = Edges::<2>::new(rt.alloc(), 4);
     for v in 0..3u32 {
-        assert!(rt; add(&mut edges, v, v + 1)?);
+        expect_true(&rt, add(&mut edges, v, v + 1)?);
     }
     let Some(cells) = assigned(rt.alloc(), &edges)? else {
         return Err(Fail::new("no cells"));
     };
     let cells = listed(rt.alloc(), &cells)?;
-    assert!(rt; equal(&cells.as_slice(), &[2, 1, 0, 2].as_slice()));
+    expect_equal(&rt, &cells.as_slice(), &[2, 1, 0, 2].as_slice());
     Ok(())
 }

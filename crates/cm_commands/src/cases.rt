@@ -1,6 +1,6 @@
 ghost use Rattle.std.specs.Prelude.{◌≡◌};
 
-use crate::equal::{equal, expect_equal};
+use crate::equal::{expect_equal, expect_true};
 use cm_outer::{MemDisk, MemSink};
 use cm_tool::run;
 use std::alloc::{AllocError, Global};
@@ -209,7 +209,7 @@ fn long_lines(rt: HostRuntime) -> Result<(), Fail> {
     for _ in 0..65535u32 {
         text.push(b'b')?;
     }
-    assert!(rt; built_len(alloc, &text)?.is_some());
+    expect_true(&rt, built_len(alloc, &text)?.is_some());
     text.push(b'b')?;
     let message = "cmph: keys: line 2 is too long\n";
     Case::refused(PLAIN, &text, 8, message).check(&rt, alloc)?;
@@ -227,7 +227,7 @@ fn every_byte_is_a_key(rt: HostRuntime) -> Result<(), Fail> {
         }
     }
     // 255 keys have 533 vertices, and cells below 255 take a byte each.
-    assert!(rt; equal(&built_len(alloc, &text)?, &Some(24 + 533)));
+    expect_equal(&rt, &built_len(alloc, &text)?, &Some(24 + 533));
     Ok(())
 }
 

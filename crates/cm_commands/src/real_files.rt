@@ -1,15 +1,19 @@
-use crate::equal::{equal, equal_bytes};
+use crate::equal::{expect_bytes, expect_equal};
 use cm_real::{FileDisk, StdSink};
 use cm_tool::run;
-use std::alloc::{AllocGlobal, Global};
+use std::alloc::{AllocError, AllocGlobal, Global};
 use std::fs;
 use std::rt::Files;
 use std::test::Fail;
 
+fn path_of(alloc: Global, number: u32) -> Result<String, AllocError> {
+    format!(in alloc; "/tmp/cmph-test-{number}")
+}
+
 /// A file that no one else has, with these bytes.
 fn new_file<R: Files + AllocGlobal>(rt: &R, bytes: &[u8]) -> Result<String, Fail> {
-    for i in 0..1000u32 {
-        let path = format!(in rt.alloc(); "/tmp/cmph-test-{i}")?;
+    for number in 0..1000u32 {
+        let path = path_of(rt.alloc(), number)?;
         if let Ok(_file) = fs::File::create_new(rt, path.as_str()) {
             fs::write(rt, path.as_str(), bytes)?;
             return Ok(path);
@@ -59,25 +63,24 @@ fn real_files(rt: HostRuntime) -> Result<(), Fail> {
     let damaged = status_on(&rt, &[keys.as_str()])?;
     fs::remove_file(&rt, keys.as_str())?;
     fs::remove_file(&rt, function.as_str())?;
-    assert!(rt; built == 0);
-    assert!(rt;
-        equal_bytes(
-            dump.as_slice(),
-            [
-                0x43, 0x4d, 0x50, 0x48, 0x44, 0x4d, 0x50, 0x31, 1, 0, 0, 0, 2, 0, 0, 0, 0x10, 0xe4,
-                0x1f, 0, 1, 0, 0, 0, 2,
-            ]
-            .as_slice()
-        )
+    expect_equal(&rt, &built, &0);
+    expect_bytes(
+        &rt,
+        dump.as_slice(),
+        [
+            0x43, 0x4d, 0x50, 0x48, 0x44, 0x4d, 0x50, 0x31, 1, 0, 0, 0, 2, 0, 0, 0, 0x10, 0xe4,
+            0x1f, 0, 1, 0, 0, 0, 2,
+        ]
+        .as_slice(),
     );
     // The text has been sent on by the end of the query.
-    assert!(rt; asked.status == 0);
-    assert!(rt; equal_bytes(asked.out.as_slice(), b"a -> 0\nb -> 1\n"));
-    assert!(rt; asked.err.len() == 0);
-    assert!(rt; damaged == 3);
+    expect_equal(&rt, &asked.status, &0);
+    expect_bytes(&rt, asked.out.as_slice(), b"a -> 0\nb -> 1\n");
+    expect_bytes(&rt, asked.err.as_slice(), b"");
+    expect_equal(&rt, &damaged, &3);
     // The file is gone now, and a folder can't be read.
-    assert!(rt; equal(&status_on(&rt, &["-g", keys.as_str()])?, &4));
-    assert!(rt; equal(&status_on(&rt, &["-g", "/tmp"])?, &4));
-    assert!(rt; equal(&status_on(&rt, &["/tmp"])?, &4));
+    expect_equal(&rt, &status_on(&rt, &["-g", keys.as_str()])?, &4);
+    expect_equal(&rt, &status_on(&rt, &["-g", "/tmp"])?, &4);
+    expect_equal(&rt, &status_on(&rt, &["/tmp"])?, &4);
     Ok(())
 }

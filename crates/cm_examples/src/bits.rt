@@ -2,6 +2,7 @@ ghost use Rattle.std.specs.Prelude.{◌≡◌, ◌<◌, ◌≤◌, length, IfOk,
 ghost use Rattle.cm_bits.specs.declared.fault.ImageFault.TheVariants.{Memory};
 ghost use Rattle.cm_spec.specs.Lists.{list_of};
 
+use crate::equal::{expect_bytes, expect_equal, expect_equal_at};
 use cm_bits::{
     Bits, Cells, Crumbs, Fields, ImageFault, MAX_CELLS, MAX_FIELD_BOUND, Plain, Trits, filled,
 };
@@ -53,13 +54,13 @@ fn has_image<C: Cells + Drop>(
         assert!(rt; i < table.len() && cells[i as usize] < table.bound());
         table.set(i, cells[i as usize]);
     }
-    assert_eq!(rt; image_of(alloc, &table)?.as_slice(), bytes);
-    assert_eq!(rt; C::image_len(n, bound), bytes.len() as u64);
+    expect_bytes(rt, image_of(alloc, &table)?.as_slice(), bytes);
+    expect_equal(rt, &C::image_len(n, bound), &(bytes.len() as u64));
     let again = copied(alloc, &table)?;
-    assert_eq!(rt; (again.len(), again.bound()), (n, bound));
+    expect_equal(rt, &(again.len(), again.bound()), &(n, bound));
     for i in 0..again.len() {
         assert!(rt; i < n);
-        assert_eq!(rt; again.get(i), cells[i as usize], "cell {i}");
+        expect_equal_at(rt, &i, &again.get(i), &cells[i as usize]);
     }
     Ok(())
 }
@@ -76,10 +77,10 @@ fn has_fault<C: Cells + Drop>(
     requires room { n ≤ MAX_CELLS }
     requires fit { C.fits bound }
 {
-    assert_eq!(rt; C::image_len(n, bound), bytes.len() as u64);
+    assert!(rt; C::image_len(n, bound) == bytes.len() as u64);
     match C::from_image(alloc, n, bound, bytes) {
         Ok(_) => panic!(rt; "read"),
-        Err(found) => assert_eq!(rt; found, fault),
+        Err(found) => expect_equal(rt, &found, &fault),
     }
 }
 
@@ -148,11 +149,11 @@ fn faults(rt: HostRuntime) {
 
 #[test]
 fn bytes_of_cells(rt: HostRuntime) {
-    assert_eq!(rt; Bits::cell_byte(2, 8), 1);
-    assert_eq!(rt; Crumbs::cell_byte(4, 7), 1);
-    assert_eq!(rt; Trits::cell_byte(3, 7), 1);
-    assert_eq!(rt; Fields::cell_byte(100_000, 3), 6);
-    assert_eq!(rt; Plain::cell_byte(9, 3), 12);
+    expect_equal(&rt, &Bits::cell_byte(2, 8), &1);
+    expect_equal(&rt, &Crumbs::cell_byte(4, 7), &1);
+    expect_equal(&rt, &Trits::cell_byte(3, 7), &1);
+    expect_equal(&rt, &Fields::cell_byte(100_000, 3), &6);
+    expect_equal(&rt, &Plain::cell_byte(9, 3), &12);
 }
 
 /// Makes each cell the value, and looks at the image.
@@ -167,7 +168,7 @@ fn has_filled_image<C: Cells + Drop>(
     requires below { value < bound }
 {
     let table: C = filled(alloc, 5, bound, value)?;
-    assert_eq!(rt; image_of(alloc, &table)?.as_slice(), bytes);
+    expect_bytes(rt, image_of(alloc, &table)?.as_slice(), bytes);
     Ok(())
 }
 
@@ -185,8 +186,8 @@ fn filled_tables(rt: HostRuntime) -> Result<(), Fail> {
 fn lent_images(rt: HostRuntime) -> Result<(), Fail> {
     let alloc = rt.alloc();
     let trits: Trits = filled(alloc, 7, 3, 1)?;
-    assert_eq!(rt; trits.image(), [0x79, 0x04].as_slice());
+    expect_bytes(&rt, trits.image(), &[0x79, 0x04]);
     let none = Crumbs::zeroed(alloc, 0, 4)?;
-    assert_eq!(rt; none.image().len(), 0);
+    expect_equal(&rt, &none.image().len(), &0);
     Ok(())
 }

@@ -2,7 +2,7 @@ ghost use Rattle.std.specs.Prelude.{IfOk};
 ghost use Rattle.std.specs.Option.{ForSome};
 ghost use Rattle.cm_words.specs.Limits.{IsBuild, IsJob};
 
-use crate::equal::{equal, equal_texts};
+use crate::equal::{expect_equal, expect_equal_at, expect_text, expect_true};
 use cm_algorithm::Algorithm;
 use cm_words::{BuildJob, Job, UsageFault, read_words};
 use std::alloc::{AllocError, Global};
@@ -35,6 +35,10 @@ fn build_of(alloc: Global, line: &str) -> Result<Option<BuildJob>, UsageFault>
         Job::Build(job) => Ok(Some(job)),
         _other => Ok(None),
     }
+}
+
+fn text_of(alloc: Global, fault: UsageFault) -> Result<String, AllocError> {
+    format!(in alloc; "{fault}")
 }
 
 #[test]
@@ -85,10 +89,14 @@ fn refuses(rt: HostRuntime) -> Result<(), Fail> {
         ),
     ] {
         let found = fault_of(alloc, line);
-        assert_eq!(rt; found, Some(fault), "{line}");
-        assert!(rt; equal_texts(format!(in alloc; "{fault}")?.as_str(), text));
+        expect_equal_at(&rt, &line, &found, &Some(fault));
+        expect_text(&rt, text_of(alloc, fault)?.as_str(), text);
     }
-    assert!(rt; equal(&read_words(alloc, &[]).err(), &Some(UsageFault::NoFile)));
+    expect_equal(
+        &rt,
+        &read_words(alloc, &[]).err(),
+        &Some(UsageFault::NoFile),
+    );
     Ok(())
 }
 
@@ -97,17 +105,20 @@ fn reads_a_build(rt: HostRuntime) -> Result<(), Fail> {
     let line =
         "cmph -vg -abdz -c1.5 -s=0 -r 7 -b 4 -M 1024 -dtmp -f jenkins -k 0000000002 -mf keys";
     let Some(job) = build_of(rt.alloc(), line)? else {
-        assert!(rt; false, "no build");
-        return Ok(());
+        panic!(rt; "no build");
     };
-    assert!(rt; equal_texts(job.keys.as_str(), "keys"));
-    assert!(rt; equal_texts(job.function.as_str(), "f"));
-    assert!(rt; equal(&job.first, &Some(2)));
-    assert!(rt; equal(&job.algorithm, &Algorithm::Bdz));
-    assert!(rt; equal(&(job.c, job.b, job.seed, job.count), &(1_500_000, 4, 0, 7)));
-    assert!(rt; equal(&job.buffer, &1_073_741_824));
-    assert!(rt; equal_texts(job.dir.as_str(), "tmp"));
-    assert!(rt; job.verbose);
+    expect_text(&rt, job.keys.as_str(), "keys");
+    expect_text(&rt, job.function.as_str(), "f");
+    expect_equal(&rt, &job.first, &Some(2));
+    expect_equal(&rt, &job.algorithm, &Algorithm::Bdz);
+    expect_equal(
+        &rt,
+        &(job.c, job.b, job.seed, job.count),
+        &(1_500_000, 4, 0, 7),
+    );
+    expect_equal(&rt, &job.buffer, &1_073_741_824);
+    expect_text(&rt, job.dir.as_str(), "tmp");
+    expect_true(&rt, job.verbose);
     Ok(())
 }
 
@@ -120,18 +131,18 @@ fn has_defaults(rt: HostRuntime) -> Result<(), Fail> {
         ("cmph -g -a bdz_ph keys", Algorithm::BdzPh, 1_230_000, 0),
     ] {
         let Some(job) = build_of(rt.alloc(), line)? else {
-            assert!(rt; false, "no build: {line}");
-            return Ok(());
+            panic!(rt; "no build: {line}");
         };
-        assert!(rt; equal(&job.algorithm, &algorithm));
-        assert_eq!(rt;
-            (job.c, job.b, job.seed, job.count, job.buffer),
-            (c, b, 1, 100, 1_048_576),
-            "{line}"
+        expect_equal(&rt, &job.algorithm, &algorithm);
+        expect_equal_at(
+            &rt,
+            &line,
+            &(job.c, job.b, job.seed, job.count, job.buffer),
+            &(c, b, 1, 100, 1_048_576),
         );
-        assert!(rt; equal_texts(job.function.as_str(), "keys.mph"));
-        assert!(rt; equal_texts(job.dir.as_str(), "."));
-        assert!(rt; job.first.is_none() && !job.verbose);
+        expect_text(&rt, job.function.as_str(), "keys.mph");
+        expect_text(&rt, job.dir.as_str(), ".");
+        expect_true(&rt, job.first.is_none() && !job.verbose);
     }
     Ok(())
 }
@@ -141,13 +152,16 @@ fn reads_other_jobs(rt: HostRuntime) -> Result<(), Fail> {
     let alloc = rt.alloc();
     match job_of(alloc, "cmph -k 1 keys")? {
         Job::Query(job) => {
-            assert!(rt; equal_texts(job.keys.as_str(), "keys"));
-            assert!(rt; equal_texts(job.function.as_str(), "keys.mph"));
-            assert!(rt; equal(&job.first, &Some(1)));
+            expect_text(&rt, job.keys.as_str(), "keys");
+            expect_text(&rt, job.function.as_str(), "keys.mph");
+            expect_equal(&rt, &job.first, &Some(1));
         }
-        _other => assert!(rt; false, "no query"),
+        _other => panic!(rt; "no query"),
     }
-    assert!(rt; matches!(job_of(alloc, "cmph -s x -V -h"), Ok(Job::Help)));
-    assert!(rt; matches!(job_of(alloc, "cmph -V"), Ok(Job::Version)));
+    expect_true(
+        &rt,
+        matches!(job_of(alloc, "cmph -s x -V -h"), Ok(Job::Help)),
+    );
+    expect_true(&rt, matches!(job_of(alloc, "cmph -V"), Ok(Job::Version)));
     Ok(())
 }

@@ -1,13 +1,32 @@
-//! Comparisons as calls: a test of many checks is much cheaper to prove if the comparison of a type is proved once, here.
+//! Comparisons as calls that fail the test: a test of many checks is much cheaper to prove if the two ways on from a check are
+//! proved once, here, and not at its place. What a test's proof needs is checked by `assert!` in the test.
+use std::fmt::Debug;
+use std::process::Abort;
 
-pub fn equal<T: PartialEq>(left: &T, right: &T) -> bool {
-    left == right
+/// Fails the test if the two differ. The message shows both.
+pub fn expect_equal<T: PartialEq + Debug>(rt: &impl Abort, left: &T, right: &T) {
+    assert_eq!(rt; left, right);
 }
 
-pub fn equal_bytes(left: &[u8], right: &[u8]) -> bool {
-    left == right
+/// `expect_equal` in a row of a table, which the message shows with both.
+pub fn expect_equal_at<R: PartialEq + Debug, T: PartialEq + Debug>(
+    rt: &impl Abort,
+    row: &R,
+    left: &T,
+    right: &T,
+) {
+    expect_equal(rt, &(row, left), &(row, right));
 }
 
-pub fn equal_texts(left: &str, right: &str) -> bool {
-    left == right
+pub fn expect_bytes(rt: &impl Abort, left: &[u8], right: &[u8]) {
+    expect_equal(rt, &left, &right);
+}
+
+pub fn expect_text(rt: &impl Abort, left: &str, right: &str) {
+    expect_equal(rt, &left, &right);
+}
+
+/// Fails the test if this does not hold.
+pub fn expect_true(rt: &impl Abort, holds: bool) {
+    assert!(rt; holds);
 }

@@ -1,15 +1,19 @@
-use crate::equal::{equal, equal_bytes};
+use crate::equal::{expect_bytes, expect_equal, expect_true};
 use cm_outer::{Disk, DiskFault, Failed, Sink, Source, Spill, write_pieces};
 use cm_real::{FileDisk, StdSink};
-use std::alloc::{AllocGlobal, Global};
+use std::alloc::{AllocError, AllocGlobal, Global};
 use std::fs;
 use std::rt::Files;
 use std::test::Fail;
 
+fn path_of(alloc: Global, kind: &str, number: u32) -> Result<String, AllocError> {
+    format!(in alloc; "/tmp/cm-real-{kind}-{number}")
+}
+
 /// An empty file that no one else has.
 fn new_file<R: Files + AllocGlobal>(rt: &R) -> Result<String, Fail> {
-    for i in 0..1000u32 {
-        let path = format!(in rt.alloc(); "/tmp/cm-real-test-{i}")?;
+    for number in 0..1000u32 {
+        let path = path_of(rt.alloc(), "test", number)?;
         if let Ok(_file) = fs::File::create_new(rt, path.as_str()) {
             return Ok(path);
         }
@@ -19,8 +23,8 @@ fn new_file<R: Files + AllocGlobal>(rt: &R) -> Result<String, Fail> {
 
 /// An empty folder that no one else has.
 fn new_folder<R: Files + AllocGlobal>(rt: &R) -> Result<String, Fail> {
-    for i in 0..1000u32 {
-        let path = format!(in rt.alloc(); "/tmp/cm-real-folder-{i}")?;
+    for number in 0..1000u32 {
+        let path = path_of(rt.alloc(), "folder", number)?;
         if fs::create_dir(rt, path.as_str()).is_ok() {
             return Ok(path);
         }
@@ -56,19 +60,21 @@ fn a_file_is_written_and_read(rt: HostRuntime) -> Result<(), Fail> {
         counts[1] = reader.read(&mut buf);
         counts[2] = reader.read(&mut buf[3..]);
         disk.shut(reader);
-        assert!(rt; equal(&rewound, &Ok(())));
+        expect_equal(&rt, &rewound, &Ok(()));
     }
     fs::remove_file(&rt, path.as_str())?;
-    assert!(rt; equal(&stored, &Ok(())));
-    assert!(rt; equal(&counts, &[Ok(2), Ok(3), Ok(0)]));
-    assert!(rt; equal_bytes(buf.as_slice(), b"abc\0"));
-    assert!(rt;
-        equal(
-            &store(&mut disk, "/tmp/no/such/folder", b""),
-            &Err(DiskFault::Failed)
-        )
+    expect_equal(&rt, &stored, &Ok(()));
+    expect_equal(&rt, &counts, &[Ok(2), Ok(3), Ok(0)]);
+    expect_bytes(&rt, buf.as_slice(), b"abc\0");
+    expect_equal(
+        &rt,
+        &store(&mut disk, "/tmp/no/such/folder", b""),
+        &Err(DiskFault::Failed),
     );
-    assert!(rt; matches!(disk.open(path.as_str()), Err(DiskFault::Failed)));
+    expect_true(
+        &rt,
+        matches!(disk.open(path.as_str()), Err(DiskFault::Failed)),
+    );
     Ok(())
 }
 
@@ -78,7 +84,7 @@ fn a_folder_is_not_read(rt: HostRuntime) -> Result<(), Fail> {
     if let Ok(mut reader) = disk.open("/tmp") {
         let count = reader.read(&mut [0u8; 4]);
         disk.shut(reader);
-        assert!(rt; equal(&count, &Err(Failed)));
+        expect_equal(&rt, &count, &Err(Failed));
     }
     Ok(())
 }
@@ -107,26 +113,29 @@ fn a_spill_is_read_from_any_place(rt: HostRuntime) -> Result<(), Fail> {
     }
     let is_there = fs::exists(&rt, path.as_str())?;
     fs::remove_dir(&rt, folder.as_str())?;
-    assert!(rt; equal(&appended, &[Ok(()); 4]));
-    assert!(rt; equal(&counts, &[Ok(4), Ok(0), Ok(0), Ok(3)]));
-    assert!(rt; equal(&bufs, &[*b"bcde", [0; 4], [0; 4], *b"fgh\0"]));
-    assert!(rt; equal_bytes(kept.as_slice(), b"abcdefgh"));
-    assert!(rt; !is_there);
+    expect_equal(&rt, &appended, &[Ok(()); 4]);
+    expect_equal(&rt, &counts, &[Ok(4), Ok(0), Ok(0), Ok(3)]);
+    expect_equal(&rt, &bufs, &[*b"bcde", [0; 4], [0; 4], *b"fgh\0"]);
+    expect_bytes(&rt, kept.as_slice(), b"abcdefgh");
+    expect_true(&rt, !is_there);
     Ok(())
 }
 
 #[test]
 fn a_spill_needs_its_folder(rt: HostRuntime) -> Result<(), Fail> {
     let mut disk = FileDisk::new(&rt, rt.alloc(), 7);
-    assert!(rt; matches!(disk.spill("/tmp/no/such/folder"), Err(DiskFault::Failed)));
+    expect_true(
+        &rt,
+        matches!(disk.spill("/tmp/no/such/folder"), Err(DiskFault::Failed)),
+    );
     Ok(())
 }
 
 #[test]
 fn pieces_wait_in_the_buffer(rt: HostRuntime) -> Result<(), Fail> {
     let alloc = rt.alloc();
-    assert!(rt; equal(&sent(alloc, &[b"a\n", b"b"]).len(), &0));
-    assert!(rt; equal(&sent(alloc, &[b"a\n", b"b", b""]).len(), &3));
+    expect_equal(&rt, &sent(alloc, &[b"a\n", b"b"]).len(), &0);
+    expect_equal(&rt, &sent(alloc, &[b"a\n", b"b", b""]).len(), &3);
     Ok(())
 }
 
@@ -135,9 +144,9 @@ fn a_piece_may_be_larger_than_the_buffer(rt: HostRuntime) -> Result<(), Fail> {
     let alloc = rt.alloc();
     let whole = vec![in alloc; b'x'; 16384]?;
     let larger = vec![in alloc; b'y'; 16385]?;
-    assert!(rt; equal(&sent(alloc, &[b"ab", whole.as_slice()]).len(), &2));
+    expect_equal(&rt, &sent(alloc, &[b"ab", whole.as_slice()]).len(), &2);
     let bytes = sent(alloc, &[b"ab", larger.as_slice(), b"c"]);
-    assert!(rt; equal(&bytes.len(), &16387));
-    assert!(rt; bytes.starts_with(b"aby"));
+    expect_equal(&rt, &bytes.len(), &16387);
+    expect_true(&rt, bytes.starts_with(b"aby"));
     Ok(())
 }

@@ -1,5 +1,6 @@
 ghost use Rattle.std.specs.Prelude.{◌≡◌, ◌<◌};
 
+use crate::equal::expect_equal;
 use cm_graph::{Edges, Half, Incidence, Linked, Steps, Xored};
 use std::alloc::{AllocError, Global};
 use std::marker::Brand;
@@ -10,87 +11,67 @@ use std::test::Fail;
 /// Links a path of three edges and then unlinks its first: what is seen of it before, and after.
 fn path<I: Incidence<2> + Drop, L: Ledger>(
     alloc: Global,
-    blank: Blank,
-) -> Result<[u32; 6], AllocError>
-    requires name { blank.name ≡ L.name }
-    requires parts { blank.parts ≡ L.parts }
-    requires some { 0 < blank.parts }
-{
-    let mut steps = Steps::<L>::new(blank);
+    steps: &mut Steps<L>,
+) -> Result<[u32; 6], AllocError> {
     let mut links = I::empty(alloc, 4, 3)?;
-    links.link(0, [0, 1], &mut steps);
-    links.link(1, [1, 2], &mut steps);
-    links.link(2, [2, 3], &mut steps);
-    let middle = links.degree(1, &mut steps);
-    let last = links.degree(3, &mut steps);
-    let first = links.sole(0, &mut steps);
-    links.unlink(0, [0, 1], &mut steps);
-    let lone = links.degree(0, &mut steps);
-    let freed = links.degree(1, &mut steps);
-    let next = links.sole(1, &mut steps);
+    links.link(0, [0, 1], steps);
+    links.link(1, [1, 2], steps);
+    links.link(2, [2, 3], steps);
+    let middle = links.degree(1, steps);
+    let last = links.degree(3, steps);
+    let first = links.sole(0, steps);
+    links.unlink(0, [0, 1], steps);
+    let lone = links.degree(0, steps);
+    let freed = links.degree(1, steps);
+    let next = links.sole(1, steps);
     Ok([middle, last, first, lone, freed, next])
 }
 
 /// Links two edges with three ends that share one, and unlinks the second.
 fn fork<I: Incidence<3> + Drop, L: Ledger>(
     alloc: Global,
-    blank: Blank,
-) -> Result<[u32; 4], AllocError>
-    requires name { blank.name ≡ L.name }
-    requires parts { blank.parts ≡ L.parts }
-    requires some { 0 < blank.parts }
-{
-    let mut steps = Steps::<L>::new(blank);
+    steps: &mut Steps<L>,
+) -> Result<[u32; 4], AllocError> {
     let mut links = I::empty(alloc, 9, 6)?;
-    links.link(5, [0, 3, 6], &mut steps);
-    links.link(2, [1, 3, 7], &mut steps);
-    let shared = links.degree(3, &mut steps);
-    let sole = links.sole(7, &mut steps);
-    links.unlink(2, [1, 3, 7], &mut steps);
-    let left = links.sole(3, &mut steps);
-    let none = links.degree(7, &mut steps);
+    links.link(5, [0, 3, 6], steps);
+    links.link(2, [1, 3, 7], steps);
+    let shared = links.degree(3, steps);
+    let sole = links.sole(7, steps);
+    links.unlink(2, [1, 3, 7], steps);
+    let left = links.sole(3, steps);
+    let none = links.degree(7, steps);
     Ok([shared, sole, left, none])
 }
 
 /// Links three edges that share a vertex, unlinks the middle one and then the first, and links that one elsewhere.
 fn star<I: Incidence<2> + Drop, L: Ledger>(
     alloc: Global,
-    blank: Blank,
-) -> Result<[u32; 5], AllocError>
-    requires name { blank.name ≡ L.name }
-    requires parts { blank.parts ≡ L.parts }
-    requires some { 0 < blank.parts }
-{
-    let mut steps = Steps::<L>::new(blank);
+    steps: &mut Steps<L>,
+) -> Result<[u32; 5], AllocError> {
     let mut links = I::empty(alloc, 4, 3)?;
-    links.link(0, [0, 1], &mut steps);
-    links.link(1, [2, 0], &mut steps);
-    links.link(2, [0, 3], &mut steps);
-    let all = links.degree(0, &mut steps);
-    links.unlink(1, [2, 0], &mut steps);
-    let two = links.degree(0, &mut steps);
-    links.unlink(0, [0, 1], &mut steps);
-    let last = links.sole(0, &mut steps);
-    links.link(0, [3, 2], &mut steps);
-    let again = links.sole(2, &mut steps);
-    let both = links.degree(3, &mut steps);
+    links.link(0, [0, 1], steps);
+    links.link(1, [2, 0], steps);
+    links.link(2, [0, 3], steps);
+    let all = links.degree(0, steps);
+    links.unlink(1, [2, 0], steps);
+    let two = links.degree(0, steps);
+    links.unlink(0, [0, 1], steps);
+    let last = links.sole(0, steps);
+    links.link(0, [3, 2], steps);
+    let again = links.sole(2, steps);
+    let both = links.degree(3, steps);
     Ok([all, two, last, again, both])
 }
 
 /// Removes the middle edge of a path from both sides: the places that are left alone, and how many of all are.
 fn cut_path<I: Incidence<2> + Drop, L: Ledger>(
     alloc: Global,
-    blank: Blank,
-) -> Result<[u32; 6], AllocError>
-    requires name { blank.name ≡ L.name }
-    requires parts { blank.parts ≡ L.parts }
-    requires some { 0 < blank.parts }
-{
-    let mut steps = Steps::<L>::new(blank);
+    steps: &mut Steps<L>,
+) -> Result<[u32; 6], AllocError> {
     let mut links = I::empty(alloc, 4, 3)?;
-    links.link(0, [0, 1], &mut steps);
-    links.link(1, [1, 2], &mut steps);
-    links.link(2, [2, 3], &mut steps);
+    links.link(0, [0, 1], steps);
+    links.link(1, [1, 2], steps);
+    links.link(2, [2, 3], steps);
     let halves = [
         Half {
             vertex: 1,
@@ -102,9 +83,9 @@ fn cut_path<I: Incidence<2> + Drop, L: Ledger>(
         },
     ];
     let mut places = [0; 2];
-    let count = links.remove(&halves, &mut places, &mut steps);
+    let count = links.remove(&halves, &mut places, steps);
     let mut all = [0; 4];
-    let alone = links.list_alone(0, &mut all, &mut steps);
+    let alone = links.list_alone(0, &mut all, steps);
     Ok([
         count as u32,
         places[0],
@@ -118,24 +99,19 @@ fn cut_path<I: Incidence<2> + Drop, L: Ledger>(
 /// Removes from one vertex of two edges with three ends the half-edge of the first.
 fn cut_fork<I: Incidence<3> + Drop, L: Ledger>(
     alloc: Global,
-    blank: Blank,
-) -> Result<[u32; 4], AllocError>
-    requires name { blank.name ≡ L.name }
-    requires parts { blank.parts ≡ L.parts }
-    requires some { 0 < blank.parts }
-{
-    let mut steps = Steps::<L>::new(blank);
+    steps: &mut Steps<L>,
+) -> Result<[u32; 4], AllocError> {
     let mut links = I::empty(alloc, 9, 6)?;
-    links.link(5, [0, 3, 6], &mut steps);
-    links.link(2, [1, 3, 7], &mut steps);
+    links.link(5, [0, 3, 6], steps);
+    links.link(2, [1, 3, 7], steps);
     let halves = [Half {
         vertex: 3,
         place: 21,
     }];
     let mut places = [0; 1];
-    let count = links.remove(&halves, &mut places, &mut steps);
-    let left = links.degree(3, &mut steps);
-    let sole = links.sole(3, &mut steps);
+    let count = links.remove(&halves, &mut places, steps);
+    let left = links.degree(3, steps);
+    let sole = links.sole(3, steps);
     Ok([count as u32, places[0], left, sole])
 }
 
@@ -143,46 +119,54 @@ fn cut_fork<I: Incidence<3> + Drop, L: Ledger>(
 /// half-edge, and the place of the last.
 fn crown<I: Incidence<2> + Drop, L: Ledger>(
     alloc: Global,
-    blank: Blank,
+    steps: &mut Steps<L>,
     spread: bool,
-) -> Result<[u32; 3], AllocError>
-    requires name { blank.name ≡ L.name }
-    requires parts { blank.parts ≡ L.parts }
-    requires some { 0 < blank.parts }
-{
+) -> Result<[u32; 3], AllocError> {
     let mut edges = Edges::<2>::new(alloc, 71);
     for i in 0..70 {
         let other = if spread { 1 + i } else { 1 };
         edges.push([0, other])?;
     }
-    let mut steps = Steps::<L>::new(blank);
-    let links = I::from_edges(alloc, &edges, &mut steps)?;
-    let shared = links.degree(0, &mut steps);
+    let links = I::from_edges(alloc, &edges, steps)?;
+    let shared = links.degree(0, steps);
     let mut places = [0; 71];
-    let alone = links.list_alone(0, &mut places, &mut steps);
+    let alone = links.list_alone(0, &mut places, steps);
     Ok([shared, alone as u32, places[69]])
 }
 
-/// What an incidence of edges with two ends shows, and one of edges with three.
+/// What an incidence of edges with two ends shows, and one of edges with three, with steps that nobody reads.
+fn shows_by<P: Incidence<2> + Drop, T: Incidence<3> + Drop, L: Ledger>(
+    rt: &impl Abort,
+    alloc: Global,
+    blank: Blank,
+) -> Result<(), AllocError>
+    requires name { blank.name ≡ L.name }
+    requires parts { blank.parts ≡ L.parts }
+    requires some { 0 < blank.parts }
+{
+    let mut steps = Steps::<L>::new(blank);
+    let seen = path::<P, L>(alloc, &mut steps)?;
+    expect_equal(rt, &seen, &[2, 1, 0, 0, 1, 1]);
+    let seen = fork::<T, L>(alloc, &mut steps)?;
+    expect_equal(rt, &seen, &[2, 2, 5, 0]);
+    let seen = star::<P, L>(alloc, &mut steps)?;
+    expect_equal(rt, &seen, &[3, 2, 2, 0, 2]);
+    let seen = cut_path::<P, L>(alloc, &mut steps)?;
+    expect_equal(rt, &seen, &[2, 1, 8, 4, 0, 9]);
+    let seen = cut_fork::<T, L>(alloc, &mut steps)?;
+    expect_equal(rt, &seen, &[1, 9, 1, 2]);
+    let seen = crown::<P, L>(alloc, &mut steps, false)?;
+    expect_equal(rt, &seen, &[70, 0, 0]);
+    let seen = crown::<P, L>(alloc, &mut steps, true)?;
+    expect_equal(rt, &seen, &[70, 70, 277]);
+    Ok(())
+}
+
 fn shows<P: Incidence<2> + Drop, T: Incidence<3> + Drop>(
     rt: &impl Abort,
     alloc: Global,
 ) -> Result<(), AllocError> {
-    let seen = path::<P, Brand>(alloc, Blank::new(1))?;
-    assert_eq!(rt; seen, [2, 1, 0, 0, 1, 1]);
-    let seen = fork::<T, Brand>(alloc, Blank::new(1))?;
-    assert_eq!(rt; seen, [2, 2, 5, 0]);
-    let seen = star::<P, Brand>(alloc, Blank::new(1))?;
-    assert_eq!(rt; seen, [3, 2, 2, 0, 2]);
-    let seen = cut_path::<P, Brand>(alloc, Blank::new(1))?;
-    assert_eq!(rt; seen, [2, 1, 8, 4, 0, 9]);
-    let seen = cut_fork::<T, Brand>(alloc, Blank::new(1))?;
-    assert_eq!(rt; seen, [1, 9, 1, 2]);
-    let seen = crown::<P, Brand>(alloc, Blank::new(1), false)?;
-    assert_eq!(rt; seen, [70, 0, 0]);
-    let seen = crown::<P, Brand>(alloc, Blank::new(1), true)?;
-    assert_eq!(rt; seen, [70, 70, 277]);
-    Ok(())
+    shows_by::<P, T, Brand>(rt, alloc, Blank::new(1))
 }
 
 #[test]
@@ -197,15 +181,15 @@ fn edges(rt: HostRuntime) -> Result<(), Fail> {
     let mut pairs = Edges::<2>::new(rt.alloc(), 4);
     pairs.push([0, 1])?;
     pairs.push([3, 1])?;
-    assert_eq!(rt; pairs.len(), 2);
-    assert_eq!(rt; pairs.vertices(), 4);
-    assert_eq!(rt; pairs.ends(1), [3, 1]);
+    expect_equal(&rt, &pairs.len(), &2);
+    expect_equal(&rt, &pairs.vertices(), &4);
+    expect_equal(&rt, &pairs.ends(1), &[3, 1]);
     let mut gathered = [[0; 2]; 3];
     pairs.gather(&[1, 0, 1], &mut gathered);
-    assert_eq!(rt; gathered, [[3, 1], [0, 1], [3, 1]]);
+    expect_equal(&rt, &gathered, &[[3, 1], [0, 1], [3, 1]]);
     let mut triples = Edges::<3>::with_capacity(rt.alloc(), 671088645, 1)?;
     triples.push([671088644, 0, 7])?;
-    assert_eq!(rt; triples.len(), 1);
-    assert_eq!(rt; triples.ends(0), [671088644, 0, 7]);
+    expect_equal(&rt, &triples.len(), &1);
+    expect_equal(&rt, &triples.ends(0), &[671088644, 0, 7]);
     Ok(())
 }

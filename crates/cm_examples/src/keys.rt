@@ -1,5 +1,5 @@
 //! Passes over the lines of a file, by public calls alone.
-use crate::equal::equal_texts;
+use crate::equal::{expect_equal_at, expect_text};
 use cm_keys::Keys;
 use cm_outer::{KeyBuf, KeyPass, MAX_KEY_LEN, MAX_KEYS, MemSource};
 use std::alloc::{AllocError, Global};
@@ -179,7 +179,7 @@ fn lines_of_small_files(rt: HostRuntime) -> Result<(), Fail> {
             first,
             calls,
         )?;
-        assert_eq!(rt; shown.as_str(), text, "{calls}");
+        expect_equal_at(&rt, &calls, &shown.as_str(), &text);
     }
     Ok(())
 }
@@ -190,16 +190,15 @@ fn the_longest_key(rt: HostRuntime) -> Result<(), Fail> {
     let mut bytes = vec![in alloc; b'a'; MAX_KEY_LEN + 2]?;
     bytes[1] = b'\n';
     let shown = shown_of(alloc, bytes, &[], &[], None, "nnn")?;
-    assert!(rt; equal_texts(shown.as_str(), "1=a; 2=65535 bytes; end; "));
+    expect_text(&rt, shown.as_str(), "1=a; 2=65535 bytes; end; ");
     let mut bytes = vec![in alloc; b'a'; MAX_KEY_LEN + 4]?;
     bytes[1] = b'\n';
     bytes[MAX_KEY_LEN + 3] = b'\n';
     let shown = shown_of(alloc, bytes, &[], &[], None, "nnnrp")?;
-    assert!(rt;
-        equal_texts(
-            shown.as_str(),
-            "1=a; line 2 is too long; unusable; start; 1 keys, line 2 is too long; "
-        )
+    expect_text(
+        &rt,
+        shown.as_str(),
+        "1=a; line 2 is too long; unusable; start; 1 keys, line 2 is too long; ",
     );
     Ok(())
 }
@@ -209,11 +208,10 @@ fn the_most_keys(rt: HostRuntime) -> Result<(), Fail> {
     let alloc = rt.alloc();
     let bytes = vec![in alloc; b'\n'; MAX_KEYS as usize + 1]?;
     let shown = shown_of(alloc, bytes, &[], &[], None, "pn")?;
-    assert!(rt;
-        equal_texts(
-            shown.as_str(),
-            "16777216 keys, there are too many keys; unusable; "
-        )
+    expect_text(
+        &rt,
+        shown.as_str(),
+        "16777216 keys, there are too many keys; unusable; ",
     );
     Ok(())
 }
@@ -231,7 +229,7 @@ fn a_fault_in_mid_stream(rt: HostRuntime) -> Result<(), Fail> {
     ] {
         let bytes = vec![in alloc; b'\n'; 65_537]?;
         let shown = shown_of(alloc, bytes, &[1], &[0], None, calls)?;
-        assert!(rt; equal_texts(shown.as_str(), text));
+        expect_text(&rt, shown.as_str(), text);
     }
     Ok(())
 }

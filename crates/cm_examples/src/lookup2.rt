@@ -1,4 +1,4 @@
-use crate::equal::equal;
+use crate::equal::{expect_equal, expect_equal_at};
 use cm_lookup2::words;
 use std::test::Fail;
 
@@ -34,16 +34,35 @@ const PREFIXES: [[u32; 3]; 23] = [
 
 #[test]
 fn published_rows(rt: HostRuntime) -> Result<(), Fail> {
-    assert!(rt; equal(&words(b"", 0), &[0x9b2e_c03d, 0xdb2b_69ae, 0xbd49_d10d]));
-    assert!(rt; equal(&words(b"a", 0), &[0x9454_baa3, 0xb711_c708, 0x29ee_c818]));
-    assert!(rt; equal(&words(b"b", 0), &[0x985a_ccb1, 0x8a9b_d6c6, 0x54ac_a597]));
-    assert!(rt; equal(&words(b"a", 1), &[0x8338_ae66, 0xdb7e_1739, 0x75f1_faad]));
-    assert!(rt; equal(&words(b"b", 1), &[0x9456_939b, 0xbfb7_060f, 0x2148_e957]));
-    assert!(rt;
-        equal(
-            &words(b"key-0000000000", 1),
-            &[0x2ece_ba23, 0x9595_38f7, 0x9187_254a]
-        )
+    expect_equal(
+        &rt,
+        &words(b"", 0),
+        &[0x9b2e_c03d, 0xdb2b_69ae, 0xbd49_d10d],
+    );
+    expect_equal(
+        &rt,
+        &words(b"a", 0),
+        &[0x9454_baa3, 0xb711_c708, 0x29ee_c818],
+    );
+    expect_equal(
+        &rt,
+        &words(b"b", 0),
+        &[0x985a_ccb1, 0x8a9b_d6c6, 0x54ac_a597],
+    );
+    expect_equal(
+        &rt,
+        &words(b"a", 1),
+        &[0x8338_ae66, 0xdb7e_1739, 0x75f1_faad],
+    );
+    expect_equal(
+        &rt,
+        &words(b"b", 1),
+        &[0x9456_939b, 0xbfb7_060f, 0x2148_e957],
+    );
+    expect_equal(
+        &rt,
+        &words(b"key-0000000000", 1),
+        &[0x2ece_ba23, 0x9595_38f7, 0x9187_254a],
     );
     Ok(())
 }
@@ -51,7 +70,7 @@ fn published_rows(rt: HostRuntime) -> Result<(), Fail> {
 #[test]
 fn tails_of_all_lengths(rt: HostRuntime) -> Result<(), Fail> {
     for n in 2..25usize {
-        assert_eq!(rt; words(&TEXT[..n], 7), PREFIXES[n - 2], "{n} letters");
+        expect_equal_at(&rt, &n, &words(&TEXT[..n], 7), &PREFIXES[n - 2]);
     }
     Ok(())
 }

@@ -3,7 +3,7 @@ ghost use Rattle.cm_outer.specs.Causes.{HasCause};
 ghost use Rattle.cm_outer.specs.Noting.{Noted};
 ghost use Rattle.cm_outer.specs.Writing.{Writes};
 
-use crate::equal::{equal, equal_bytes, equal_texts};
+use crate::equal::{expect_bytes, expect_equal, expect_text, expect_true};
 use cm_outer::{
     Disk, DiskCall, DiskFault, Failed, KeyBuf, KeyFault, MAX_KEY_LEN, MAX_KEYS, MemDisk, MemSink,
     MemSource, MemSpill, Notes, Sink, Source, Spill, write_pieces,
@@ -147,21 +147,21 @@ fn reads_go_on_after_a_fault(rt: HostRuntime) -> Result<(), Fail> {
         [0].to_vec(alloc)?,
     );
     let mut buf = [0u8; 4];
-    assert!(rt; equal(&read_from(&mut source, &mut buf), &Ok(4)));
-    assert!(rt; equal_bytes(buf.as_slice(), b"abcd"));
-    assert!(rt; equal(&read_from(&mut source, &mut buf), &Err(Failed)));
-    assert!(rt; equal(&rewound(&mut source), &Err(Failed)));
-    assert!(rt; equal(&read_from(&mut source, &mut buf), &Ok(2)));
-    assert!(rt; equal_bytes(buf.as_slice(), b"efcd"));
-    assert!(rt; equal(&read_from(&mut source, &mut buf), &Ok(0)));
-    assert!(rt; equal(&rewound(&mut source), &Ok(())));
-    assert!(rt; equal(&read_from(&mut source, &mut buf[..1]), &Ok(1)));
-    assert!(rt; equal(&read_from(&mut source, &mut []), &Ok(0)));
-    assert!(rt; equal(&read_from(&mut source, &mut buf[1..]), &Ok(3)));
-    assert!(rt; equal_bytes(buf.as_slice(), b"abcd"));
+    expect_equal(&rt, &read_from(&mut source, &mut buf), &Ok(4));
+    expect_bytes(&rt, buf.as_slice(), b"abcd");
+    expect_equal(&rt, &read_from(&mut source, &mut buf), &Err(Failed));
+    expect_equal(&rt, &rewound(&mut source), &Err(Failed));
+    expect_equal(&rt, &read_from(&mut source, &mut buf), &Ok(2));
+    expect_bytes(&rt, buf.as_slice(), b"efcd");
+    expect_equal(&rt, &read_from(&mut source, &mut buf), &Ok(0));
+    expect_equal(&rt, &rewound(&mut source), &Ok(()));
+    expect_equal(&rt, &read_from(&mut source, &mut buf[..1]), &Ok(1));
+    expect_equal(&rt, &read_from(&mut source, &mut []), &Ok(0));
+    expect_equal(&rt, &read_from(&mut source, &mut buf[1..]), &Ok(3));
+    expect_bytes(&rt, buf.as_slice(), b"abcd");
     let mut disk = MemDisk::new(alloc, 0);
     disk.shut(source);
-    assert!(rt; equal(&disk.read_faults(), &1));
+    expect_equal(&rt, &disk.read_faults(), &1);
     Ok(())
 }
 
@@ -169,12 +169,12 @@ fn reads_go_on_after_a_fault(rt: HostRuntime) -> Result<(), Fail> {
 fn a_room_ends_inside_a_piece(rt: HostRuntime) -> Result<(), Fail> {
     let alloc = rt.alloc();
     let mut sink = MemSink::new(alloc, 5, [1].to_vec(alloc)?)?;
-    assert!(rt; equal(&sink.write(b"abc"), &Ok(())));
-    assert!(rt; equal(&sink.write(b"x"), &Err(Failed)));
-    assert!(rt; equal_bytes(sink.bytes(), b"abc"));
-    assert!(rt; equal(&sink.write(b"def"), &Err(Failed)));
-    assert!(rt; equal_bytes(sink.bytes(), b"abcde"));
-    assert!(rt; equal(&sink.write(b""), &Ok(())));
+    expect_equal(&rt, &sink.write(b"abc"), &Ok(()));
+    expect_equal(&rt, &sink.write(b"x"), &Err(Failed));
+    expect_bytes(&rt, sink.bytes(), b"abc");
+    expect_equal(&rt, &sink.write(b"def"), &Err(Failed));
+    expect_bytes(&rt, sink.bytes(), b"abcde");
+    expect_equal(&rt, &sink.write(b""), &Ok(()));
     Ok(())
 }
 
@@ -182,21 +182,21 @@ fn a_room_ends_inside_a_piece(rt: HostRuntime) -> Result<(), Fail> {
 fn a_spill_is_read_from_any_place(rt: HostRuntime) -> Result<(), Fail> {
     let alloc = rt.alloc();
     let mut spill = MemSpill::new(alloc, 5, [1].to_vec(alloc)?, [2].to_vec(alloc)?)?;
-    assert!(rt; equal(&spill.append(b"abc"), &Ok(())));
-    assert!(rt; equal(&spill.append(b"x"), &Err(Failed)));
-    assert!(rt; equal(&spill.append(b"def"), &Err(Failed)));
+    expect_equal(&rt, &spill.append(b"abc"), &Ok(()));
+    expect_equal(&rt, &spill.append(b"x"), &Err(Failed));
+    expect_equal(&rt, &spill.append(b"def"), &Err(Failed));
     let mut buf = [0u8; 2];
-    assert!(rt; equal(&spill.read_at(3, &mut buf), &Ok(2)));
-    assert!(rt; equal_bytes(buf.as_slice(), b"de"));
-    assert!(rt; equal(&spill.read_at(4, &mut buf), &Ok(1)));
-    assert!(rt; equal_bytes(buf.as_slice(), b"ee"));
-    assert!(rt; equal(&spill.read_at(0, &mut buf), &Err(Failed)));
-    assert!(rt; equal(&spill.read_at(5, &mut buf), &Ok(0)));
-    assert!(rt; equal(&spill.read_at(u64::MAX, &mut buf), &Ok(0)));
-    assert!(rt; equal(&spill.read_at(0, &mut []), &Ok(0)));
+    expect_equal(&rt, &spill.read_at(3, &mut buf), &Ok(2));
+    expect_bytes(&rt, buf.as_slice(), b"de");
+    expect_equal(&rt, &spill.read_at(4, &mut buf), &Ok(1));
+    expect_bytes(&rt, buf.as_slice(), b"ee");
+    expect_equal(&rt, &spill.read_at(0, &mut buf), &Err(Failed));
+    expect_equal(&rt, &spill.read_at(5, &mut buf), &Ok(0));
+    expect_equal(&rt, &spill.read_at(u64::MAX, &mut buf), &Ok(0));
+    expect_equal(&rt, &spill.read_at(0, &mut []), &Ok(0));
     let mut whole = [0u8; 6];
-    assert!(rt; equal(&spill.read_at(0, &mut whole), &Ok(5)));
-    assert!(rt; equal_bytes(&whole[..5], b"abcde"));
+    expect_equal(&rt, &spill.read_at(0, &mut whole), &Ok(5));
+    expect_bytes(&rt, &whole[..5], b"abcde");
     Ok(())
 }
 
@@ -204,10 +204,10 @@ fn a_spill_is_read_from_any_place(rt: HostRuntime) -> Result<(), Fail> {
 fn pieces_are_written_in_order(rt: HostRuntime) -> Result<(), Fail> {
     let alloc = rt.alloc();
     let mut sink = MemSink::new(alloc, 9, Vec::new(alloc))?;
-    assert!(rt; equal(&write_answer(&mut sink, b"a", b"7"), &Ok(())));
-    assert!(rt; equal_bytes(sink.bytes(), b"a -> 7\n"));
-    assert!(rt; equal(&write_answer(&mut sink, b"b", b"8"), &Err(Failed)));
-    assert!(rt; equal_bytes(sink.bytes(), b"a -> 7\nb "));
+    expect_equal(&rt, &write_answer(&mut sink, b"a", b"7"), &Ok(()));
+    expect_bytes(&rt, sink.bytes(), b"a -> 7\n");
+    expect_equal(&rt, &write_answer(&mut sink, b"b", b"8"), &Err(Failed));
+    expect_bytes(&rt, sink.bytes(), b"a -> 7\nb ");
     Ok(())
 }
 
@@ -218,11 +218,11 @@ fn notes_end_with_the_first_that_failed(rt: HostRuntime) -> Result<(), Fail> {
     let mut notes = Notes::new();
     complain(&mut notes, &mut sink, "keys");
     notes.note(&mut sink, b"\n");
-    assert!(rt; equal_bytes(sink.bytes(), b"cmph: keys: no keys\n\n"));
+    expect_bytes(&rt, sink.bytes(), b"cmph: keys: no keys\n\n");
     notes.note_pieces(&mut sink, &[b"lost", b"lost"]);
     notes.note(&mut sink, b"silent");
     notes.note_pieces(&mut sink, &[b"silent"]);
-    assert!(rt; equal_bytes(sink.bytes(), b"cmph: keys: no keys\n\n"));
+    expect_bytes(&rt, sink.bytes(), b"cmph: keys: no keys\n\n");
     Ok(())
 }
 
@@ -231,21 +231,24 @@ fn files_are_kept(rt: HostRuntime) -> Result<(), Fail> {
     let mut disk = MemDisk::new(rt.alloc(), 4);
     disk.put("keys", b"a\nb\nc")?;
     disk.put("keys", b"a\nb\n")?;
-    assert!(rt; holds(&disk, "keys", b"a\nb\n"));
-    assert!(rt; disk.get("key").is_none());
+    expect_true(&rt, holds(&disk, "keys", b"a\nb\n"));
+    expect_true(&rt, disk.get("key").is_none());
     let mut buf = [0u8; 3];
-    assert!(rt; equal(&first_bytes(&mut disk, "keys", &mut buf), &Ok(3)));
-    assert!(rt; equal_bytes(buf.as_slice(), b"a\nb"));
-    assert!(rt;
-        equal(
-            &first_bytes(&mut disk, "key", &mut buf),
-            &Err(DiskFault::Failed)
-        )
+    expect_equal(&rt, &first_bytes(&mut disk, "keys", &mut buf), &Ok(3));
+    expect_bytes(&rt, buf.as_slice(), b"a\nb");
+    expect_equal(
+        &rt,
+        &first_bytes(&mut disk, "key", &mut buf),
+        &Err(DiskFault::Failed),
     );
-    assert!(rt; equal(&store(&mut disk, "out", b"1234"), &Ok(())));
-    assert!(rt; equal(&store(&mut disk, "out", b"56789"), &Err(DiskFault::Failed)));
-    assert!(rt; holds(&disk, "out", b"5678"));
-    assert!(rt; holds(&disk, "keys", b"a\nb\n"));
+    expect_equal(&rt, &store(&mut disk, "out", b"1234"), &Ok(()));
+    expect_equal(
+        &rt,
+        &store(&mut disk, "out", b"56789"),
+        &Err(DiskFault::Failed),
+    );
+    expect_true(&rt, holds(&disk, "out", b"5678"));
+    expect_true(&rt, holds(&disk, "keys", b"a\nb\n"));
     Ok(())
 }
 
@@ -274,10 +277,10 @@ fn listed_calls_fail(rt: HostRuntime) -> Result<(), Fail> {
         for number in 0..3 {
             failed.note_round(&mut disk, number)?;
         }
-        assert!(rt; equal(&failed.calls.len(), &times));
-        assert!(rt; failed.calls.iter().all(|call| *call == (kind, 1)));
-        assert!(rt; equal(&disk.read_faults(), &read_faults));
-        assert!(rt; equal(&disk.write_faults(), &write_faults));
+        expect_equal(&rt, &failed.calls.len(), &times);
+        expect_true(&rt, failed.calls.iter().all(|call| *call == (kind, 1)));
+        expect_equal(&rt, &disk.read_faults(), &read_faults);
+        expect_equal(&rt, &disk.write_faults(), &write_faults);
     }
     Ok(())
 }
@@ -287,13 +290,17 @@ fn failed_calls_keep_the_files(rt: HostRuntime) -> Result<(), Fail> {
     let mut disk = MemDisk::new(rt.alloc(), 4);
     disk.fail(DiskCall::Close, 0)?;
     disk.fail(DiskCall::Create, 1)?;
-    assert!(rt; equal(&store(&mut disk, "out", b"1234"), &Err(DiskFault::Failed)));
-    assert!(rt; holds(&disk, "out", b"1234"));
-    assert!(rt; equal(&store(&mut disk, "out", b"5"), &Err(DiskFault::Failed)));
-    assert!(rt; holds(&disk, "out", b"1234"));
-    assert!(rt; equal(&store(&mut disk, "out", b"5"), &Ok(())));
-    assert!(rt; holds(&disk, "out", b"5"));
-    assert!(rt; equal(&disk.write_faults(), &2));
+    expect_equal(
+        &rt,
+        &store(&mut disk, "out", b"1234"),
+        &Err(DiskFault::Failed),
+    );
+    expect_true(&rt, holds(&disk, "out", b"1234"));
+    expect_equal(&rt, &store(&mut disk, "out", b"5"), &Err(DiskFault::Failed));
+    expect_true(&rt, holds(&disk, "out", b"1234"));
+    expect_equal(&rt, &store(&mut disk, "out", b"5"), &Ok(()));
+    expect_true(&rt, holds(&disk, "out", b"5"));
+    expect_equal(&rt, &disk.write_faults(), &2);
     Ok(())
 }
 
@@ -306,15 +313,14 @@ fn texts_and_limits(rt: HostRuntime) -> Result<(), Fail> {
         KeyFault::TooLong { line: 2 },
         KeyFault::TooMany
     )?;
-    assert!(rt;
-        equal_texts(
-            text.as_str(),
-            "the keys cannot be read; line 2 is too long; there are too many keys"
-        )
+    expect_text(
+        &rt,
+        text.as_str(),
+        "the keys cannot be read; line 2 is too long; there are too many keys",
     );
-    assert!(rt; equal(&MAX_KEYS, &16_777_216));
-    assert!(rt; equal(&MAX_KEY_LEN, &65_535));
-    assert!(rt; equal(&KeyBuf::new().capacity(), &65_535));
-    assert!(rt; equal(&one_byte(alloc).map(|bytes| bytes.len()), &Ok(1)));
+    expect_equal(&rt, &MAX_KEYS, &16_777_216);
+    expect_equal(&rt, &MAX_KEY_LEN, &65_535);
+    expect_equal(&rt, &KeyBuf::new().capacity(), &65_535);
+    expect_equal(&rt, &one_byte(alloc).map(|bytes| bytes.len()), &Ok(1));
     Ok(())
 }

@@ -1,3 +1,4 @@
+use crate::equal::{expect_equal, expect_text};
 use cm_algorithm::Algorithm;
 use std::test::Fail;
 
@@ -12,11 +13,11 @@ const NAMES: [(&str, Algorithm); 4] = [
 #[test]
 fn names(rt: HostRuntime) -> Result<(), Fail> {
     for (name, algorithm) in NAMES {
-        assert_eq!(rt; algorithm.name(), name);
-        assert_eq!(rt; Algorithm::from_name(name), Some(algorithm));
+        expect_text(&rt, algorithm.name(), name);
+        expect_equal(&rt, &Algorithm::from_name(name), &Some(algorithm));
     }
     for other in ["", "CHM", "bdz_", "bdz-ph", "chm ", "brzz"] {
-        assert_eq!(rt; Algorithm::from_name(other), None);
+        expect_equal(&rt, &Algorithm::from_name(other), &None);
     }
     Ok(())
 }

@@ -1,5 +1,6 @@
 ghost use Rattle.std.specs.Prelude.{◌≡◌, ◌<◌, length, IfOk};
 
+use crate::equal::{expect_equal, expect_true};
 use cm_graph::{Edges, Incidence, Linked, Steps, Xored};
 use cm_peel::{Peeled, peel, peel_without_levels};
 use std::alloc::{AllocError, Global};
@@ -114,17 +115,18 @@ fn gives<const K: usize>(
 fn peels_a_path<I: Incidence<2> + Drop>(rt: &impl Abort, alloc: Global) -> Result<(), AllocError> {
     let mut edges = Edges::<2>::new(alloc, 4);
     for v in 0..3u32 {
-        assert!(rt; add(&mut edges, v, v + 1)?);
+        expect_true(rt, add(&mut edges, v, v + 1)?);
     }
     let path = pairs::<I>(alloc, &edges)?;
-    assert!(rt;
+    expect_true(
+        rt,
         gives(
             &path,
             edges.len(),
             &[(1, 0), (2, 0), (1, 1)],
             &[0, 2, 1],
-            &[]
-        )
+            &[],
+        ),
     );
     Ok(())
 }
@@ -132,14 +134,14 @@ fn peels_a_path<I: Incidence<2> + Drop>(rt: &impl Abort, alloc: Global) -> Resul
 fn leaves_a_ring<I: Incidence<2> + Drop>(rt: &impl Abort, alloc: Global) -> Result<(), AllocError> {
     let mut edges = Edges::<2>::new(alloc, 4);
     for v in 0..3u32 {
-        assert!(rt; add(&mut edges, v, (v + 1) % 3)?);
+        expect_true(rt, add(&mut edges, v, (v + 1) % 3)?);
     }
     let bare = pairs::<I>(alloc, &edges)?;
-    assert!(rt; gives(&bare, edges.len(), &[(0, 0); 3], &[], &[0, 1, 2]));
-    assert!(rt; add(&mut edges, 2, 3)?);
+    expect_true(rt, gives(&bare, edges.len(), &[(0, 0); 3], &[], &[0, 1, 2]));
+    expect_true(rt, add(&mut edges, 2, 3)?);
     let tailed = pairs::<I>(alloc, &edges)?;
     let marks = [(0, 0), (0, 0), (0, 0), (1, 1)];
-    assert!(rt; gives(&tailed, edges.len(), &marks, &[3], &[0, 1, 2]));
+    expect_true(rt, gives(&tailed, edges.len(), &marks, &[3], &[0, 1, 2]));
     Ok(())
 }
 
@@ -149,10 +151,10 @@ fn peels_a_triple<I: Incidence<3> + Drop>(
 ) -> Result<(), AllocError> {
     let mut edges = Edges::<3>::new(alloc, 9);
     let none = triples::<I>(alloc, &edges)?;
-    assert!(rt; gives(&none, edges.len(), &[], &[], &[]));
+    expect_true(rt, gives(&none, edges.len(), &[], &[], &[]));
     edges.push([0, 3, 6])?;
     let one = triples::<I>(alloc, &edges)?;
-    assert!(rt; gives(&one, edges.len(), &[(1, 0)], &[0], &[]));
+    expect_true(rt, gives(&one, edges.len(), &[(1, 0)], &[0], &[]));
     Ok(())
 }
 
@@ -163,14 +165,14 @@ fn peels_a_crown<I: Incidence<2> + Drop>(rt: &impl Abort, alloc: Global) -> Resu
     let mut equal = Edges::<2>::new(alloc, 71);
     let mut numbers = [0; 70];
     for i in 0..70u32 {
-        assert!(rt; add(&mut spread, 0, 1 + i)?);
-        assert!(rt; add(&mut equal, 0, 1)?);
+        expect_true(rt, add(&mut spread, 0, 1 + i)?);
+        expect_true(rt, add(&mut equal, 0, 1)?);
         numbers[i as usize] = i;
     }
     let gone = pairs::<I>(alloc, &spread)?;
-    assert!(rt; gives(&gone, spread.len(), &[(1, 1); 70], &numbers, &[]));
+    expect_true(rt, gives(&gone, spread.len(), &[(1, 1); 70], &numbers, &[]));
     let left = pairs::<I>(alloc, &equal)?;
-    assert!(rt; gives(&left, equal.len(), &[(0, 0); 70], &[], &numbers));
+    expect_true(rt, gives(&left, equal.len(), &[(0, 0); 70], &[], &numbers));
     Ok(())
 }
 
@@ -217,14 +219,14 @@ fn is_path_peeled(peeled: &Peeled<2>, m: u32) -> bool
 fn long_path(rt: HostRuntime) -> Result<(), Fail> {
     let mut edges = Edges::<2>::with_capacity(rt.alloc(), 1_000_001, 1_000_000)?;
     for e in 0..1_000_000u32 {
-        assert!(rt; add(&mut edges, e, e + 1)?);
+        expect_true(&rt, add(&mut edges, e, e + 1)?);
     }
     let m = edges.len();
-    assert_eq!(rt; m, 1_000_000);
+    expect_equal(&rt, &m, &1_000_000);
     let xored = pairs::<Xored<2>>(rt.alloc(), &edges)?;
-    assert!(rt; is_path_peeled(&xored, m));
+    expect_true(&rt, is_path_peeled(&xored, m));
     let chained = pairs::<Linked<2>>(rt.alloc(), &edges)?;
-    assert!(rt; is_path_peeled(&chained, m));
+    expect_true(&rt, is_path_peeled(&chained, m));
     Ok(())
 }
 
@@ -290,13 +292,13 @@ fn forest(rt: HostRuntime) -> Result<(), Fail> {
     let mut edges = Edges::<2>::new(rt.alloc(), 1162);
     for e in 0..1141u32 {
         let v = first_end(e);
-        assert!(rt; add(&mut edges, v, v + 1)?);
+        expect_true(&rt, add(&mut edges, v, v + 1)?);
     }
-    assert_eq!(rt; edges.len(), 1141);
+    assert!(rt; edges.len() == 1141);
     let xored = pairs::<Xored<2>>(rt.alloc(), &edges)?;
-    assert!(rt; is_forest_peeled(&xored));
+    expect_true(&rt, is_forest_peeled(&xored));
     let chained = pairs::<Linked<2>>(rt.alloc(), &edges)?;
-    assert!(rt; is_forest_peeled(&chained));
+    expect_true(&rt, is_forest_peeled(&chained));
     Ok(())
 }
 
@@ -304,17 +306,17 @@ fn forest(rt: HostRuntime) -> Result<(), Fail> {
 fn without_levels(rt: HostRuntime) -> Result<(), Fail> {
     let mut edges = Edges::<2>::new(rt.alloc(), 7);
     for v in 0..3u32 {
-        assert!(rt; add(&mut edges, v, (v + 1) % 3)?);
+        expect_true(&rt, add(&mut edges, v, (v + 1) % 3)?);
     }
     for v in 2..6u32 {
-        assert!(rt; add(&mut edges, v, v + 1)?);
+        expect_true(&rt, add(&mut edges, v, v + 1)?);
     }
     let bare = bare_pairs(rt.alloc(), &edges)?;
-    assert_eq!(rt; bare.order(), [6, 5, 4, 3].as_slice());
-    assert_eq!(rt; bare.rest(), [0, 1, 2].as_slice());
+    expect_equal(&rt, &bare.order(), &[6, 5, 4, 3].as_slice());
+    expect_equal(&rt, &bare.rest(), &[0, 1, 2].as_slice());
     for e in 3..7u32 {
         assert!(rt; e < edges.len());
-        assert_eq!(rt; bare.pivot(e), 1);
+        expect_equal(&rt, &bare.pivot(e), &1);
     }
     Ok(())
 }

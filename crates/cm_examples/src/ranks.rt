@@ -1,6 +1,7 @@
 ghost use Rattle.std.specs.Prelude.{◌≤◌, length};
 ghost use Rattle.cm_rank.specs.Ranks.{StandsFor};
 
+use crate::equal::{expect_equal, expect_equal_at, expect_true};
 use cm_bits::{Bits, Cells, Crumbs, Fields, ImageFault, Plain, Trits};
 use cm_rank::{Counted, RankTable};
 use std::alloc::{AllocError, Global};
@@ -57,8 +58,8 @@ fn check<C: Counted + Drop>(
 {
     let cells: C = table_of(alloc, values, bound)?;
     let table = RankTable::build(alloc, &cells, idle, 3)?;
-    assert!(rt; counts_on(&cells, &table, idle, 0));
-    assert_eq!(rt; table.entries(), entries);
+    expect_true(rt, counts_on(&cells, &table, idle, 0));
+    expect_equal(rt, &table.entries(), &entries);
     Ok(())
 }
 
@@ -98,8 +99,8 @@ fn last_rank<C: Counted>(cells: &C, table: &RankTable) -> Option<u32>
 fn entries(rt: HostRuntime) -> Result<(), Fail> {
     let cells: Plain = table_of(rt.alloc(), &[0, 1, 2, 3, 4, 5, 6, 7, 8], 10)?;
     let table = RankTable::build(rt.alloc(), &cells, 4, 3)?;
-    assert_eq!(rt; last_entry(&table), Some(7));
-    assert_eq!(rt; last_rank(&cells, &table), Some(7));
+    expect_equal(&rt, &last_entry(&table), &Some(7));
+    expect_equal(&rt, &last_rank(&cells, &table), &Some(7));
     Ok(())
 }
 
@@ -108,7 +109,7 @@ fn entries(rt: HostRuntime) -> Result<(), Fail> {
 fn long_table(rt: HostRuntime) -> Result<(), Fail> {
     let cells = Crumbs::zeroed(rt.alloc(), 8_000_000, 4)?;
     let table = RankTable::build(rt.alloc(), &cells, 3, 7)?;
-    assert!(rt; counts_on(&cells, &table, 3, 7_000_000));
+    expect_true(&rt, counts_on(&cells, &table, 3, 7_000_000));
     Ok(())
 }
 
@@ -145,7 +146,7 @@ fn ranks_at_edges<C: Counted>(
     for i in 0..len {
         let near = (i + 1) % step;
         if near <= 2 || len - i <= 3 {
-            assert_eq!(rt; table.rank(cells, i), count, "b = {b}, cell {i}");
+            expect_equal_at(rt, &(b, i), &table.rank(cells, i), &count);
         }
         if cells.get(i) != idle {
             count = count.wrapping_add(1);
@@ -210,7 +211,7 @@ fn counts_between<C: Counted>(cells: &C, idle: u32) -> bool {
 fn counts_by_words(rt: HostRuntime) -> Result<(), Fail> {
     for n in 250..290u32 {
         let cells: Crumbs = scattered(rt.alloc(), n, 4, 3)?;
-        assert!(rt; counts_between(&cells, 3));
+        expect_true(&rt, counts_between(&cells, 3));
     }
     Ok(())
 }
@@ -218,13 +219,13 @@ fn counts_by_words(rt: HostRuntime) -> Result<(), Fail> {
 #[test]
 fn counts_by_cells(rt: HostRuntime) -> Result<(), Fail> {
     let crumbs: Crumbs = scattered(rt.alloc(), 140, 4, 3)?;
-    assert!(rt; counts_between(&crumbs, 0));
-    assert!(rt; counts_between(&crumbs, 2));
-    assert!(rt; counts_between(&crumbs, 7));
+    expect_true(&rt, counts_between(&crumbs, 0));
+    expect_true(&rt, counts_between(&crumbs, 2));
+    expect_true(&rt, counts_between(&crumbs, 7));
     let bits: Bits = scattered(rt.alloc(), 140, 2, 1)?;
-    assert!(rt; counts_between(&bits, 1));
+    expect_true(&rt, counts_between(&bits, 1));
     let plain: Plain = scattered(rt.alloc(), 140, 1000, 511)?;
-    assert!(rt; counts_between(&plain, 300));
+    expect_true(&rt, counts_between(&plain, 300));
     Ok(())
 }
 
@@ -323,14 +324,14 @@ fn looks_at_few(
 {
     cells.looks.set(0);
     let table = RankTable::build(alloc, cells, 300, b)?;
-    assert_eq!(rt; cells.looks.get(), cells.len());
+    expect_equal(rt, &cells.looks.get(), &cells.len());
     let mut most = 0;
     for i in 0..cells.len() {
         cells.looks.set(0);
         let _rank = table.rank(cells, i);
         most = cells.looks.get().max(most);
     }
-    assert_eq!(rt; most, (1 << b) - 1);
+    expect_equal(rt, &most, &((1 << b) - 1));
     Ok(())
 }
 

@@ -1,4 +1,4 @@
-use crate::equal::equal;
+use crate::equal::{expect_equal, expect_equal_at};
 use cm_algorithm::Algorithm;
 use cm_numbers::{
     BadValue, algorithm, bits, buffer, count, first, hash, millionths, number, optional, ratio,
@@ -20,7 +20,7 @@ fn whole_numbers(rt: HostRuntime) -> Result<(), Fail> {
         ("3 ", None),
         ("0x3", None),
     ] {
-        assert_eq!(rt; whole(text.as_bytes(), 3, 10), number, "{text}");
+        expect_equal_at(&rt, &text, &whole(text.as_bytes(), 3, 10), &number);
     }
     Ok(())
 }
@@ -42,38 +42,40 @@ fn decimals(rt: HostRuntime) -> Result<(), Fail> {
         ("1.5.5", None),
         ("", None),
     ] {
-        assert_eq!(rt; millionths(text.as_bytes()), number, "{text}");
+        expect_equal_at(&rt, &text, &millionths(text.as_bytes()), &number);
     }
     Ok(())
 }
 
 #[test]
 fn values_of_options(rt: HostRuntime) -> Result<(), Fail> {
-    assert!(rt; equal(&number(Some("7"), b'x', 1, 9, 5), &Ok(7)));
-    assert!(rt;
-        equal(
-            &number(Some("0"), b'x', 1, 9, 5),
-            &Err(BadValue { letter: b'x' })
-        )
+    expect_equal(&rt, &number(Some("7"), b'x', 1, 9, 5), &Ok(7));
+    expect_equal(
+        &rt,
+        &number(Some("0"), b'x', 1, 9, 5),
+        &Err(BadValue { letter: b'x' }),
     );
-    assert!(rt; equal(&optional(None, b'x', 1, 9), &Ok(None)));
-    assert!(rt; equal(&algorithm(Some("bdz_ph")), &Ok(Algorithm::BdzPh)));
-    assert!(rt; equal(&algorithm(Some("brz")), &Err(BadValue { letter: b'a' })));
-    assert!(rt; equal(&bits(None, true, Algorithm::Bdz), &Ok(7)));
-    assert!(rt; equal(&bits(Some("11"), false, Algorithm::Bdz), &Ok(0)));
-    assert!(rt;
-        equal(
-            &bits(Some("11"), true, Algorithm::Bdz),
-            &Err(BadValue { letter: b'b' })
-        )
+    expect_equal(&rt, &optional(None, b'x', 1, 9), &Ok(None));
+    expect_equal(&rt, &algorithm(Some("bdz_ph")), &Ok(Algorithm::BdzPh));
+    expect_equal(
+        &rt,
+        &algorithm(Some("brz")),
+        &Err(BadValue { letter: b'a' }),
     );
-    assert!(rt; equal(&ratio(None, Algorithm::Chm), &Ok(2_090_000)));
-    assert!(rt; equal(&ratio(Some("1.5"), Algorithm::Bdz), &Ok(1_500_000)));
-    assert!(rt; equal(&hash(Some("jenkins")), &Ok(())));
-    assert!(rt; equal(&hash(Some("md5")), &Err(BadValue { letter: b'f' })));
-    assert!(rt; equal(&first(Some("4294967295")), &Ok(Some(4_294_967_295))));
-    assert!(rt; equal(&buffer(Some("1024")), &Ok(1_073_741_824)));
-    assert!(rt; equal(&count(Some("1001")), &Err(BadValue { letter: b'r' })));
-    assert!(rt; equal(&seed(None), &Ok(1)));
+    expect_equal(&rt, &bits(None, true, Algorithm::Bdz), &Ok(7));
+    expect_equal(&rt, &bits(Some("11"), false, Algorithm::Bdz), &Ok(0));
+    expect_equal(
+        &rt,
+        &bits(Some("11"), true, Algorithm::Bdz),
+        &Err(BadValue { letter: b'b' }),
+    );
+    expect_equal(&rt, &ratio(None, Algorithm::Chm), &Ok(2_090_000));
+    expect_equal(&rt, &ratio(Some("1.5"), Algorithm::Bdz), &Ok(1_500_000));
+    expect_equal(&rt, &hash(Some("jenkins")), &Ok(()));
+    expect_equal(&rt, &hash(Some("md5")), &Err(BadValue { letter: b'f' }));
+    expect_equal(&rt, &first(Some("4294967295")), &Ok(Some(4_294_967_295)));
+    expect_equal(&rt, &buffer(Some("1024")), &Ok(1_073_741_824));
+    expect_equal(&rt, &count(Some("1001")), &Err(BadValue { letter: b'r' }));
+    expect_equal(&rt, &seed(None), &Ok(1));
     Ok(())
 }

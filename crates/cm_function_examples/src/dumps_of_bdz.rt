@@ -1,4 +1,5 @@
 use crate::dumps::{BDZ_ONE, BDZ_TWO, changed, fault_of, is_saved_again, source_of};
+use crate::equal::{expect_equal, expect_equal_at, expect_true};
 use cm_bits::Cells;
 use cm_dump::{Func, LoadFault, load};
 use std::alloc::{AllocError, Global};
@@ -28,15 +29,16 @@ fn parts_of_bdz(rt: HostRuntime) -> Result<(), Fail> {
     let mut source = source_of(alloc, &BDZ_TWO, &[])?;
     match load(alloc, &mut source) {
         Ok(Func::Bdz(bdz)) => {
-            assert_eq!(rt;
-                (bdz.keys(), bdz.c(), bdz.seed(), bdz.b()),
-                (2, 1_230_000, 0, 7)
+            expect_equal(
+                &rt,
+                &(bdz.keys(), bdz.c(), bdz.seed(), bdz.b()),
+                &(2, 1_230_000, 0, 7),
             );
-            assert_eq!(rt; bdz.cells().len(), 9);
-            assert_eq!(rt; bdz.ranks().entries(), 1);
+            expect_equal(&rt, &bdz.cells().len(), &9);
+            expect_equal(&rt, &bdz.ranks().entries(), &1);
         }
-        Ok(_other) => assert!(rt; false),
-        Err(fault) => assert!(rt; false, "{fault}"),
+        Ok(_other) => panic!(rt; "another algorithm"),
+        Err(fault) => panic!(rt; "{fault}"),
     }
     Ok(())
 }
@@ -46,11 +48,12 @@ fn two_ranks(rt: HostRuntime) -> Result<(), Fail> {
     let alloc = rt.alloc();
     // With b = 3 there are two ranks, of which the second is 1.
     let mut two = changed(alloc, &BDZ_ONE, 35, &[(9, 3), (31, 1)])?;
-    assert!(rt; is_saved_again(alloc, &two)?);
+    expect_true(&rt, is_saved_again(alloc, &two)?);
     two = changed(alloc, &BDZ_ONE, 35, &[(9, 3), (31, 0)])?;
-    assert_eq!(rt;
-        fault_of(alloc, &two, &[])?,
-        Some(LoadFault::BadRank { at: 31 })
+    expect_equal(
+        &rt,
+        &fault_of(alloc, &two, &[])?,
+        &Some(LoadFault::BadRank { at: 31 }),
     );
     Ok(())
 }
@@ -62,9 +65,9 @@ fn failing_reads_of_ranks(rt: HostRuntime) -> Result<(), Fail> {
     let long = long_dump(alloc)?;
     for read in [8, 9, 10, 11, 12u64] {
         let fault = fault_of(alloc, &long, &[read])?;
-        assert_eq!(rt; fault, Some(LoadFault::Read), "read {read}");
+        expect_equal_at(&rt, &read, &fault, &Some(LoadFault::Read));
     }
-    assert_eq!(rt; fault_of(alloc, &long, &[13])?, None);
+    expect_equal(&rt, &fault_of(alloc, &long, &[13])?, &None);
     Ok(())
 }
 
@@ -72,22 +75,26 @@ fn failing_reads_of_ranks(rt: HostRuntime) -> Result<(), Fail> {
 fn many_ranks(rt: HostRuntime) -> Result<(), Fail> {
     let alloc = rt.alloc();
     let long = long_dump(alloc)?;
-    assert_eq!(rt; long.len(), LONG_LEN);
-    assert!(rt; is_saved_again(alloc, &long)?);
+    expect_equal(&rt, &long.len(), &LONG_LEN);
+    expect_true(&rt, is_saved_again(alloc, &long)?);
     let first = 24 + 20_154;
     for rank in [0, 1023, 1024, 5000, 10_076usize] {
         let at = first + 4 * rank;
         let wrong = changed(alloc, &long, LONG_LEN, &[(at + 3, 1)])?;
         let fault = Some(LoadFault::BadRank { at: at as u64 });
-        assert_eq!(rt; fault_of(alloc, &wrong, &[])?, fault, "rank {rank}");
+        expect_equal_at(&rt, &rank, &fault_of(alloc, &wrong, &[])?, &fault);
         // A wrong rank that is whole comes before what follows.
         let cut = changed(alloc, &wrong, at + 5, &[])?;
-        assert_eq!(rt; fault_of(alloc, &cut, &[])?, fault, "rank {rank}, cut");
+        expect_equal_at(&rt, &rank, &fault_of(alloc, &cut, &[])?, &fault);
         let short = changed(alloc, &long, at + 3, &[])?;
         let fault = Some(LoadFault::Truncated { at: at as u64 + 3 });
-        assert_eq!(rt; fault_of(alloc, &short, &[])?, fault, "before rank {rank}");
+        expect_equal_at(&rt, &rank, &fault_of(alloc, &short, &[])?, &fault);
     }
     let longer = changed(alloc, &long, LONG_LEN + 1, &[])?;
-    assert_eq!(rt; fault_of(alloc, &longer, &[])?, Some(LoadFault::Trailing));
+    expect_equal(
+        &rt,
+        &fault_of(alloc, &longer, &[])?,
+        &Some(LoadFault::Trailing),
+    );
     Ok(())
 }

@@ -1,6 +1,7 @@
 //! Texts of certificates.
 ghost use Rattle.std.specs.Prelude.{◌≡◌, ◌≢◌, ◌↔◌, [], All, IsSome};
 
+use crate::equal::{expect_bytes, expect_equal};
 use cm_outer::{Failed, MemSink};
 use cm_witness::{Algorithm, Certificate, CoreEdge, InBucket, Pair};
 use std::alloc::{AllocError, Global};
@@ -58,11 +59,11 @@ fn check(
     let mut out = MemSink::new(alloc, room, Vec::new(alloc))?;
     let answer = shown.write(&mut out);
     if room < text.len() {
-        assert_eq!(rt; answer, Err(Failed));
-        assert_eq!(rt; out.bytes(), &text.as_bytes()[..room]);
+        expect_equal(rt, &answer, &Err(Failed));
+        expect_bytes(rt, out.bytes(), &text.as_bytes()[..room]);
     } else {
-        assert_eq!(rt; answer, Ok(()));
-        assert_eq!(rt; out.bytes(), text.as_bytes());
+        expect_equal(rt, &answer, &Ok(()));
+        expect_bytes(rt, out.bytes(), text.as_bytes());
     }
     Ok(())
 }
@@ -165,8 +166,8 @@ fn a_failed_line_is_the_last(rt: HostRuntime) -> Result<(), Fail> {
         ),
     ] {
         let mut out = MemSink::new(alloc, 1000, Vec::from_slice(alloc, &[call])?)?;
-        assert_eq!(rt; shown.write(&mut out), Err(Failed));
-        assert_eq!(rt; out.bytes(), text.as_bytes());
+        expect_equal(&rt, &shown.write(&mut out), &Err(Failed));
+        expect_bytes(&rt, out.bytes(), text.as_bytes());
     }
     Ok(())
 }

@@ -1,3 +1,4 @@
+use crate::equal::{expect_bytes, expect_equal};
 use crate::listed::Listed;
 use cm_outer::{KeyFault, MAX_KEY_LEN, MemSink, Notes};
 use cm_query::{QueryFault, Tally, front_of_text, noted_exactly, query, worked_rows};
@@ -94,9 +95,9 @@ fn check_at_hand(
         &mut err,
         &mut notes,
     );
-    assert_eq!(rt; answer, case.answer);
-    assert_eq!(rt; out.bytes(), case.out);
-    assert_eq!(rt; err.bytes(), case.err);
+    expect_equal(rt, &answer, &case.answer);
+    expect_bytes(rt, out.bytes(), case.out);
+    expect_bytes(rt, err.bytes(), case.err);
     Ok(())
 }
 

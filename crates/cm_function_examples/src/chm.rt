@@ -3,7 +3,7 @@ ghost use Rattle.std.specs.Option.{ForSome};
 ghost use Rattle.cm_spec.specs.Chm.{chm_size};
 ghost use Rattle.cm_spec.specs.Rule.{IsRatio};
 
-use crate::equal::equal;
+use crate::equal::expect_equal;
 use cm_bits::{Cells, Fields};
 use cm_chm::{Chm, answers_numbers};
 use cm_scheme::{Answers, Built, answer};
@@ -41,15 +41,15 @@ fn worked_functions(rt: HostRuntime) -> Result<(), Fail> {
     let alloc = rt.alloc();
     answers_numbers();
     let one_key = function(alloc, 1, 2_090_000, 0, 3, None)?;
-    assert!(rt; equal(&span(&one_key), &1));
-    assert!(rt; equal(&answer(&one_key, b""), &Some(0)));
-    assert!(rt; equal(&answer(&one_key, b"no key"), &Some(0)));
+    expect_equal(&rt, &span(&one_key), &1);
+    expect_equal(&rt, &answer(&one_key, b""), &Some(0));
+    expect_equal(&rt, &answer(&one_key, b"no key"), &Some(0));
     let empty_and_a = function(alloc, 2, 2_090_000, 0, 5, Some(2))?;
-    assert!(rt; equal(&span(&empty_and_a), &2));
-    assert!(rt; equal(&answer(&empty_and_a, b""), &Some(0)));
-    assert!(rt; equal(&answer(&empty_and_a, b"a"), &Some(1)));
+    expect_equal(&rt, &span(&empty_and_a), &2);
+    expect_equal(&rt, &answer(&empty_and_a, b""), &Some(0));
+    expect_equal(&rt, &answer(&empty_and_a, b"a"), &Some(1));
     let a_and_b = function(alloc, 2, 1_500_000, 1, 3, Some(0))?;
-    assert!(rt; equal(&answer(&a_and_b, b"a"), &Some(0)));
-    assert!(rt; equal(&answer(&a_and_b, b"b"), &Some(1)));
+    expect_equal(&rt, &answer(&a_and_b, b"a"), &Some(0));
+    expect_equal(&rt, &answer(&a_and_b, b"b"), &Some(1));
     Ok(())
 }

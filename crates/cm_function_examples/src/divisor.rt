@@ -1,5 +1,6 @@
 ghost use Rattle.std.specs.Prelude.{◌<◌};
 
+use crate::equal::expect_equal_at;
 use cm_scheme::Divisor;
 use std::process::Abort;
 use std::test::Fail;
@@ -10,7 +11,7 @@ fn has_remainders(rt: &impl Abort, n: u32, rows: &[(u32, u32)])
 {
     let divisor = Divisor::new(n);
     for (x, remainder) in rows {
-        assert_eq!(rt; divisor.rem(*x), *remainder, "{x} by {n}");
+        expect_equal_at(rt, &(x, n), &divisor.rem(*x), remainder);
     }
 }
 

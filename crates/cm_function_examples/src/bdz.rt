@@ -2,7 +2,7 @@ ghost use Rattle.std.specs.Prelude.{◌≡◌, ◌≤◌, length, IfOk};
 ghost use Rattle.cm_spec.specs.Bdz.{bdz_size};
 ghost use Rattle.cm_spec.specs.Rule.{IsRatio};
 
-use crate::equal::equal;
+use crate::equal::{expect_equal, expect_true};
 use cm_bdz::{Bdz, BdzPh, PartsFault, answers_apart, chosen};
 use cm_bits::{Cells, Crumbs, Trits};
 use cm_scheme::{Answers, Built, answer};
@@ -42,30 +42,29 @@ fn ranked_answers(rt: HostRuntime) -> Result<(), Fail> {
     let two = function(rt.alloc(), 2, &[1, 2])?;
     match two {
         Ok(two) => {
-            assert!(rt; equal(&span(&two), &2));
-            assert!(rt; equal(&answer(&two, b""), &Some(0)));
-            assert!(rt; equal(&answer(&two, b"a"), &Some(1)));
-            assert!(rt;
-                equal(
-                    &(two.keys(), two.c(), two.seed(), two.b()),
-                    &(2, 1_230_000, 0, 7)
-                )
+            expect_equal(&rt, &span(&two), &2);
+            expect_equal(&rt, &answer(&two, b""), &Some(0));
+            expect_equal(&rt, &answer(&two, b"a"), &Some(1));
+            expect_equal(
+                &rt,
+                &(two.keys(), two.c(), two.seed(), two.b()),
+                &(2, 1_230_000, 0, 7),
             );
-            assert!(rt; equal(&two.ranks().entries(), &1));
+            expect_equal(&rt, &two.ranks().entries(), &1);
         }
-        Err(_) => assert!(rt; false),
+        Err(_) => panic!(rt; "refused"),
     }
     let one = function(rt.alloc(), 1, &[1])?;
     match one {
         Ok(one) => {
-            assert!(rt; equal(&answer(&one, b""), &Some(0)));
+            expect_equal(&rt, &answer(&one, b""), &Some(0));
             // The vertex that is chosen for this key is idle.
-            assert!(rt; equal(&answer(&one, b"a"), &None));
+            expect_equal(&rt, &answer(&one, b"a"), &None);
         }
-        Err(_) => assert!(rt; false),
+        Err(_) => panic!(rt; "refused"),
     }
     let other = function(rt.alloc(), 1, &[0, 1])?;
-    assert!(rt; matches!(other, Err(PartsFault::BadCount)));
+    expect_true(&rt, matches!(other, Err(PartsFault::BadCount)));
     Ok(())
 }
 
@@ -83,10 +82,10 @@ fn unranked(alloc: Global) -> Result<BdzPh, AllocError> {
 #[test]
 fn unranked_answers(rt: HostRuntime) -> Result<(), Fail> {
     let two = unranked(rt.alloc())?;
-    assert!(rt; equal(&span(&two), &9));
-    assert!(rt; equal(&answer(&two, b""), &Some(1)));
-    assert!(rt; equal(&answer(&two, b"a"), &Some(2)));
-    assert!(rt; equal(&chosen(two.cells(), b"a", 0), &2));
-    assert!(rt; equal(&(two.keys(), two.c(), two.seed()), &(2, 1_230_000, 0)));
+    expect_equal(&rt, &span(&two), &9);
+    expect_equal(&rt, &answer(&two, b""), &Some(1));
+    expect_equal(&rt, &answer(&two, b"a"), &Some(2));
+    expect_equal(&rt, &chosen(two.cells(), b"a", 0), &2);
+    expect_equal(&rt, &(two.keys(), two.c(), two.seed()), &(2, 1_230_000, 0));
     Ok(())
 }

@@ -1,5 +1,6 @@
 ghost use Rattle.std.specs.Prelude.{◌≡◌, IfOk};
 
+use crate::equal::{expect_equal, expect_equal_at, expect_text, expect_true};
 use cm_bits::Cells;
 use cm_dump::{Func, LoadFault, load, save, saved_len};
 use cm_outer::{MemSink, MemSource};
@@ -172,10 +173,11 @@ fn check_changes(
 ) -> Result<(), AllocError> {
     for (len, at, byte, fault) in rows {
         let bytes = changed(alloc, dump, *len, &[(*at, *byte)])?;
-        assert_eq!(rt;
-            fault_of(alloc, &bytes, &[])?,
-            Some(*fault),
-            "{byte} at {at}"
+        expect_equal_at(
+            rt,
+            &(byte, at),
+            &fault_of(alloc, &bytes, &[])?,
+            &Some(*fault),
         );
     }
     Ok(())
@@ -192,21 +194,21 @@ fn functions(rt: HostRuntime) -> Result<(), Fail> {
     let mut source = source_of(alloc, &CHM_TWO, &[])?;
     match load(alloc, &mut source) {
         Ok(Func::Chm(chm)) => {
-            assert_eq!(rt; (chm.keys(), chm.c(), chm.seed()), (2, 2_090_000, 0));
+            expect_equal(&rt, &(chm.keys(), chm.c(), chm.seed()), &(2, 2_090_000, 0));
             let cells = chm.cells();
-            assert_eq!(rt; cells.len(), 5);
+            expect_equal(&rt, &cells.len(), &5);
             for i in 0..cells.len() {
-                assert_eq!(rt; cells.get(i), if i == 2 { 1 } else { 0 });
+                expect_equal(&rt, &cells.get(i), &((i == 2) as u32));
             }
         }
-        Ok(_other) => assert!(rt; false),
-        Err(fault) => assert!(rt; false, "{fault}"),
+        Ok(_other) => panic!(rt; "another algorithm"),
+        Err(fault) => panic!(rt; "{fault}"),
     }
     let mut source = source_of(alloc, &CHM_FIVE, &[])?;
     match load(alloc, &mut source) {
-        Ok(Func::Chm(chm)) => assert_eq!(rt; chm.seed(), 0x0102_0304),
-        Ok(_other) => assert!(rt; false),
-        Err(fault) => assert!(rt; false, "{fault}"),
+        Ok(Func::Chm(chm)) => expect_equal(&rt, &chm.seed(), &0x0102_0304),
+        Ok(_other) => panic!(rt; "another algorithm"),
+        Err(fault) => panic!(rt; "{fault}"),
     }
     Ok(())
 }
@@ -222,7 +224,7 @@ fn saved_again(rt: HostRuntime) -> Result<(), Fail> {
         PH_TWO.as_slice(),
     ];
     for dump in dumps {
-        assert!(rt; is_saved_again(rt.alloc(), dump)?);
+        expect_true(&rt, is_saved_again(rt.alloc(), dump)?);
     }
     Ok(())
 }
@@ -238,11 +240,11 @@ fn answers(rt: HostRuntime) -> Result<(), Fail> {
         let mut source = source_of(rt.alloc(), dump, &[])?;
         match load(rt.alloc(), &mut source) {
             Ok(function) => {
-                assert_eq!(rt; span(&function), below);
-                assert_eq!(rt; answer(&function, b""), Some(first));
-                assert_eq!(rt; answer(&function, b"a"), Some(second));
+                expect_equal(&rt, &span(&function), &below);
+                expect_equal(&rt, &answer(&function, b""), &Some(first));
+                expect_equal(&rt, &answer(&function, b"a"), &Some(second));
             }
-            Err(fault) => assert!(rt; false, "{fault}"),
+            Err(fault) => panic!(rt; "{fault}"),
         }
     }
     Ok(())
@@ -255,7 +257,7 @@ fn changed_bytes(rt: HostRuntime) -> Result<(), Fail> {
     check_changes(&rt, rt.alloc(), &PH_TWO, &PH_CHANGES)?;
     // The greatest byte of five digits, and the greatest of four.
     let full = changed(rt.alloc(), &PH_TWO, 26, &[(24, 242), (25, 80)])?;
-    assert!(rt; is_saved_again(rt.alloc(), &full)?);
+    expect_true(&rt, is_saved_again(rt.alloc(), &full)?);
     Ok(())
 }
 
@@ -280,7 +282,7 @@ fn images(rt: HostRuntime) -> Result<(), Fail> {
     ];
     for (len, two, fault) in changes {
         let bytes = changed(alloc, &CHM_FIVE, len, &two)?;
-        assert_eq!(rt; fault_of(alloc, &bytes, &[])?, Some(fault));
+        expect_equal(&rt, &fault_of(alloc, &bytes, &[])?, &Some(fault));
     }
     Ok(())
 }
@@ -291,10 +293,14 @@ fn lengths(rt: HostRuntime) -> Result<(), Fail> {
     for dump in [CHM_ONE.as_slice(), BDZ_ONE.as_slice(), PH_TWO.as_slice()] {
         for n in 0..dump.len() {
             let fault = fault_of(alloc, &dump[..n], &[])?;
-            assert_eq!(rt; fault, Some(LoadFault::Truncated { at: n as u64 }));
+            expect_equal(&rt, &fault, &Some(LoadFault::Truncated { at: n as u64 }));
         }
         let longer = changed(alloc, dump, dump.len() + 1, &[])?;
-        assert_eq!(rt; fault_of(alloc, &longer, &[])?, Some(LoadFault::Trailing));
+        expect_equal(
+            &rt,
+            &fault_of(alloc, &longer, &[])?,
+            &Some(LoadFault::Trailing),
+        );
     }
     // Headers that claim images of half a gigabyte and of 16,777,216 keys, of which a few bytes are there.
     let claims = [
@@ -305,7 +311,7 @@ fn lengths(rt: HostRuntime) -> Result<(), Fail> {
     for (dump, len, changes) in claims {
         let claim = changed(alloc, dump, len, &changes)?;
         let fault = Some(LoadFault::Truncated { at: len as u64 });
-        assert_eq!(rt; fault_of(alloc, &claim, &[])?, fault);
+        expect_equal(&rt, &fault_of(alloc, &claim, &[])?, &fault);
     }
     Ok(())
 }
@@ -322,9 +328,9 @@ fn failing_reads(rt: HostRuntime) -> Result<(), Fail> {
     for (dump, reads) in rows {
         for read in 0..reads {
             let fault = fault_of(alloc, dump, &[read])?;
-            assert_eq!(rt; fault, Some(LoadFault::Read), "read {read}");
+            expect_equal_at(&rt, &read, &fault, &Some(LoadFault::Read));
         }
-        assert_eq!(rt; fault_of(alloc, dump, &[reads])?, None);
+        expect_equal(&rt, &fault_of(alloc, dump, &[reads])?, &None);
     }
     Ok(())
 }
@@ -337,21 +343,30 @@ fn long_images(rt: HostRuntime) -> Result<(), Fail> {
     for i in 0..273_942u32 {
         bytes.push((i % 251) as u8)?;
     }
-    assert!(rt; is_saved_again(alloc, &bytes)?);
+    expect_true(&rt, is_saved_again(alloc, &bytes)?);
     // Eight reads of the header here, five of the image, and one of the end.
     for read in [8, 12, 13u64] {
         let fault = fault_of(alloc, &bytes, &[read])?;
-        assert_eq!(rt; fault, Some(LoadFault::Read), "read {read}");
+        expect_equal_at(&rt, &read, &fault, &Some(LoadFault::Read));
     }
-    assert_eq!(rt; fault_of(alloc, &bytes, &[14])?, None);
+    expect_equal(&rt, &fault_of(alloc, &bytes, &[14])?, &None);
     let cut = changed(alloc, &bytes, 100_000, &[])?;
-    assert_eq!(rt;
-        fault_of(alloc, &cut, &[])?,
-        Some(LoadFault::Truncated { at: 100_000 })
+    expect_equal(
+        &rt,
+        &fault_of(alloc, &cut, &[])?,
+        &Some(LoadFault::Truncated { at: 100_000 }),
     );
     bytes.push(0)?;
-    assert_eq!(rt; fault_of(alloc, &bytes, &[])?, Some(LoadFault::Trailing));
+    expect_equal(
+        &rt,
+        &fault_of(alloc, &bytes, &[])?,
+        &Some(LoadFault::Trailing),
+    );
     Ok(())
+}
+
+fn text_of(alloc: Global, fault: LoadFault) -> Result<String, AllocError> {
+    format!(in alloc; "{fault}")
 }
 
 #[test]
@@ -371,7 +386,7 @@ fn texts(rt: HostRuntime) -> Result<(), Fail> {
         (LoadFault::Trailing, "trailing bytes"),
     ];
     for (fault, text) in texts {
-        assert_eq!(rt; format!(in alloc; "{fault}")?.as_str(), text);
+        expect_text(&rt, text_of(alloc, fault)?.as_str(), text);
     }
     Ok(())
 }

@@ -1,5 +1,6 @@
 //! Equal keys, and what is gathered of a 2-core.
 
+use crate::equal::{expect_equal, expect_true};
 use crate::listed::Listed;
 use cm_graph::Edges;
 use cm_outer::KeyFault;
@@ -25,7 +26,7 @@ fn check_pairs(
     }
     if lines.len() == copies.len() {
         let found = equal_pairs(alloc, &lines, &copies)?;
-        assert_eq!(rt; found.as_slice(), pairs);
+        expect_equal(rt, &found.as_slice(), &pairs);
     }
     Ok(())
 }
@@ -83,15 +84,15 @@ fn candidates(rt: HostRuntime) -> Result<(), Fail> {
     let mut edges = Edges::<2>::new(alloc, 1001);
     let mut places = Vec::new(alloc);
     for i in 0..1000u32 {
-        assert!(rt; add(&mut edges, i, i + 1)?);
+        expect_true(&rt, add(&mut edges, i, i + 1)?);
         places.push(i)?;
     }
-    assert!(rt; candidates_among(alloc, &edges, &places)? < 30);
+    expect_true(&rt, candidates_among(alloc, &edges, &places)? < 30);
     for i in 0..1000u32 {
-        assert!(rt; add(&mut edges, i, i + 1)?);
+        expect_true(&rt, add(&mut edges, i, i + 1)?);
         places.push(1000 + i)?;
     }
-    assert!(rt; candidates_among(alloc, &edges, &places)? == 2000);
+    expect_true(&rt, candidates_among(alloc, &edges, &places)? == 2000);
     Ok(())
 }
 
@@ -132,11 +133,11 @@ fn check(rt: &impl Abort, alloc: Global, edges: &Edges<2>, case: &Case) -> Resul
             None,
         ) {
             Ok(made) => {
-                assert_eq!(rt; made.edges.as_slice(), shown.as_slice());
-                assert_eq!(rt; made.equal.as_slice(), case.equal);
-                assert_eq!(rt; case.refused, None);
+                expect_equal(rt, &made.edges.as_slice(), &shown.as_slice());
+                expect_equal(rt, &made.equal.as_slice(), &case.equal);
+                expect_equal(rt, &case.refused, &None);
             }
-            Err(fault) => assert_eq!(rt; Some(fault), case.refused),
+            Err(fault) => expect_equal(rt, &Some(fault), &case.refused),
         }
     }
     Ok(())
@@ -147,7 +148,7 @@ fn gathered_edges(rt: HostRuntime) -> Result<(), Fail> {
     let alloc = rt.alloc();
     let mut edges = Edges::<2>::new(alloc, 4);
     for (first, second) in [(0, 1), (3, 0), (1, 2), (2, 0), (0, 1)] {
-        assert!(rt; add(&mut edges, first, second)?);
+        expect_true(&rt, add(&mut edges, first, second)?);
     }
     let keys: [&[u8]; 6] = [b"a", b"a", b"b", b"", b"a", b"c"];
     let long = KeyFault::TooLong { line: 5 };

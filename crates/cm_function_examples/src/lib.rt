@@ -1,0 +1,23 @@
+//! Worked examples of functions, as tests: their answers, dumps and queries, and certificates of keys that have none.
+#![tactic(auto)]
+
+#[cfg(test)]
+mod bdz;
+#[cfg(test)]
+mod certificates;
+#[cfg(test)]
+mod chm;
+#[cfg(test)]
+mod divisor;
+#[cfg(test)]
+mod dumps;
+#[cfg(test)]
+mod dumps_of_bdz;
+#[cfg(test)]
+mod equal;
+#[cfg(test)]
+mod gathering;
+#[cfg(test)]
+mod listed;
+#[cfg(test)]
+mod queries;
