@@ -20,7 +20,7 @@ fn place_of<C: Cells>(cells: &C, key: &[u8], seed: u32) -> Place
 
 /// Of the three ends of a place the one at the position that their cells add up to, modulo 3. The number of cells is three times
 /// a number above 0, and cells are below 4 or less.
-pub(crate) fn chosen_among<C: Cells>(cells: &C, place: &Place) -> u32
+pub fn chosen_among<C: Cells>(cells: &C, place: &Place) -> u32
     requires size { IsThirds (length (C.cells cells.now)) }
     requires bound { C.bound_of cells.now ≤ 4 }
     requires place { (words : List ℕ) × (place.now ≡ bdz_place words (length (C.cells cells.now))) }

@@ -11,6 +11,6 @@ mod scheme;
 
 pub use crate::bdz::{Bdz, PartsFault};
 pub use crate::bdz_ph::BdzPh;
-pub use crate::choice::chosen;
+pub use crate::choice::{chosen, chosen_among};
 pub use crate::laws::answers_apart;
-pub use crate::scheme::{BdzPhScheme, BdzScheme};
+pub use crate::scheme::{BdzPhScheme, BdzScheme, place_in};

@@ -39,7 +39,7 @@ fn triple(words: [u32; 3], third: &Divisor) -> [u32; 3]
 }
 
 /// Where a function over three thirds of the vertices, which have as many as this number, looks for a key of these words.
-pub(crate) fn place_in(words: [u32; 3], third: &Divisor) -> Place
+pub fn place_in(words: [u32; 3], third: &Divisor) -> Place
     requires room { 3 * third.now < 2 ^ 32 }
     ensures place { result ≡ bdz_place words (3 * third.now) }
 {

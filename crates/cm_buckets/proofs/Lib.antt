@@ -1,0 +1,3 @@
+pub mod KeptLemmas
+pub mod Ranking
+pub mod ApartLemmas

@@ -1,0 +1,20 @@
+use Rattle.std.proofs.Common.{◌∙◌, arith, refl}
+use Rattle.std.proofs.lemmas.List.Elements.{All-nil}
+use Rattle.cm_buckets.specs.Functions.{IsBucket}
+use Rattle.cm_buckets.proofs.parts.BrzParts.new.Goals as goal
+
+pub invariant_of-result : goal.invariant_of-result
+invariant_of-result c =
+    rw c.new-2.ensures.items (record {
+      keys = c.requires.keys;
+      ratio = c.requires.ratio;
+      width = c.requires.width;
+      split = c.ranges.split.fits;
+      count = c.new.ensures.value ∙ c.count_of.ensures.count;
+      few = omega arith;
+      each = All-nil (IsBucket c.args.c);
+      offsets = λ i inside. absurd (omega (arith, inside));
+      held = refl;
+      within = omega arith;
+      all = λ none. absurd (omega (arith, none, c.new.ensures.value, c.count_of.ensures.some));
+    })

@@ -1,0 +1,16 @@
+-- Buckets that come one after another.
+use Rattle.std.specs.Prelude.{◌≡◌, ◌≢◌, ◌⊎◌, ◌+◌, ◌<◌, ◌∷◌, [], ◌++◌, length, count_by}
+use Rattle.cm_buckets.specs.Functions.{Brz, Bucket, bucket_count, keys_in}
+use Rattle.cm_spec.specs.Cells.{is_busy}
+
+-- with one bucket more
+abbrev pub with_bucket : Brz → Bucket → Brz
+with_bucket f bucket = record f { buckets = f.buckets ++ bucket ∷ [] }
+
+-- a bucket that can't be the next one: its cells that are not 3 are not as many as its keys, or the buckets have more keys than
+-- the function then, or, with the last of them, fewer
+abbrev pub Miscounts : Brz → Bucket → Type 0
+Miscounts f bucket =
+    (count_by (is_busy 3) bucket.cells ≢ bucket.size)
+    ⊎ (f.keys < keys_in f.buckets + bucket.size)
+    ⊎ ((length f.buckets + 1 ≡ bucket_count f.keys f.width) × (keys_in f.buckets + bucket.size < f.keys))

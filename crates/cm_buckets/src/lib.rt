@@ -1,0 +1,15 @@
+//! Functions by BRZ (Botelho, Pagh, Ziviani 2007): keys split into buckets, each with a function by BDZ of its own.
+#![tactic(auto)]
+
+mod answers;
+mod brz;
+mod held;
+mod laws;
+mod limits;
+mod parts;
+
+pub use crate::brz::Brz;
+pub use crate::laws::answers_apart;
+pub use crate::limits::{MAX_BUCKET, MAX_WIDTH, MIN_WIDTH};
+pub use crate::parts::BrzParts;
+pub use cm_bdz::PartsFault;

@@ -1,0 +1,212 @@
+//! The buckets of a function, one after another.
+ghost use Rattle.std.specs.Prelude.{◌≡◌, ◌↔◌, ◌+◌, ◌<◌, ◌≤◌, ◌^◌, [], length, count_by, slice_index_or, List, OnOk, OnErr, IsOk, IfOk, Err, IsTrue, ℕ, ◌≢◌, ◌⊎◌};
+ghost use Rattle.cm_bdz.specs.declared.bdz.PartsFault.{PartsFault};
+ghost use Rattle.cm_buckets.specs.Functions.{IsBrz, IsBucket, bucket_cells, bucket_count, keys_in, no_bucket, offset_of};
+ghost use Rattle.cm_buckets.specs.Kept.{none_kept};
+ghost use Rattle.cm_buckets.specs.Pushing.{Miscounts, with_bucket};
+ghost use Rattle.cm_outer.specs.declared.key_pass.TheConstants.{MAX_KEYS};
+ghost use Rattle.cm_spec.specs.Cells.{is_busy};
+ghost use Rattle.cm_buckets.specs.declared.limits.TheConstants.{MIN_WIDTH, MAX_WIDTH};
+ghost use Rattle.cm_spec.specs.Rule.{IsRatio};
+
+use crate::brz::Brz;
+use crate::held::{Held, count_busy};
+use cm_bdz::PartsFault;
+use cm_bits::{Cells, Crumbs};
+use cm_scheme::Divisor;
+use std::alloc::{AllocError, Global};
+use std::marker::Model;
+
+/// The first buckets of a function. Clauses see the function with these buckets alone.
+#[derive(Drop)]
+pub struct BrzParts {
+    m: u32,
+    c: u32,
+    split: u32,
+    b: u8,
+    // How many buckets there are to be, to take remainders by.
+    count: Divisor,
+    // How many keys those so far have.
+    held: u32,
+    kept: Vec<Held>,
+}
+
+impl Model for BrzParts {
+    ghost use Rattle.cm_buckets.specs.Functions.{Brz};
+    ghost use Rattle.cm_buckets.specs.Kept.{AreKept, buckets_of};
+
+    ghost Value = { Brz };
+
+    ghost view = { λ p. record { keys = p.m; ratio = p.c; width = p.b; split = p.split; buckets = buckets_of p.kept.items } };
+
+    ghost invariant = { λ p. AreKept (record { keys = p.m; ratio = p.c; width = p.b; split = p.split; buckets = buckets_of p.kept.items }) p.kept.items p.count p.held };
+}
+
+/// Makes room for one bucket more, of `count`: for as many more as there are, but never for more than are still to come, so that
+/// the last bucket leaves no room over.
+fn make_room(kept: &mut Vec<Held>, count: u32) -> Result<(), AllocError>
+    ensures kept { kept.new.items ≡ kept.old.items }
+{
+    let len = kept.len();
+    if len == kept.capacity() {
+        kept.reserve_exact(len.max(1).min((count as usize).saturating_sub(len)))?;
+    }
+    Ok(())
+}
+
+/// Whether `held` keys are too many for a function of `m`, or too few with the last bucket.
+fn is_off(held: u32, m: u32, is_last: bool) -> bool
+    ensures { IsTrue result ↔ ((m < held) ⊎ (IsTrue is_last × (held < m))) }
+{
+    held > m || is_last && held < m
+}
+
+/// How many buckets `m` keys are split into.
+fn count_of(m: u32, b: u8) -> u32
+    requires keys { (1 ≤ m) × (m ≤ MAX_KEYS) }
+    requires some { 0 < b }
+    ensures count { result ≡ bucket_count m b }
+    ensures some { 0 < result }
+{
+    (m + (b as u32 - 1)) / b as u32
+}
+
+impl BrzParts {
+    /// No bucket yet of a function of `m` keys, from 1 to `MAX_KEYS`, with the ratio `c` in millionths, `b` keys a bucket on average,
+    /// from `MIN_WIDTH` to `MAX_WIDTH`, and the seed of its split. It takes no memory.
+    pub fn new(alloc: Global, m: u32, c: u32, b: u8, split: u32) -> BrzParts
+        requires keys { (1 ≤ m) × (m ≤ MAX_KEYS) }
+        requires ratio { IsRatio c }
+        requires width { (MIN_WIDTH ≤ b) × (b ≤ MAX_WIDTH) }
+        ensures parts { result ≡ record { keys = m; ratio = c; width = b; split = split; buckets = [] } }
+    {
+        BrzParts {
+            m,
+            c,
+            split,
+            b,
+            count: Divisor::new(count_of(m, b)),
+            held: 0,
+            kept: Vec::new(alloc),
+        }
+    }
+
+    /// Whether this can't be the next bucket: its cells that are not 3 are other in number than its keys, the buckets have more keys
+    /// than the function then, or this is the last one and they have fewer.
+    fn miscounts(&self, size: u8, cells: &Crumbs) -> bool
+        ensures { IsTrue result ↔ Miscounts self.now (record { size = size; seed = 0; cells = ⟦<Crumbs as Cells>⟧.cells cells.now }) }
+    {
+        let is_last = self.kept.len() + 1 == self.count.value() as usize;
+        count_busy(cells) != size as u32 || is_off(self.held + size as u32, self.m, is_last)
+    }
+
+    /// Adds the next bucket: its number of keys, the seed of their hash and the cells of their function by BDZ; seed 0 and no cells if
+    /// it has no key. `BadCount` comes exactly if the cells that are not idle are other in number than the keys, if the buckets have
+    /// more keys than the function then, or if this is the last bucket and they have fewer. A refusal changes nothing.
+    pub fn push(&mut self, size: u8, seed: u32, cells: Crumbs) -> Result<(), PartsFault>
+        requires room { length self.old.buckets < bucket_count self.old.keys self.old.width }
+        requires cells { length (⟦<Crumbs as Cells>⟧.cells cells) ≡ bucket_cells size self.old.ratio }
+        requires seed { size ≡ 0 → seed ≡ 0 }
+        ensures pushed { OnOk result (self.new ≡ with_bucket self.old (record { size = size; seed = seed; cells = ⟦<Crumbs as Cells>⟧.cells cells })) }
+        ensures refused { OnErr result (self.new ≡ self.old) }
+        ensures bad_count { result ≡ Err PartsFault.BadCount ↔ Miscounts self.old (record { size = size; seed = seed; cells = ⟦<Crumbs as Cells>⟧.cells cells }) }
+    {
+        if self.miscounts(size, &cells) {
+            return Err(PartsFault::BadCount);
+        }
+        if make_room(&mut self.kept, self.count.value()).is_err() {
+            return Err(PartsFault::Memory);
+        }
+        let bucket = Held::new(size, seed, self.held, cells);
+        if self.kept.push(bucket).is_err() {
+            return Err(PartsFault::Memory);
+        }
+        self.held += size as u32;
+        Ok(())
+    }
+
+    /// How many buckets there are so far.
+    pub fn len(&self) -> u32
+        ensures len { result ≡ length self.now.buckets }
+        ensures few { result ≤ bucket_count self.now.keys self.now.width }
+        ensures valid { length self.now.buckets ≡ bucket_count self.now.keys self.now.width → IsBrz self.now }
+    {
+        self.kept.len() as u32
+    }
+
+    /// How many buckets are still to come.
+    pub fn left(&self) -> u32
+        ensures left { result + length self.now.buckets ≡ bucket_count self.now.keys self.now.width }
+    {
+        self.count.value() - self.kept.len() as u32
+    }
+
+    /// How many keys the buckets so far have.
+    pub fn held(&self) -> u32
+        ensures held { result ≡ keys_in self.now.buckets }
+        ensures within { result ≤ self.now.keys }
+    {
+        self.held
+    }
+
+    /// How many keys the function has.
+    pub fn keys(&self) -> u32
+        ensures keys { result ≡ self.now.keys }
+        ensures within { (1 ≤ result) × (result ≤ MAX_KEYS) }
+    {
+        self.m
+    }
+
+    /// The ratio of vertices to keys, in millionths.
+    pub fn c(&self) -> u32
+        ensures ratio { result ≡ self.now.ratio }
+        ensures within { IsRatio result }
+    {
+        self.c
+    }
+
+    /// How many keys a bucket has on average.
+    pub fn b(&self) -> u8
+        ensures width { result ≡ self.now.width }
+        ensures within { (MIN_WIDTH ≤ result) × (result ≤ MAX_WIDTH) }
+    {
+        self.b
+    }
+
+    /// The seed of the split.
+    pub fn split(&self) -> u32
+        ensures split { result ≡ self.now.split }
+    {
+        self.split
+    }
+
+    /// How many buckets there are to be, to take remainders by.
+    pub(crate) fn count(&self) -> &Divisor
+        ensures count { result.now ≡ bucket_count self.now.keys self.now.width }
+    {
+        &self.count
+    }
+
+    /// Bucket `j`, counted from 0.
+    pub(crate) fn bucket(&self, j: u32) -> &Held
+        requires inside { j < length self.now.buckets }
+        ensures bucket { result.now.bucket ≡ slice_index_or self.now.buckets j no_bucket }
+        ensures offset { result.now.offset ≡ offset_of self.now.buckets j }
+        ensures valid { IsBucket self.now.ratio result.now.bucket }
+        ensures ratio { IsRatio self.now.ratio }
+        ensures within { result.now.offset + result.now.bucket.size ≤ self.now.keys }
+        ensures few { self.now.keys ≤ MAX_KEYS }
+    {
+        &self.kept[j as usize]
+    }
+
+    /// The function, once it has all of its buckets. It takes no memory.
+    pub fn finish(self) -> Brz
+        requires all { length self.buckets ≡ bucket_count self.keys self.width }
+        ensures whole { result ≡ self }
+    {
+        // Its invariant says that it is one.
+        let _ = &self.kept;
+        Brz::of(self)
+    }
+}
