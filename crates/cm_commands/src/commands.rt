@@ -103,7 +103,7 @@ fn damaged_functions(rt: HostRuntime) -> Result<(), Fail> {
         (31, [(26, 7), same], "bad padding at 26"),
         (31, [(24, 0xf0), same], "bad count at 24"),
         (31, [(8, 5), same], "bad algorithm"),
-        (31, [(8, 4), same], "bad algorithm"),
+        (31, [(8, 4), same], "bad field at 9"),
         (31, [(9, 2), same], "bad field at 9"),
         (31, [(9, 11), same], "bad field at 9"),
         (0, [same, same], "truncated at 0"),

@@ -2,11 +2,12 @@
 use Rattle.std.proofs.Common.{◌≡◌, ℕ, ◌+◌, ◌*◌, List, ◌++◌, length, arith, refl, length-append}
 use Rattle.std.proofs.lemmas.List.FromFn.{length-map-range_with_len}
 use Rattle.cm_bdz.specs.Functions.{Bdz, BdzPh}
+use Rattle.cm_buckets.specs.Functions.{Brz}
 use Rattle.cm_rank.specs.Ranks.{sampled}
 use Rattle.cm_spec.specs.Chm.{Chm}
 use Rattle.cm_spec.specs.Dump.{header, fields_image, chm_dump}
 use Rattle.cm_spec.specs.Image.{width_of, fields_len, packed_len}
-use Rattle.cm_dump.specs.Dumps.{packed_image, ranks_image, bdz_dump, bdz_ph_dump}
+use Rattle.cm_dump.specs.Dumps.{packed_image, ranks_image, buckets_image, bdz_dump, bdz_ph_dump, brz_dump}
 use Rattle.cm_dump.proofs.RankLemmas.{length-ranks_image}
 
 pub length-header : (algorithm b keys ratio seed : ℕ) → length (header algorithm b keys ratio seed) ≡ 24
@@ -42,3 +43,7 @@ pub bdz_ph_dump_len : (f : BdzPh) → length (bdz_ph_dump f) ≡ 24 + packed_len
 unfolding bdz_ph_dump
 bdz_ph_dump_len f =
     omega (arith, length-append (header 3 0 f.keys f.ratio f.seed) (packed_image 3 5 f.cells), length-header 3 0 f.keys f.ratio f.seed, length-packed_image 3 5 f.cells)
+
+pub brz_dump_len : (f : Brz) → length (brz_dump f) ≡ 24 + length (buckets_image f.buckets)
+unfolding brz_dump
+brz_dump_len f = omega (arith, length-append (header 4 f.width f.keys f.ratio f.split) (buckets_image f.buckets), length-header 4 f.width f.keys f.ratio f.split)

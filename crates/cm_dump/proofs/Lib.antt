@@ -6,5 +6,9 @@ pub mod CellLemmas
 pub mod RankLemmas
 pub mod BodyLemmas
 pub mod DumpLemmas
+pub mod BucketLemmas
+pub mod RestLemmas
 pub mod SpellingLemmas
+pub mod ReadBackItems
+pub mod ReadBackBuckets
 pub mod ReadBackLemmas

@@ -1,16 +1,24 @@
 -- What the dump of a function spells.
-use Rattle.std.proofs.Common.{◌≡◌, ◌∙◌, ℕ, ◌+◌, ◌*◌, ◌<◌, ◌≤◌, ◌^◌, List, [], ◌∷◌, ◌++◌, length, ap, sym, subst, arith, refl, length-append, append_assoc, Option, None, Ok, w32, append-nil, lit<, eq-eqb}
+use Rattle.std.proofs.Common.{◌≡◌, ◌∙◌, ◌⊎◌, inl, inr, ℕ, nat_lt, eqb, true, false, ◌+◌, ◌*◌, ◌<◌, ◌≤◌, ◌^◌, List, [], ◌∷◌, ◌++◌, length, ap, sym, subst, arith, refl, length-append, append_assoc, Option, None, Result, Ok, ◌/◌, count_by, w32, append-nil, lit<, eq-eqb}
 use Rattle.std.specs.Int.{to_le_bytes}
-use Rattle.std.proofs.lemmas.Bool.{le-leb}
+use Rattle.std.specs.List.{All, flat_map}
+use Rattle.std.proofs.lemmas.List.Elements.{All-head, All-tail}
+use Rattle.std.proofs.lemmas.List.Sums.{sum_by-cons, sum_by_push}
+use Rattle.std.proofs.lemmas.Bool.{cases_eq, le-leb, ne_eqb}
 use Rattle.std.proofs.lemmas.Nat.{from_le_bytes-to_le_bytes_4}
 use Rattle.cm_bdz.specs.Functions.{Bdz, BdzPh}
 use Rattle.cm_bits.specs.Bound.{AllBelow}
 use Rattle.cm_bits.specs.Fault.{fields_fault, packed_fault}
+use Rattle.cm_bits.specs.Held.{packed_cells}
 use Rattle.cm_bits.specs.FieldsLaws.{fields_fault-image}
 use Rattle.cm_bits.specs.PackedLaws.{packed_fault-image}
 use Rattle.cm_bits.specs.declared.fault.ImageFault.{ImageFault}
+use Rattle.cm_buckets.specs.Functions.{Brz, Bucket, IsBrz, IsBucket, bucket_cells, keys_in}
+use Rattle.cm_buckets.specs.Pushing.{with_bucket}
 use Rattle.cm_outer.specs.declared.key_pass.TheConstants.{MAX_KEYS}
 use Rattle.cm_rank.specs.Ranks.{sampled}
+use Rattle.cm_dump.specs.declared.fault.LoadFault.{LoadFault}
+use Rattle.cm_spec.specs.Cells.{is_busy}
 use Rattle.cm_spec.specs.Bdz.{bdz_size}
 use Rattle.cm_spec.specs.Chm.{Chm, chm_size}
 use Rattle.cm_spec.specs.Dump.{magic, header, fields_image, chm_dump}
@@ -21,13 +29,14 @@ use Rattle.cm_dump.specs.declared.front.Algorithm.TheVariants as algorithm
 use Rattle.cm_dump.specs.declared.front.Header.{Header}
 use Rattle.cm_dump.specs.declared.writer.Func.{Func}
 use Rattle.cm_dump.specs.declared.writer.Func.TheVariants as func
-use Rattle.cm_dump.specs.Dumps.{packed_image, ranks_image, bdz_dump, bdz_ph_dump, dump_of}
+use Rattle.cm_dump.specs.Dumps.{packed_image, ranks_image, bucket_image, buckets_image, bdz_dump, bdz_ph_dump, brz_dump, dump_of}
 use Rattle.cm_dump.specs.Functions.{IsChm, IsBdz, IsBdzPh, IsFunction}
 use Rattle.cm_dump.specs.Reading.{item_at, byte_at, number_at, end_at}
 use Rattle.cm_dump.specs.Headings.{IsParameter, magic_at, algorithm_of, algorithm_at, least_b, most_b, kind_at, heading_at}
-use Rattle.cm_dump.specs.Spelling.{image_at, fields_at, packed_at, chm_at, counted, ranks_at, ranked_at, bdz_at, bdz_ph_at, spelling_of}
+use Rattle.cm_dump.specs.Spelling.{image_at, fields_at, packed_at, chm_at, counted, ranks_at, ranked_at, bdz_at, bdz_ph_at, is_off, most_seed, size_at, crumbs_at, bucket_at, bucket_len, rest_at, brz_at, no_buckets, spelling_of}
 use Rattle.cm_dump.proofs.BodyLemmas.{chm_known, bdz_known, bdz_ph_known}
-use Rattle.cm_dump.proofs.CellLemmas.{image_read}
+use Rattle.cm_dump.proofs.BucketLemmas.{length-bucket_image}
+use Rattle.cm_dump.proofs.CellLemmas.{image_read, packed_of_image}
 use Rattle.cm_dump.proofs.StepLemmas.{ok_same}
 use Rattle.cm_dump.proofs.DumpLemmas.{length-header, length-fields_image, length-packed_image, chm_dump_len, bdz_dump_len, bdz_ph_dump_len}
 use Rattle.cm_dump.proofs.ItemLemmas.{item_there, ltb_no}
@@ -178,6 +187,98 @@ bdz_ph_spelling f is =
     (end_there (bdz_ph_dump f) _ (bdz_ph_dump_len f ∙ ap (λ (k : ℕ). 24 + packed_len 5 k) is.size))
     (record { keys = refl; ratio = refl; seed = refl; cells = refl })
 
+-- ---- BRZ
+
+abbrev brz_header : Brz → Header
+brz_header f = record { algorithm = algorithm.Brz; b = f.width; keys = f.keys; ratio = f.ratio; seed = f.split }
+
+brz_heading : (f : Brz) → IsBrz f → heading_at (brz_dump f) ≡ Ok (brz_header f)
+unfolding brz_dump
+brz_heading f is = heading_there algorithm.Brz 4 f.width f.keys f.ratio f.split (buckets_image f.buckets) refl is.width is.keys.0 is.keys.1 is.ratio.0 is.ratio.1 is.split
+
+seed_within : (size seed : ℕ) → (size ≡ 0 → seed ≡ 0) → seed < 2 ^ 32 → seed ≤ most_seed size
+seed_within size seed none fits = go (cases_eq size 0) where
+  go : (size ≡ 0) ⊎ (size ≡ 0 → ⊥) → seed ≤ most_seed size
+  go (inl is) = let test : eqb size 0 ≡ true = eq-eqb size 0 is in rw test (omega (arith, none is))
+  go (inr other) = let test : eqb size 0 ≡ false = ne_eqb size 0 other in rw test (omega (arith, fits))
+
+-- a bucket that stands at an offset
+record IsThere (bytes front after : List ℕ) (at : ℕ) (b : Bucket) : Type 0 where
+  is : bytes ≡ front ++ (b.size ∷ (to_le_bytes w32 b.seed ++ (packed_image 4 4 b.cells ++ after)))
+  long : length front ≡ at
+
+there_size : (bytes front after : List ℕ) (at : ℕ) (f : Brz) (b : Bucket) (left : ℕ) → IsThere bytes front after at b → is_off f.keys (keys_in f.buckets + b.size) left ≡ false → size_at bytes at f left ≡ Ok b.size
+unfolding size_at
+there_size bytes front after at f b left there fits =
+    let item = item_there bytes front (b.size ∷ []) (to_le_bytes w32 b.seed ++ (packed_image 4 4 b.cells ++ after)) at 1 there.is there.long refl in
+    rw (item, fits) refl
+
+there_seed : (bytes front after : List ℕ) (at : ℕ) (b : Bucket) → IsThere bytes front after at b → (b.size ≡ 0 → b.seed ≡ 0) → b.seed < 2 ^ 32 → number_at bytes (at + 1) 0 (most_seed b.size) ≡ Ok b.seed
+there_seed bytes front after at b there none fits =
+    let rest : List ℕ = packed_image 4 4 b.cells ++ after in
+    let cut : bytes ≡ (front ++ b.size ∷ []) ++ (to_le_bytes w32 b.seed ++ rest) = there.is ∙ sym (append_assoc front (b.size ∷ []) (to_le_bytes w32 b.seed ++ rest)) in
+    let long : length (front ++ b.size ∷ []) ≡ at + 1 = length-append front (b.size ∷ []) ∙ ap (λ (k : ℕ). k + 1) there.long in
+    number_there bytes (at + 1) 0 (most_seed b.size) b.seed (item_there bytes (front ++ b.size ∷ []) (to_le_bytes w32 b.seed) rest (at + 1) 4 cut long refl) fits (omega arith) (seed_within b.size b.seed none fits)
+
+there_crumbs : (bytes front after : List ℕ) (at n : ℕ) (b : Bucket) → IsThere bytes front after at b → length b.cells ≡ n → AllBelow 4 b.cells → count_by (is_busy 3) b.cells ≡ b.size → crumbs_at bytes (at + 5) b.size n ≡ Ok b.cells
+unfolding crumbs_at
+there_crumbs bytes front after at n b there size below busy =
+    let seed : List ℕ = to_le_bytes w32 b.seed in
+    let image : List ℕ = packed_image 4 4 b.cells in
+    let before : List ℕ = front ++ (b.size ∷ seed) in
+    let cut : bytes ≡ before ++ (image ++ after) = there.is ∙ sym (append_assoc front (b.size ∷ seed) (image ++ after)) in
+    let long : length before ≡ at + 5 = length-append front (b.size ∷ seed) ∙ ap (λ (k : ℕ). k + 5) there.long in
+    let whole = image_there bytes before image after (at + 5) (packed_len 4 n) (λ i. i / 4) (packed_fault 4 4 n) cut long (length-packed_image 4 4 b.cells ∙ ap (packed_len 4) size) (digits_sound 4 4 n b.cells (lit< tt) (lit< tt) size below) in
+    let cells : packed_cells 4 4 n image ≡ b.cells = packed_of_image 4 4 n b.cells image (lit< tt) (lit< tt) size below (digits_image 4 4 n b.cells size) in
+    rw (whole, cells, eq-eqb _ _ busy) refl
+
+bucket_there : (bytes front after : List ℕ) (at : ℕ) (f : Brz) (b : Bucket) (left : ℕ) → IsThere bytes front after at b → IsBucket f.ratio b → is_off f.keys (keys_in f.buckets + b.size) left ≡ false → bucket_at bytes at f left ≡ Ok b
+unfolding bucket_at
+bucket_there bytes front after at f b left there valid fits =
+    rw (there_size bytes front after at f b left there fits, there_seed bytes front after at b there valid.unseeded valid.seed, there_crumbs bytes front after at (bucket_cells b.size f.ratio) b there valid.cells valid.below valid.busy) refl
+
+not_off : (keys held more left : ℕ) → held + more ≡ keys → (left ≡ 0 → more ≡ 0) → is_off keys held left ≡ false
+not_off keys held more left all none = go (cases_eq left 0) where
+  within : nat_lt keys held ≡ false
+  within = ltb_no keys held (omega (arith, all))
+
+  go : (left ≡ 0) ⊎ (left ≡ 0 → ⊥) → is_off keys held left ≡ false
+  go (inl is) =
+      let last : nat_lt held keys ≡ false = ltb_no held keys (omega (arith, all, none is)) in
+      let test : eqb left 0 ≡ true = eq-eqb left 0 is in
+      rw (within, test, last) refl
+  go (inr other) = let test : eqb left 0 ≡ false = ne_eqb left 0 other in rw (within, test) refl
+
+keys_none : (bs : List Bucket) → length bs ≡ 0 → keys_in bs ≡ 0
+keys_none [] is = refl
+keys_none (b ∷ bs) is = absurd (omega (arith, is))
+
+abbrev with_buckets : Brz → List Bucket → Brz
+with_buckets f bs = record f { buckets = f.buckets ++ bs }
+
+rest_there : (bytes front : List ℕ) (at : ℕ) (f : Brz) (later : List Bucket) → bytes ≡ front ++ buckets_image later → length front ≡ at → All (IsBucket f.ratio) later → keys_in f.buckets + keys_in later ≡ f.keys → rest_at bytes at (length later) f ≡ Ok (with_buckets f later)
+unfolding rest_at buckets_image bucket_image
+rest_there bytes front at f [] is long each all =
+    let ended = end_there bytes at (ap length (is ∙ append-nil front) ∙ long) in
+    rw ended (ap (λ (bs : List Bucket). let r : Result Brz LoadFault = Ok (record f { buckets = bs }) in r) (sym (append-nil f.buckets)))
+rest_there bytes front at f (b ∷ later) is long each all =
+    let seed : List ℕ = to_le_bytes w32 b.seed in
+    let image : List ℕ = packed_image 4 4 b.cells in
+    let after : List ℕ = flat_map bucket_image later in
+    let there : IsThere bytes front after at b = record { is = is ∙ ap (λ (l : List ℕ). front ++ (b.size ∷ l)) (append_assoc seed image after); long = long } in
+    let size : keys_in (b ∷ later) ≡ b.size + keys_in later = sum_by-cons (λ (x : Bucket). x.size) b later in
+    let pushed : keys_in (f.buckets ++ b ∷ []) ≡ keys_in f.buckets + b.size = sum_by_push (λ (x : Bucket). x.size) f.buckets b in
+    let fits = not_off f.keys (keys_in f.buckets + b.size) (keys_in later) (length later) (omega (arith, all, size)) (keys_none later) in
+    let item = bucket_there bytes front after at f b (length later) there (All-head (IsBucket f.ratio) b later each) fits in
+    let next = rest_there bytes (front ++ bucket_image b) (at + bucket_len b) (with_bucket f b) later (is ∙ sym (append_assoc front (bucket_image b) after)) (length-append front (bucket_image b) ∙ omega (arith, long, length-bucket_image b)) (All-tail (IsBucket f.ratio) b later each) (omega (arith, all, size, pushed)) in
+    rw item (next ∙ ap (λ (bs : List Bucket). let r : Result Brz LoadFault = Ok (record f { buckets = bs }) in r) (append_assoc f.buckets (b ∷ []) later))
+
+brz_spelling : (f : Brz) → IsBrz f → brz_at (brz_dump f) (brz_header f) ≡ Ok f
+unfolding brz_at brz_dump
+brz_spelling f is =
+    let all = rest_there (brz_dump f) (header 4 f.width f.keys f.ratio f.split) 24 (no_buckets (brz_header f)) f.buckets refl (length-header 4 f.width f.keys f.ratio f.split) is.each (omega (arith, is.all)) in
+    subst (λ (k : ℕ). rest_at (brz_dump f) 24 k (no_buckets (brz_header f)) ≡ Ok f) is.count all
+
 -- ---- functions of any algorithm
 
 pub spelling_of-dump_of : (f : Func) → IsFunction f → spelling_of (dump_of f) ≡ Ok f
@@ -185,6 +286,7 @@ unfolding spelling_of
 spelling_of-dump_of (func.Chm f) is = rw (chm_heading f is, chm_spelling f is) refl
 spelling_of-dump_of (func.Bdz f) is = rw (bdz_heading f is, bdz_spelling f is) refl
 spelling_of-dump_of (func.BdzPh f) is = rw (bdz_ph_heading f is, bdz_ph_spelling f is) refl
+spelling_of-dump_of (func.Brz f) is = rw (brz_heading f is, brz_spelling f is) refl
 
 -- equal dumps come from equal functions
 pub same_from_dump : (f g : Func) → IsFunction f → IsFunction g → dump_of f ≡ dump_of g → f ≡ g

@@ -1,6 +1,7 @@
 -- Dumps that the worked examples are about.
 use Rattle.std.specs.Prelude.{ℕ, List, [], ◌∷◌, ◌++◌, codes}
 use Rattle.cm_bdz.specs.Functions.{Bdz, BdzPh}
+use Rattle.cm_buckets.specs.Functions.{Brz}
 use Rattle.cm_spec.specs.Chm.{Chm}
 
 -- the header of a CHM function of so few keys, with the ratio 2.09 and the seed 0
@@ -26,3 +27,11 @@ bdz_of_one = record { keys = 1; ratio = 1230000; seed = 0; shift = 7; cells = 3 
 -- a BDZ_PH function of two keys
 abbrev pub bdz_ph_of_two : BdzPh
 bdz_ph_of_two = record { keys = 2; ratio = 1230000; seed = 0; cells = 0 ∷ 0 ∷ 0 ∷ 0 ∷ 0 ∷ 0 ∷ 0 ∷ 0 ∷ 0 ∷ [] }
+
+-- a BRZ function of two keys, which are in one bucket
+abbrev pub brz_of_two : Brz
+brz_of_two = record { keys = 2; ratio = 1230000; width = 128; split = 0; buckets = record { size = 2; seed = 0; cells = 3 ∷ 0 ∷ 0 ∷ 3 ∷ 3 ∷ 3 ∷ 3 ∷ 3 ∷ 3 ∷ [] } ∷ [] }
+
+-- its bucket's bytes
+abbrev pub bucket_of_two : List ℕ
+bucket_of_two = 2 ∷ 0 ∷ 0 ∷ 0 ∷ 0 ∷ 0xc3 ∷ 0xff ∷ 3 ∷ []

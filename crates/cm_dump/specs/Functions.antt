@@ -3,6 +3,8 @@ use Rattle.std.specs.Prelude.{◌≡◌, ◌<◌, ◌≤◌, ◌^◌, ℕ, List,
 use Rattle.cm_bdz.specs.Functions.{Bdz, BdzPh, bdz_answer, bdz_ph_answer}
 use Rattle.cm_bdz.specs.Places.{bdz_place}
 use Rattle.cm_bits.specs.Bound.{AllBelow}
+use Rattle.cm_buckets.specs.Functions.{IsBrz, brz_answer}
+use Rattle.cm_buckets.specs.Places.{brz_place}
 use Rattle.cm_outer.specs.declared.key_pass.TheConstants.{MAX_KEYS}
 use Rattle.cm_chm.specs.Places.{chm_place}
 use Rattle.cm_spec.specs.Bdz.{bdz_size}
@@ -45,21 +47,25 @@ abbrev pub IsFunction : Func → Type 0
 IsFunction (func.Chm f) = IsChm f
 IsFunction (func.Bdz f) = IsBdz f
 IsFunction (func.BdzPh f) = IsBdzPh f
+IsFunction (func.Brz f) = IsBrz f
 
 -- what the answers of a function are below: the number of keys, or for BDZ_PH of vertices
 abbrev pub span_by : Func → ℕ
 span_by (func.Chm f) = f.keys
 span_by (func.Bdz f) = f.keys
 span_by (func.BdzPh f) = length f.cells
+span_by (func.Brz f) = f.keys
 
 -- where a function looks for the bytes of a key
 abbrev pub place_by : Func → List ℕ → List ℕ
 place_by (func.Chm f) key = chm_place f key
 place_by (func.Bdz f) key = bdz_place (words key f.seed) (length f.cells)
 place_by (func.BdzPh f) key = bdz_place (words key f.seed) (length f.cells)
+place_by (func.Brz f) key = brz_place f key
 
 -- the answer of a function to the bytes of a key
 abbrev pub answer_by : Func → List ℕ → Option ℕ
 answer_by (func.Chm f) key = Some (chm_answer f key)
 answer_by (func.Bdz f) key = bdz_answer f key
 answer_by (func.BdzPh f) key = Some (bdz_ph_answer f key)
+answer_by (func.Brz f) key = brz_answer f key

@@ -1,6 +1,7 @@
 -- The header of a dump, as it is read.
 use Rattle.std.specs.Prelude.{ℕ, ◌≤◌, List, Result, Ok, Err, ◌==◌, nat_eq, slice_index, if◌then◌else◌}
 use Rattle.std.specs.Cmp.Lexicographic.{pointwise}
+use Rattle.cm_buckets.specs.declared.limits.TheConstants.{MIN_WIDTH, MAX_WIDTH}
 use Rattle.cm_outer.specs.declared.key_pass.TheConstants.{MAX_KEYS}
 use Rattle.cm_spec.specs.Dump.{magic}
 use Rattle.cm_dump.specs.declared.fault.LoadFault.{LoadFault}
@@ -17,10 +18,10 @@ magic_at bytes = do
   item ← item_at bytes 0 8
   if pointwise nat_eq item magic then Ok tt else Err faults.BadMagic
 
--- the algorithm of a number: 1 is CHM's, 2 BDZ's and 3 BDZ_PH's
+-- the algorithm of a number: 1 is CHM's, 2 BDZ's, 3 BDZ_PH's and 4 BRZ's
 abbrev pub algorithm_of : ℕ → Result Algorithm LoadFault
 algorithm_of number =
-    if number == 1 then Ok algorithm.Chm else if number == 2 then Ok algorithm.Bdz else if number == 3 then Ok algorithm.BdzPh else Err faults.BadAlgorithm
+    if number == 1 then Ok algorithm.Chm else if number == 2 then Ok algorithm.Bdz else if number == 3 then Ok algorithm.BdzPh else if number == 4 then Ok algorithm.Brz else Err faults.BadAlgorithm
 
 -- the number of an algorithm
 unfoldable pub algorithm_at : List ℕ → Result Algorithm LoadFault
@@ -28,16 +29,19 @@ algorithm_at bytes = do
   item ← item_at bytes 8 1
   algorithm_of (slice_index item 0)
 
--- the least and the greatest parameter b of an algorithm: only BDZ has one, how far apart its ranks are as a power of 2
+-- the least and the greatest parameter b of an algorithm: BDZ has how far apart its ranks are as a power of 2, BRZ how many keys
+-- a bucket has on average, and the others have none
 abbrev pub least_b : Algorithm → ℕ
 least_b algorithm.Chm = 0
 least_b algorithm.Bdz = 3
 least_b algorithm.BdzPh = 0
+least_b algorithm.Brz = MIN_WIDTH
 
 abbrev pub most_b : Algorithm → ℕ
 most_b algorithm.Chm = 0
 most_b algorithm.Bdz = 10
 most_b algorithm.BdzPh = 0
+most_b algorithm.Brz = MAX_WIDTH
 
 -- the parameter is in the range of its algorithm
 abbrev pub IsParameter : Algorithm → ℕ → Type 0

@@ -1,5 +1,5 @@
 -- The function that bytes spell, or their first fault.
-use Rattle.std.specs.Prelude.{◌+◌, ◌*◌, ◌/◌, ℕ, List, [], ◌∷◌, length, nat_eq, ◌==◌, if◌then◌else◌, count_by, Option, Some, None, Result, Ok, Err}
+use Rattle.std.specs.Prelude.{zero, suc, nat_lt, slice_index, ◌&&◌, ◌||◌, ◌-◌, ◌+◌, ◌*◌, ◌/◌, ℕ, Bool, List, [], ◌∷◌, length, nat_eq, ◌==◌, if◌then◌else◌, count_by, Option, Some, None, Result, Ok, Err}
 use Rattle.std.specs.Cmp.Lexicographic.{pointwise}
 use Rattle.std.specs.Int.{to_le_bytes, w32}
 use Rattle.cm_bdz.specs.Functions.{Bdz, BdzPh}
@@ -7,6 +7,8 @@ use Rattle.cm_bits.specs.declared.fault.ImageFault.{ImageFault}
 use Rattle.cm_bits.specs.declared.fault.ImageFault.TheVariants as image
 use Rattle.cm_bits.specs.Fault.{bytes_number, field_cells, fields_fault, packed_fault}
 use Rattle.cm_bits.specs.Held.{packed_cells}
+use Rattle.cm_buckets.specs.Functions.{Brz, Bucket, bucket_cells, bucket_count, keys_in}
+use Rattle.cm_buckets.specs.Pushing.{with_bucket}
 use Rattle.cm_rank.specs.Ranks.{sampled}
 use Rattle.cm_spec.specs.Bdz.{bdz_size}
 use Rattle.cm_spec.specs.Cells.{is_busy}
@@ -19,7 +21,7 @@ use Rattle.cm_dump.specs.declared.front.Algorithm.TheVariants as algorithm
 use Rattle.cm_dump.specs.declared.front.Header.{Header}
 use Rattle.cm_dump.specs.declared.writer.Func.{Func}
 use Rattle.cm_dump.specs.declared.writer.Func.TheVariants as func
-use Rattle.cm_dump.specs.Reading.{◌>>=◌, item_at, end_at}
+use Rattle.cm_dump.specs.Reading.{◌>>=◌, item_at, number_at, end_at}
 use Rattle.cm_dump.specs.Headings.{heading_at}
 
 -- the fault of an image that begins at an offset: a bad cell is named by the byte of its lowest bit or digit
@@ -87,6 +89,60 @@ bdz_ph_at bytes h = do
   ended ← end_at bytes (24 + packed_len 5 (bdz_size h.keys h.ratio))
   Ok (record { keys = h.keys; ratio = h.ratio; seed = h.seed; cells = packed_cells 3 5 (bdz_size h.keys h.ratio) image })
 
+-- whether a function that has so many keys in its buckets, of which `left` are to come, has too many, or too few
+abbrev pub is_off : ℕ → ℕ → ℕ → Bool
+is_off keys held left = nat_lt keys held || (left == 0 && nat_lt held keys)
+
+-- the number of keys of a function's next bucket, after which `left` are to come
+unfoldable pub size_at : List ℕ → ℕ → Brz → ℕ → Result ℕ LoadFault
+size_at bytes at f left = do
+  item ← item_at bytes at 1
+  let size = slice_index item 0
+  if is_off f.keys (keys_in f.buckets + size) left then Err (faults.BadCount at) else Ok size
+
+-- the greatest seed of a bucket of so many keys: an empty one has the seed 0
+abbrev pub most_seed : ℕ → ℕ
+most_seed size = if size == 0 then 0 else 4294967295
+
+-- the n cells of a bucket of so many keys, of which as many are not 3
+unfoldable pub crumbs_at : List ℕ → ℕ → ℕ → ℕ → Result (List ℕ) LoadFault
+crumbs_at bytes at size n = do
+  image ← packed_at bytes at 4 4 n
+  if count_by (is_busy 3) (packed_cells 4 4 n image) == size then Ok (packed_cells 4 4 n image) else Err (faults.BadCount at)
+
+-- a function's next bucket, after which `left` are to come
+unfoldable pub bucket_at : List ℕ → ℕ → Brz → ℕ → Result Bucket LoadFault
+bucket_at bytes at f left = do
+  size ← size_at bytes at f left
+  seed ← number_at bytes (at + 1) 0 (most_seed size)
+  cells ← crumbs_at bytes (at + 5) size (bucket_cells size f.ratio)
+  Ok (record { size = size; seed = seed; cells = cells })
+
+-- how many bytes a bucket has
+abbrev pub bucket_len : Bucket → ℕ
+bucket_len bucket = 5 + packed_len 4 (length bucket.cells)
+
+-- a function with so many buckets more, which are the last that the bytes have
+unfoldable pub rest_at : List ℕ → ℕ → ℕ → Brz → Result Brz LoadFault
+rest_at bytes at zero f = do
+  ended ← end_at bytes at
+  Ok f
+rest_at bytes at (suc left) f = do
+  bucket ← bucket_at bytes at f left
+  rest_at bytes (at + bucket_len bucket) left (with_bucket f bucket)
+
+-- how many buckets of a function are to come
+abbrev pub left_of : Brz → ℕ
+left_of f = bucket_count f.keys f.width - length f.buckets
+
+-- the function of a header that has no bucket yet
+abbrev pub no_buckets : Header → Brz
+no_buckets h = record { keys = h.keys; ratio = h.ratio; width = h.b; split = h.seed; buckets = [] }
+
+-- the BRZ function of a header and the buckets after it
+unfoldable pub brz_at : List ℕ → Header → Result Brz LoadFault
+brz_at bytes h = rest_at bytes 24 (bucket_count h.keys h.b) (no_buckets h)
+
 -- the function of a header and what is after it
 abbrev pub body_at : List ℕ → Header → Algorithm → Result Func LoadFault
 body_at bytes h algorithm.Chm = do
@@ -98,6 +154,9 @@ body_at bytes h algorithm.Bdz = do
 body_at bytes h algorithm.BdzPh = do
   f ← bdz_ph_at bytes h
   Ok (func.BdzPh f)
+body_at bytes h algorithm.Brz = do
+  f ← brz_at bytes h
+  Ok (func.Brz f)
 
 -- the function whose dump the bytes are, or the first fault of the bytes
 unfoldable pub spelling_of : List ℕ → Result Func LoadFault

@@ -17,6 +17,7 @@ impl Answers for Func {
             Func::Chm(chm) => chm.span(),
             Func::Bdz(bdz) => bdz.span(),
             Func::BdzPh(bdz_ph) => bdz_ph.span(),
+            Func::Brz(brz) => brz.span(),
         }
     }
 
@@ -25,6 +26,7 @@ impl Answers for Func {
             Func::Chm(chm) => chm.place(key),
             Func::Bdz(bdz) => bdz.place(key),
             Func::BdzPh(bdz_ph) => bdz_ph.place(key),
+            Func::Brz(brz) => brz.place(key),
         }
     }
 
@@ -33,6 +35,7 @@ impl Answers for Func {
             Func::Chm(chm) => chm.answer_at(place),
             Func::Bdz(bdz) => bdz.answer_at(place),
             Func::BdzPh(bdz_ph) => bdz_ph.answer_at(place),
+            Func::Brz(brz) => brz.answer_at(place),
         }
     }
 }

@@ -1,9 +1,11 @@
 //! Worked examples of what bytes spell. Each function has an empty body, and its clauses are checked by the prover.
-ghost use Rattle.std.specs.Prelude.{◌≡◌, ◌++◌, [], ◌∷◌, Ok, Err, take};
-ghost use Rattle.cm_dump.specs.Examples.{bdz_of_one, bdz_ph_of_two, front, front_of, one_key, two_keys};
+ghost use Rattle.std.specs.Prelude.{◌≡◌, ◌++◌, [], ◌∷◌, Ok, Err, Some, codes, take};
+ghost use Rattle.cm_dump.specs.Examples.{bdz_of_one, bdz_ph_of_two, brz_of_two, bucket_of_two, front, front_of, one_key, two_keys};
 ghost use Rattle.cm_dump.specs.Spelling.{spelling_of};
 ghost use Rattle.cm_dump.specs.declared.fault.LoadFault.TheVariants.{Truncated, BadMagic, BadAlgorithm, BadField, BadPadding, BadCell, BadCount, BadRank, Trailing};
-ghost use Rattle.cm_dump.specs.declared.writer.Func.TheVariants.{Bdz, BdzPh, Chm};
+ghost use Rattle.cm_dump.specs.declared.writer.Func.TheVariants.{Bdz, BdzPh, Brz, Chm};
+ghost use Rattle.cm_buckets.specs.Functions.{brz_answer};
+ghost use Rattle.cm_dump.specs.Dumps.{dump_of};
 
 /// CHM functions of one key and of two.
 #[tactic(auto, unfolding(crate::specs::Spelling::spelling_of, crate::specs::Spelling::chm_at, crate::specs::Spelling::image_at, crate::specs::Headings::heading_at, crate::specs::Headings::kind_at, crate::specs::Headings::algorithm_at, crate::specs::Headings::magic_at, crate::specs::Reading::item_at, crate::specs::Reading::byte_at, crate::specs::Reading::number_at, crate::specs::Reading::end_at, cm_bits::specs::Fault::fields_fault, cm_bits::specs::Fault::field_cells, cm_bits::specs::Fault::bytes_number, cm_spec::specs::Image::digits_sum, cm_spec::specs::Image::width_of))]
@@ -33,4 +35,31 @@ pub fn spelled_by_three()
     ensures bdz_ph_cell { spelling_of (front_of 3 0 2 ++ 0 ∷ 243 ∷ []) ≡ Err (BadCell 25) }
     ensures bdz_ph_padding { spelling_of (front_of 3 0 2 ++ 0 ∷ 81 ∷ []) ≡ Err (BadPadding 25) }
     ensures no_algorithm { spelling_of (front_of 5 0 2) ≡ Err BadAlgorithm }
+{}
+
+/// A BRZ function of two keys, and bytes that differ from its dump.
+#[tactic(auto, unfolding(crate::specs::Spelling::spelling_of, crate::specs::Spelling::brz_at, crate::specs::Spelling::rest_at, crate::specs::Spelling::bucket_at, crate::specs::Spelling::size_at, crate::specs::Spelling::crumbs_at, crate::specs::Spelling::image_at, crate::specs::Headings::heading_at, crate::specs::Headings::kind_at, crate::specs::Headings::algorithm_at, crate::specs::Headings::magic_at, crate::specs::Reading::item_at, crate::specs::Reading::byte_at, crate::specs::Reading::number_at, crate::specs::Reading::end_at, cm_bits::specs::Fault::packed_fault, cm_bits::specs::Held::packed_cells))]
+pub fn spelled_by_buckets()
+    ensures brz { spelling_of (front_of 4 128 2 ++ bucket_of_two) ≡ Ok (Brz brz_of_two) }
+    ensures few_keys { spelling_of (front_of 4 128 2 ++ 1 ∷ 0 ∷ 0 ∷ 0 ∷ 0 ∷ 0xc3 ∷ 0xff ∷ 3 ∷ []) ≡ Err (BadCount 24) }
+    ensures many_keys { spelling_of (front_of 4 128 2 ++ 3 ∷ 0 ∷ 0 ∷ 0 ∷ 0 ∷ 0xc3 ∷ 0xff ∷ 3 ∷ []) ≡ Err (BadCount 24) }
+    ensures seeded { spelling_of (front_of 4 64 65 ++ 0 ∷ 1 ∷ 0 ∷ 0 ∷ 0 ∷ []) ≡ Err (BadField 25) }
+    ensures count { spelling_of (front_of 4 128 2 ++ 2 ∷ 0 ∷ 0 ∷ 0 ∷ 0 ∷ 0xf3 ∷ 0xff ∷ 3 ∷ []) ≡ Err (BadCount 29) }
+    ensures padding { spelling_of (front_of 4 128 2 ++ 2 ∷ 0 ∷ 0 ∷ 0 ∷ 0 ∷ 0xc3 ∷ 0xff ∷ 7 ∷ []) ≡ Err (BadPadding 31) }
+    ensures cut { spelling_of (front_of 4 128 2 ++ take 7 bucket_of_two) ≡ Err (Truncated 31) }
+    ensures longer { spelling_of (front_of 4 128 2 ++ (bucket_of_two ++ 0 ∷ [])) ≡ Err Trailing }
+    ensures parameter { spelling_of (front_of 4 63 2 ++ bucket_of_two) ≡ Err (BadField 9) }
+{}
+
+/// The dump of that function.
+#[tactic(auto, unfolding(crate::specs::Dumps::brz_dump, crate::specs::Dumps::buckets_image, crate::specs::Dumps::bucket_image, crate::specs::Dumps::packed_image, cm_spec::specs::Dump::header, cm_spec::specs::Image::packed_byte, cm_spec::specs::Image::digits_sum))]
+pub fn saved_by_buckets()
+    ensures dump { dump_of (Brz brz_of_two) ≡ front_of 4 128 2 ++ bucket_of_two }
+{}
+
+/// Its answers to the keys that it was built over.
+#[tactic(auto, unfolding(cm_spec::specs::Lookup2::words, cm_spec::specs::Lookup2::finish, cm_spec::specs::Lookup2::absorb, cm_spec::specs::Lookup2::three_lines, cm_spec::specs::Lookup2::left_line, cm_spec::specs::Lookup2::right_line))]
+pub fn answered_by_buckets()
+    ensures first { brz_answer brz_of_two [] ≡ Some 0 }
+    ensures second { brz_answer brz_of_two (codes "a") ≡ Some 1 }
 {}

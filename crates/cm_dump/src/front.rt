@@ -9,6 +9,7 @@ ghost use Rattle.cm_dump.specs.declared.fault.LoadFault.{LoadFault};
 
 use crate::LoadFault;
 use crate::items::{byte, item, number};
+use cm_buckets::{MAX_WIDTH, MIN_WIDTH};
 use cm_outer::{MAX_KEYS, Source};
 
 /// The least ratio of vertices to keys, in millionths.
@@ -23,13 +24,15 @@ pub enum Algorithm {
     Chm,
     Bdz,
     BdzPh,
+    Brz,
 }
 
 /// An algorithm and its parameter.
 #[derive(Clone, Copy, Drop)]
 pub struct Kind {
     pub algorithm: Algorithm,
-    /// Every `2^b`-th cell of BDZ has its rank kept, with b from 3 to 10; 0 for the others.
+    /// Every `2^b`-th cell of BDZ has its rank kept, with b from 3 to 10; a bucket of BRZ has b keys on average, with b from 64 to 175;
+    /// 0 for the others.
     pub b: u8,
 }
 
@@ -37,7 +40,8 @@ pub struct Kind {
 #[derive(Clone, Copy, Drop)]
 pub struct Header {
     pub algorithm: Algorithm,
-    /// Every `2^b`-th cell of BDZ has its rank kept, with b from 3 to 10; 0 for the others.
+    /// Every `2^b`-th cell of BDZ has its rank kept, with b from 3 to 10; a bucket of BRZ has b keys on average, with b from 64 to 175;
+    /// 0 for the others.
     pub b: u8,
     /// How many keys the function was built over, from 1 to `MAX_KEYS`.
     pub keys: u32,
@@ -66,7 +70,7 @@ fn magic<S: Source>(source: &mut S) -> Result<(), LoadFault>
     }
 }
 
-/// The algorithm by its number: 1 is CHM's, 2 BDZ's and 3 BDZ_PH's.
+/// The algorithm by its number: 1 is CHM's, 2 BDZ's, 3 BDZ_PH's and 4 BRZ's.
 #[tactic(auto, unfolding(crate::specs::Headings::algorithm_at))]
 fn read_algorithm<S: Source>(source: &mut S) -> Result<Algorithm, LoadFault>
     requires at { IsAt (S.told source.old) (S.place source.old) 8 }
@@ -82,6 +86,7 @@ fn read_algorithm<S: Source>(source: &mut S) -> Result<Algorithm, LoadFault>
         1 => Ok(Algorithm::Chm),
         2 => Ok(Algorithm::Bdz),
         3 => Ok(Algorithm::BdzPh),
+        4 => Ok(Algorithm::Brz),
         _ => Err(LoadFault::BadAlgorithm),
     }
 }
@@ -94,6 +99,7 @@ fn parameters(algorithm: Algorithm) -> (u8, u8)
     match algorithm {
         Algorithm::Chm | Algorithm::BdzPh => (0, 0),
         Algorithm::Bdz => (3, 10),
+        Algorithm::Brz => (MIN_WIDTH, MAX_WIDTH),
     }
 }
 

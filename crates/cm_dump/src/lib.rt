@@ -2,6 +2,7 @@
 #![tactic(auto)]
 
 mod answers;
+mod buckets;
 mod bulk;
 pub mod examples;
 mod fault;
@@ -11,6 +12,7 @@ mod items;
 pub mod laws;
 mod ranks;
 mod reader;
+mod rest;
 mod writer;
 
 pub use crate::fault::LoadFault;

@@ -19,6 +19,7 @@ use crate::bulk::long_item;
 use crate::front::{Algorithm, Header, read_header};
 use crate::items::end;
 use crate::ranks::read_ranks;
+use crate::rest::load_brz;
 use crate::{Func, LoadFault};
 use cm_bdz::{Bdz, BdzPh, BdzPhScheme, BdzScheme, PartsFault};
 use cm_bits::{Cells, Crumbs, Fields, ImageFault, Trits};
@@ -29,7 +30,7 @@ use std::alloc::Global;
 
 /// The fault of the image that begins at this offset, in bytes from 0.
 fn placed<C: Cells>(at: u64, bound: u32, fault: ImageFault) -> LoadFault
-    requires at { at < 2 ^ 32 }
+    requires at { at < 2 ^ 60 }
     requires fit { C.fits bound }
     requires place { IsPlace (C.cell_place bound) fault }
     ensures { result ≡ fault_at at (C.cell_place bound) fault }
@@ -43,11 +44,12 @@ fn placed<C: Cells>(at: u64, bound: u32, fault: ImageFault) -> LoadFault
     }
 }
 
-/// The `n` cells below the bound, after the header.
+/// The `n` cells below the bound, whose image begins at this offset.
 #[tactic(auto, unfolding(crate::specs::Spelling::image_at))]
-fn read_cells<C: Cells + Drop, S: Source>(
+pub(crate) fn read_cells<C: Cells + Drop, S: Source>(
     alloc: Global,
     source: &mut S,
+    at: u64,
     n: u32,
     bound: u32,
 ) -> Result<C, LoadFault>
@@ -55,22 +57,23 @@ fn read_cells<C: Cells + Drop, S: Source>(
     requires fit { C.fits bound }
     requires room { C.image_size n bound < 2 ^ 33 }
     requires near { AreNear (C.image_size n bound) (C.cell_place bound) (C.image_fault n bound) }
-    requires at { IsAt (S.told source.old) (S.place source.old) 24 }
+    requires short { at < 2 ^ 60 }
+    requires at { IsAt (S.told source.old) (S.place source.old) at }
     ensures told { S.told source.new ≡ S.told source.old }
-    ensures at { OnOk result (IsAt (S.told source.new) (S.place source.new) (24 + C.image_size n bound)) }
+    ensures at { OnOk result (IsAt (S.told source.new) (S.place source.new) (at + C.image_size n bound)) }
     ensures bound { IfOk result (λ t. C.bound_of t ≡ bound) }
     ensures size { IfOk result (λ t. length (C.cells t) ≡ n) }
-    ensures exact { ForSome (S.told source.old) (λ bytes. Answers (λ t. list_of (C.image_byte bound (C.cells t)) (C.image_size n bound)) result (image_at bytes 24 (C.image_size n bound) (C.cell_place bound) (C.image_fault n bound))) }
+    ensures exact { ForSome (S.told source.old) (λ bytes. Answers (λ t. list_of (C.image_byte bound (C.cells t)) (C.image_size n bound)) result (image_at bytes at (C.image_size n bound) (C.cell_place bound) (C.image_fault n bound))) }
     ensures cause { HasLoadCause (S.faults source.old) (S.faults source.new) result }
 {
     let len = C::image_len(n, bound);
-    let bytes = match long_item(alloc, source, 24, len) {
+    let bytes = match long_item(alloc, source, at, len) {
         Ok(bytes) => bytes,
         Err(fault) => return Err(fault),
     };
     match C::from_bytes(alloc, n, bound, bytes) {
         Ok(cells) => Ok(cells),
-        Err(fault) => Err(placed::<C>(24, bound, fault)),
+        Err(fault) => Err(placed::<C>(at, bound, fault)),
     }
 }
 
@@ -86,7 +89,7 @@ fn load_chm<S: Source>(alloc: Global, source: &mut S, header: Header) -> Result<
     ensures cause { HasLoadCause (S.faults source.old) (S.faults source.new) result }
 {
     let n = ChmScheme {}.size(header.keys, header.ratio);
-    let cells: Fields = match read_cells(alloc, source, n, header.keys) {
+    let cells: Fields = match read_cells(alloc, source, 24, n, header.keys) {
         Ok(cells) => cells,
         Err(fault) => return Err(fault),
     };
@@ -176,7 +179,7 @@ fn load_bdz<S: Source>(alloc: Global, source: &mut S, header: Header) -> Result<
     ensures cause { HasLoadCause (S.faults source.old) (S.faults source.new) result }
 {
     let n = BdzScheme {}.size(header.keys, header.ratio);
-    match read_cells(alloc, source, n, 4) {
+    match read_cells(alloc, source, 24, n, 4) {
         Ok(cells) => load_ranked(alloc, source, header, cells),
         Err(fault) => Err(fault),
     }
@@ -194,7 +197,7 @@ fn load_bdz_ph<S: Source>(alloc: Global, source: &mut S, header: Header) -> Resu
     ensures cause { HasLoadCause (S.faults source.old) (S.faults source.new) result }
 {
     let n = BdzPhScheme {}.size(header.keys, header.ratio);
-    let cells: Trits = match read_cells(alloc, source, n, 3) {
+    let cells: Trits = match read_cells(alloc, source, 24, n, 3) {
         Ok(cells) => cells,
         Err(fault) => return Err(fault),
     };
@@ -233,6 +236,10 @@ pub fn load<S: Source>(alloc: Global, source: &mut S) -> Result<Func, LoadFault>
         },
         Algorithm::BdzPh => match load_bdz_ph(alloc, source, header) {
             Ok(bdz_ph) => Ok(Func::BdzPh(bdz_ph)),
+            Err(fault) => Err(fault),
+        },
+        Algorithm::Brz => match load_brz(alloc, source, header) {
+            Ok(brz) => Ok(Func::Brz(brz)),
             Err(fault) => Err(fault),
         },
     }

@@ -3,12 +3,14 @@ ghost use Rattle.std.specs.Prelude.{◌≡◌, ◌++◌, ◌∷◌, [], List, �
 ghost use Rattle.cm_outer.specs.Causes.{HasCause};
 ghost use Rattle.cm_outer.specs.Writing.{Writes};
 ghost use Rattle.cm_spec.specs.Dump.{header, chm_dump};
-ghost use Rattle.cm_dump.specs.Dumps.{bdz_dump, bdz_ph_dump, dump_of};
+ghost use Rattle.cm_dump.specs.Dumps.{bdz_dump, bdz_ph_dump, brz_dump, dump_of};
 
+use crate::buckets::{buckets_len, save_buckets};
 use crate::image::save_image;
 use crate::ranks::save_ranks;
 use cm_bdz::{Bdz, BdzPh};
 use cm_bits::{Cells, Crumbs, Fields, Trits};
+use cm_buckets::Brz;
 use cm_chm::Chm;
 use cm_outer::{Failed, Sink, write_pieces};
 
@@ -18,6 +20,7 @@ pub enum Func {
     Chm(Chm),
     Bdz(Bdz),
     BdzPh(BdzPh),
+    Brz(Brz),
 }
 
 /// Writes the header of a dump: the algorithm's number, its parameter `b`, the number of keys, the ratio in millionths and the
@@ -77,6 +80,16 @@ fn save_bdz_ph<O: Sink>(bdz_ph: &BdzPh, out: &mut O) -> Result<(), Failed>
     save_image(bdz_ph.cells(), out)
 }
 
+/// Writes the dump of a BRZ function.
+#[tactic(auto, unfolding(crate::specs::Dumps::brz_dump))]
+fn save_brz<O: Sink>(brz: &Brz, out: &mut O) -> Result<(), Failed>
+    ensures bytes { Writes (O.written out.old) (O.written out.new) (brz_dump brz.now) result }
+    ensures cause { HasCause (O.faults out.old) (O.faults out.new) result }
+{
+    save_header(4, brz.b(), brz.keys(), brz.c(), brz.split(), out)?;
+    save_buckets(brz, out)
+}
+
 /// Writes the dump of a function. Fails exactly where the sink does, which has then taken a prefix of the dump. It takes no
 /// memory.
 pub fn save<O: Sink>(function: &Func, out: &mut O) -> Result<(), Failed>
@@ -87,6 +100,7 @@ pub fn save<O: Sink>(function: &Func, out: &mut O) -> Result<(), Failed>
         Func::Chm(chm) => save_chm(chm, out),
         Func::Bdz(bdz) => save_bdz(bdz, out),
         Func::BdzPh(bdz_ph) => save_bdz_ph(bdz_ph, out),
+        Func::Brz(brz) => save_brz(brz, out),
     }
 }
 
@@ -115,6 +129,14 @@ fn bdz_ph_len(bdz_ph: &BdzPh) -> u64
     24 + Trits::image_len(bdz_ph.cells().len(), 3)
 }
 
+/// How many bytes the dump of a BRZ function has.
+#[tactic(auto, using(crate::proofs::DumpLemmas::brz_dump_len))]
+fn brz_len(brz: &Brz) -> u64
+    ensures { result ≡ length (brz_dump brz.now) }
+{
+    24 + buckets_len(brz)
+}
+
 /// How many bytes the dump of a function has. It takes no memory.
 pub fn saved_len(function: &Func) -> u64
     ensures { result ≡ length (dump_of function.now) }
@@ -123,5 +145,6 @@ pub fn saved_len(function: &Func) -> u64
         Func::Chm(chm) => chm_len(chm),
         Func::Bdz(bdz) => bdz_len(bdz),
         Func::BdzPh(bdz_ph) => bdz_ph_len(bdz_ph),
+        Func::Brz(brz) => brz_len(brz),
     }
 }

@@ -42,8 +42,9 @@ func_by Brz b keys c seed = func.Bdz (bdz_under keys c seed b)
 abbrev pub first_graph : BuildJob → List (ℕ × List ℕ) → List (List ℕ)
 first_graph job keys = graph_of (rule_by job.algorithm) keys job.c (first_tried job)
 
--- how many keys and cells a function has, and its seed
+-- how many keys and cells a function has, or for BRZ keys and buckets, and its seed, for BRZ that of the split
 abbrev pub summary_of : Func → Summary
 summary_of (func.Chm f) = record { keys = f.keys; cells = length f.cells; seed = f.seed }
 summary_of (func.Bdz f) = record { keys = f.keys; cells = length f.cells; seed = f.seed }
 summary_of (func.BdzPh f) = record { keys = f.keys; cells = length f.cells; seed = f.seed }
+summary_of (func.Brz f) = record { keys = f.keys; cells = length f.buckets; seed = f.split }

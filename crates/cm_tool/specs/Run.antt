@@ -1,6 +1,7 @@
 -- What the top call promises, in words over the command line and the files.
 use Rattle.std.specs.Prelude.{◌≡◌, ◌⊎◌, ℕ, List, [], ◌∷◌, ◌++◌, length, take, Option, Some, Ok, Err, true}
 use Rattle.cm_bdz.specs.Functions.{bdz_answer, bdz_ph_answer}
+use Rattle.cm_buckets.specs.Functions.{brz_answer}
 use Rattle.cm_bdz.specs.Numbering.{AnswersApart}
 use Rattle.cm_chm.specs.Numbering.{AnswersNumbers}
 use Rattle.cm_dump.specs.Dumps.{dump_of}
@@ -86,12 +87,13 @@ pub record Reaches (found : Option Outcome) (status : ℕ) (out_old out_new err_
 abbrev pub TookFirst : Files → BuildJob → Type 0
 TookFirst files job = (bytes : List ℕ) × (place : ℕ) × (seed : ℕ) × (file_at files job.keys ≡ Some bytes) × IsFirst (rule_by job.algorithm) (keys_in job.first bytes).keys job.c (seeds_tried job) place seed
 
--- what the answers of a function to the keys that it was built over are: by CHM the keys' own numbers, by BDZ all numbers below
--- that of the keys, by BDZ_PH distinct numbers below that of the cells
+-- what the answers of a function to the keys that it was built over are: by CHM the keys' own numbers, by BDZ and BRZ all numbers
+-- below that of the keys, by BDZ_PH distinct numbers below that of the cells
 abbrev pub AnswersOf : List (ℕ × List ℕ) → Func → Type 0
 AnswersOf keys (func.Chm f) = AnswersNumbers keys f
 AnswersOf keys (func.Bdz f) = AnswersApart keys (bdz_answer f) (length keys)
 AnswersOf keys (func.BdzPh f) = AnswersApart keys (λ key. Some (bdz_ph_answer f key)) (length f.cells)
+AnswersOf keys (func.Brz f) = AnswersApart keys (brz_answer f) (length keys)
 
 -- the function is one of the algorithm
 abbrev pub IsBy : Algorithm → Func → Type 0

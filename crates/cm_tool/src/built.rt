@@ -5,7 +5,7 @@ ghost use Rattle.cm_tool.specs.Jobs.{summary_of};
 use cm_bits::Cells;
 use cm_dump::Func;
 
-/// How many keys and cells a function has, and its seed.
+/// How many keys and cells a function has, or for BRZ keys and buckets, and its seed.
 #[derive(Clone, Copy, Debug, PartialEq, Eq)]
 pub(crate) struct Summary {
     pub keys: u32,
@@ -32,6 +32,11 @@ pub(crate) fn sum_up(function: &Func) -> Summary
             keys: f.keys(),
             cells: f.cells().len(),
             seed: f.seed(),
+        },
+        Func::Brz(f) => Summary {
+            keys: f.keys(),
+            cells: f.buckets(),
+            seed: f.split(),
         },
     }
 }

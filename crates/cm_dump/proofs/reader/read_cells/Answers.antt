@@ -10,4 +10,4 @@ pub returns-in-Ok-from_bytes-clause-exact : goal.returns-in-Ok-from_bytes-clause
 returns-in-Ok-from_bytes-clause-exact g c = λ x is.
     let made = c.in-Ok-from_bytes.ensures in
     let whole = rw c.image_len-len.ensures at (c.in-Ok.ensures.exact x is) in
-    image_read x 24 _ _ _ c.in-Ok.bytes.items whole (made.sound refl) ∙ ap Ok made.image
+    image_read x c.args.at _ _ _ c.in-Ok.bytes.items whole (made.sound refl) ∙ ap Ok made.image

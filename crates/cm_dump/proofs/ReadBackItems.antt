@@ -1,0 +1,340 @@
+-- The items of bytes that spell a function.
+use Rattle.std.proofs.Common.{◌≡◌, ◌∙◌, ℕ, ◌+◌, ◌*◌, ◌/◌, ◌%◌, ◌<◌, ◌≤◌, ◌^◌, ◌&&◌, ◌⊎◌, suc, List, [], ◌∷◌, ◌++◌, append_assoc, length, get_or, take, drop, ap, sym, subst, arith, refl, length-take, length-drop, nat_lt, nat_le, Bool, true, false, if◌then◌else◌, Option, Some, None, Result, Ok, Err, w32, inl, inr, append-nil, lit<}
+use Rattle.std.specs.Prelude.{nat_eq, slice_index}
+use Rattle.std.specs.Int.{to_le_bytes, from_le_bytes}
+use Rattle.std.specs.List.{flat_map, position_or_len}
+use Rattle.std.specs.Cmp.Lexicographic.{bytes_decides, pointwise}
+use Rattle.std.proofs.Math.ListN.{drop_of_length-le}
+use Rattle.std.proofs.Math.Nat.{lt-div-mul-add}
+use Rattle.std.proofs.lemmas.Bool.{cases_eq, cases_lt, leb-true, leb-false, ne_eqb}
+use Rattle.std.proofs.lemmas.List.{drop-drop, take-append-drop, get_or-take, get_or-drop, get_or_past, ext_get_or}
+use Rattle.std.proofs.lemmas.List.FromFn.{length-map-range_with_len, get_or-map-range_with_len}
+use Rattle.std.proofs.lemmas.List.Sums.{fails_before_first}
+use Rattle.std.proofs.lemmas.Nat.{le_bytes_4, pow_pos}
+use Rattle.cm_bits.specs.Bound.{AllBelow}
+use Rattle.cm_bits.specs.DigitsLaws.{pow_pow, digits_sum-same, digits_sum-digits, digit-digits_sum}
+use Rattle.cm_bits.specs.Fault.{bytes_number, field_cells, fields_fault, packed_fault}
+use Rattle.cm_bits.specs.FieldsLaws.{length-field_cells, field_cells-at}
+use Rattle.cm_bits.specs.Held.{packed_cells}
+use Rattle.cm_bits.specs.PackedLaws.{AllBelow-packed_cells, length-packed_cells, IsPacked-sound, image-list}
+use Rattle.cm_bits.specs.declared.fault.ImageFault.{ImageFault}
+use Rattle.cm_outer.specs.declared.key_pass.TheConstants.{MAX_KEYS}
+use Rattle.cm_spec.specs.Dump.{magic, header, fields_image}
+use Rattle.cm_spec.specs.Image.{digits_sum, width_of, fields_len, fields_byte, fields_number, packed_byte, packed_len}
+use Rattle.cm_spec.specs.Lists.{list_of}
+use Rattle.cm_dump.specs.declared.fault.LoadFault.{LoadFault}
+use Rattle.cm_dump.specs.declared.fault.LoadFault.TheVariants as faults
+use Rattle.cm_dump.specs.declared.front.Algorithm.{Algorithm}
+use Rattle.cm_dump.specs.declared.front.Algorithm.TheVariants as algorithm
+use Rattle.cm_dump.specs.declared.front.Header.{Header}
+use Rattle.cm_dump.specs.declared.front.Kind.{Kind}
+use Rattle.cm_dump.specs.declared.writer.Func.{Func}
+use Rattle.cm_dump.specs.Dumps.{packed_image, ranks_image, dump_of}
+use Rattle.cm_dump.specs.Functions.{IsFunction}
+use Rattle.cm_dump.specs.Headings.{IsParameter, magic_at, algorithm_of, algorithm_at, least_b, most_b, kind_at, heading_at}
+use Rattle.cm_dump.specs.Reading.{item_at, byte_at, number_at, end_at}
+use Rattle.cm_dump.specs.Spelling.{unless_bad, image_at, ranks_at}
+use Rattle.cm_dump.proofs.ChunkLemmas.{whole_or, ge_of}
+use Rattle.cm_dump.proofs.StepLemmas.{if_next, if_ok, ok_err, ok_same, step}
+
+pub both_of : (s t : Bool) → (s && t) ≡ true → (s ≡ true) × (t ≡ true)
+both_of true t is = (refl, is)
+both_of false t is = absurd (grind (arith, is))
+
+-- ---- items
+
+-- each number of a list is a byte's
+abbrev pub Small : List ℕ → Type 0
+Small xs = (k : ℕ) → get_or xs k 0 < 256
+
+pub small_bytes : (xs : List ℕ) → AllBelow 256 xs → Small xs
+small_bytes xs below k = elim (cases_lt k (length xs)) [
+  | inl l ↦ below k l
+  | inr past ↦ rw (get_or_past xs k 0 past) (lit< tt)
+]
+
+-- the item stands there
+pub record Stands (bytes : List ℕ) (at n : ℕ) (xs : List ℕ) : Type 0 where
+  pub long : length xs ≡ n
+  pub inside : at + n ≤ length bytes
+  pub cut : drop at bytes ≡ xs ++ drop (at + n) bytes
+  pub same : xs ≡ take n (drop at bytes)
+
+pub stands : (bytes : List ℕ) (at n : ℕ) (xs : List ℕ) → item_at bytes at n ≡ Ok xs → Stands bytes at n xs
+unfolding item_at
+stands bytes at n xs is =
+    let parts = whole_or (nat_lt (length bytes) (at + n)) _ (take n (drop at bytes)) xs is in
+    let inside : at + n ≤ length bytes = ge_of (length bytes) (at + n) parts.0 in
+    let long : length (take n (drop at bytes)) ≡ n = omega (arith, length-take n (drop at bytes), length-drop at bytes, inside) in
+    record {
+      long = ap length (sym parts.1) ∙ long;
+      inside = inside;
+      cut = sym (take-append-drop n (drop at bytes)) ∙ ap (λ (l : List ℕ). take n (drop at bytes) ++ l) (drop-drop n at bytes) ∙ ap (λ (l : List ℕ). l ++ drop (at + n) bytes) parts.1;
+      same = sym parts.1;
+    }
+
+pub small_item : (bytes : List ℕ) (at n : ℕ) (xs : List ℕ) → Small bytes → Stands bytes at n xs → Small xs
+small_item bytes at n xs small there k = elim (cases_lt k n) [
+  | inl l ↦ rw there.same (rw (get_or-take n (drop at bytes) k 0 l, get_or-drop at bytes k 0) (small (at + k)))
+  | inr past ↦ rw (get_or_past xs k 0 (omega (arith, there.long, past))) (lit< tt)
+]
+
+pub one_of : (xs : List ℕ) (b : ℕ) → length xs ≡ 1 → slice_index xs 0 ≡ b → xs ≡ b ∷ []
+one_of [] b long is = absurd (omega (arith, long))
+one_of (x ∷ []) b long is = ap (λ (y : ℕ). y ∷ []) is
+one_of (x ∷ y ∷ ys) b long is = absurd (omega (arith, long))
+
+pub magic_read : (bytes : List ℕ) (x : Unit {0}) → magic_at bytes ≡ Ok x → Stands bytes 0 8 magic
+unfolding magic_at
+magic_read bytes x is =
+    let s = step (item_at bytes 0 8) _ x is in
+    let same : s.value ≡ magic = (bytes_decides s.value magic).0 (if_ok _ _ _ _ s.next).0 in
+    subst (λ (xs : List ℕ). Stands bytes 0 8 xs) same (stands bytes 0 8 s.value s.was)
+
+-- the number of an algorithm
+abbrev pub number_of : Algorithm → ℕ
+number_of algorithm.Chm = 1
+number_of algorithm.Bdz = 2
+number_of algorithm.BdzPh = 3
+number_of algorithm.Brz = 4
+
+pub which_read : (n : ℕ) (a : Algorithm) → algorithm_of n ≡ Ok a → n ≡ number_of a
+which_read n a is = go (cases_eq n 1) (cases_eq n 2) (cases_eq n 3) (cases_eq n 4) where
+  go : (n ≡ 1) ⊎ (n ≡ 1 → ⊥) → (n ≡ 2) ⊎ (n ≡ 2 → ⊥) → (n ≡ 3) ⊎ (n ≡ 3 → ⊥) → (n ≡ 4) ⊎ (n ≡ 4 → ⊥) → n ≡ number_of a
+  go (inl one) u v w = let e : algorithm_of 1 ≡ Ok a = rw one at is in one ∙ ap number_of (ok_same e)
+  go (inr u) (inl two) v w = let e : algorithm_of 2 ≡ Ok a = rw two at is in two ∙ ap number_of (ok_same e)
+  go (inr u) (inr v) (inl three) w = let e : algorithm_of 3 ≡ Ok a = rw three at is in three ∙ ap number_of (ok_same e)
+  go (inr u) (inr v) (inr w) (inl four) = let e : algorithm_of 4 ≡ Ok a = rw four at is in four ∙ ap number_of (ok_same e)
+  go (inr one) (inr two) (inr three) (inr four) = absurd (ok_err a faults.BadAlgorithm (sym is ∙ rw (ne_eqb n 1 one, ne_eqb n 2 two, ne_eqb n 3 three, ne_eqb n 4 four) refl))
+
+pub algorithm_read : (bytes : List ℕ) (a : Algorithm) → algorithm_at bytes ≡ Ok a → Stands bytes 8 1 (number_of a ∷ [])
+unfolding algorithm_at
+algorithm_read bytes a is =
+    let s = step (item_at bytes 8 1) _ a is in
+    let there = stands bytes 8 1 s.value s.was in
+    subst (λ (xs : List ℕ). Stands bytes 8 1 xs) (one_of s.value (number_of a) there.long (which_read (slice_index s.value 0) a s.next)) there
+
+pub record ReadsByte (bytes : List ℕ) (at low high b : ℕ) : Type 0 where
+  pub there : Stands bytes at 1 (b ∷ [])
+  pub above : low ≤ b
+  pub below : b ≤ high
+
+pub byte_read : (bytes : List ℕ) (at low high b : ℕ) → byte_at bytes at low high ≡ Ok b → ReadsByte bytes at low high b
+unfolding byte_at
+byte_read bytes at low high b is =
+    let s = step (item_at bytes at 1) _ b is in
+    let there = stands bytes at 1 s.value s.was in
+    let item = slice_index s.value 0 in
+    let test = if_ok (nat_le low item && nat_le item high) _ item b s.next in
+    let range = both_of (nat_le low item) (nat_le item high) test.0 in
+    record {
+      there = subst (λ (xs : List ℕ). Stands bytes at 1 xs) (one_of s.value b there.long test.1) there;
+      above = omega (arith, leb-true low item range.0, test.1);
+      below = omega (arith, leb-true item high range.1, test.1);
+    }
+
+pub record ReadsNumber (bytes : List ℕ) (at low high x : ℕ) : Type 0 where
+  pub there : Stands bytes at 4 (to_le_bytes w32 x)
+  pub above : low ≤ x
+  pub below : x ≤ high
+
+pub number_read : (bytes : List ℕ) (at low high x : ℕ) → Small bytes → number_at bytes at low high ≡ Ok x → ReadsNumber bytes at low high x
+unfolding number_at
+number_read bytes at low high x small is =
+    let s = step (item_at bytes at 4) _ x is in
+    let there = stands bytes at 4 s.value s.was in
+    let item = from_le_bytes w32 s.value in
+    let test = if_ok (nat_le low item && nat_le item high) _ item x s.next in
+    let range = both_of (nat_le low item) (nat_le item high) test.0 in
+    let same : to_le_bytes w32 x ≡ s.value = le_bytes_4 s.value x there.long (small_item bytes at 4 s.value small there) (sym test.1) in
+    record {
+      there = subst (λ (xs : List ℕ). Stands bytes at 4 xs) (sym same) there;
+      above = subst (λ (y : ℕ). low ≤ y) test.1 (leb-true low item range.0);
+      below = subst (λ (y : ℕ). y ≤ high) test.1 (leb-true item high range.1);
+    }
+
+-- ---- the header
+
+pub record ReadsHeader (bytes : List ℕ) (h : Header) : Type 0 where
+  pub parameter : IsParameter h.algorithm h.b
+  pub keys : (1 ≤ h.keys) × (h.keys ≤ MAX_KEYS)
+  pub ratio : (1000000 ≤ h.ratio) × (h.ratio ≤ 10000000)
+  pub seed : h.seed < 2 ^ 32
+  pub front : bytes ≡ header (number_of h.algorithm) h.b h.keys h.ratio h.seed ++ drop 24 bytes
+
+pub front_is : (bytes : List ℕ) (number b keys ratio seed : ℕ) → Stands bytes 0 8 magic → Stands bytes 8 1 (number ∷ []) → Stands bytes 9 1 (b ∷ []) → Stands bytes 10 1 (0 ∷ []) → Stands bytes 11 1 (0 ∷ [])
+    → Stands bytes 12 4 (to_le_bytes w32 keys) → Stands bytes 16 4 (to_le_bytes w32 ratio) → Stands bytes 20 4 (to_le_bytes w32 seed) → bytes ≡ header number b keys ratio seed ++ drop 24 bytes
+unfolding header
+front_is bytes number b keys ratio seed begun which parameter first second k r s =
+    let last : drop 16 bytes ≡ to_le_bytes w32 ratio ++ (to_le_bytes w32 seed ++ drop 24 bytes) = r.cut ∙ ap (λ (l : List ℕ). to_le_bytes w32 ratio ++ l) s.cut in
+    let numbers : drop 12 bytes ≡ to_le_bytes w32 keys ++ (to_le_bytes w32 ratio ++ (to_le_bytes w32 seed ++ drop 24 bytes)) = k.cut ∙ ap (λ (l : List ℕ). to_le_bytes w32 keys ++ l) last in
+    let zeros : drop 9 bytes ≡ b ∷ 0 ∷ 0 ∷ drop 12 bytes = parameter.cut ∙ ap (λ (l : List ℕ). b ∷ l) (first.cut ∙ ap (λ (l : List ℕ). 0 ∷ l) second.cut) in
+    let all : bytes ≡ magic ++ (number ∷ drop 9 bytes) = begun.cut ∙ ap (λ (l : List ℕ). magic ++ l) which.cut in
+    all ∙ ap (λ (l : List ℕ). magic ++ (number ∷ l)) (zeros ∙ ap (λ (l : List ℕ). b ∷ 0 ∷ 0 ∷ l) numbers)
+
+pub record ReadsKind (bytes : List ℕ) (k : Kind) : Type 0 where
+  pub begun : Stands bytes 0 8 magic
+  pub number : Stands bytes 8 1 (number_of k.algorithm ∷ [])
+  pub b : ReadsByte bytes 9 (least_b k.algorithm) (most_b k.algorithm) k.b
+  pub first : Stands bytes 10 1 (0 ∷ [])
+  pub second : Stands bytes 11 1 (0 ∷ [])
+
+pub zero_read : (bytes : List ℕ) (at b : ℕ) → byte_at bytes at 0 0 ≡ Ok b → Stands bytes at 1 (0 ∷ [])
+zero_read bytes at b is =
+    let r = byte_read bytes at 0 0 b is in
+    let none : b ≡ 0 = omega (arith, r.below) in
+    subst (λ (x : ℕ). Stands bytes at 1 (x ∷ [])) none r.there
+
+pub kind_read : (bytes : List ℕ) (k : Kind) → kind_at bytes ≡ Ok k → ReadsKind bytes k
+unfolding kind_at
+kind_read bytes k is =
+    let begun = step (magic_at bytes) _ k is in
+    let a = step (algorithm_at bytes) _ k begun.next in
+    let b = step (byte_at bytes 9 (least_b a.value) (most_b a.value)) _ k a.next in
+    let first = step (byte_at bytes 10 0 0) _ k b.next in
+    let second = step (byte_at bytes 11 0 0) _ k first.next in
+    let made : ReadsKind bytes (record { algorithm = a.value; b = b.value }) = record {
+      begun = magic_read bytes begun.value begun.was;
+      number = algorithm_read bytes a.value a.was;
+      b = byte_read bytes 9 (least_b a.value) (most_b a.value) b.value b.was;
+      first = zero_read bytes 10 first.value first.was;
+      second = zero_read bytes 11 second.value second.was;
+    } in
+    subst (λ (x : Kind). ReadsKind bytes x) (ok_same second.next) made
+
+pub heading_read : (bytes : List ℕ) (h : Header) → Small bytes → heading_at bytes ≡ Ok h → ReadsHeader bytes h
+unfolding heading_at
+heading_read bytes h small is =
+    let k = step (kind_at bytes) _ h is in
+    let a = step (number_at bytes 12 1 MAX_KEYS) _ h k.next in
+    let b = step (number_at bytes 16 1000000 10000000) _ h a.next in
+    let c = step (number_at bytes 20 0 4294967295) _ h b.next in
+    let kind = kind_read bytes k.value k.was in
+    let keys = number_read bytes 12 1 MAX_KEYS a.value small a.was in
+    let ratio = number_read bytes 16 1000000 10000000 b.value small b.was in
+    let seed = number_read bytes 20 0 4294967295 c.value small c.was in
+    let made : ReadsHeader bytes (record { algorithm = k.value.algorithm; b = k.value.b; keys = a.value; ratio = b.value; seed = c.value }) = record {
+      parameter = (kind.b.above, kind.b.below);
+      keys = (keys.above, keys.below);
+      ratio = (ratio.above, ratio.below);
+      seed = omega (arith, seed.below);
+      front = front_is bytes (number_of k.value.algorithm) k.value.b a.value b.value c.value kind.begun kind.number kind.b.there kind.first kind.second keys.there ratio.there seed.there;
+    } in
+    subst (λ (x : Header). ReadsHeader bytes x) (ok_same c.next) made
+
+-- ---- the cells
+
+pub none_or : (t u : Bool) (x y : ImageFault) → (if t then Some x else if u then Some y else None) ≡ None → (t ≡ false) × (u ≡ false)
+none_or true u x y is = absurd (grind (arith, is))
+none_or false true x y is = absurd (grind (arith, is))
+none_or false false x y is = (refl, refl)
+
+pub below_power : (x d : ℕ) → 0 < d → x / d ≡ 0 → x < d
+below_power x d some none =
+    let whole = lt-div-mul-add {a = x} {b = d} some in
+    let least = rw none at whole in
+    omega (arith, least)
+
+pub power_some : (w n : ℕ) → 0 < (2 ^ w) ^ n
+power_some w n =
+    let e : (2 ^ w) ^ n ≡ 2 ^ (w * n) = sym (pow_pow 2 w n) in
+    rw e (pow_pos (w * n))
+
+pub digit_of_bytes : (bytes : List ℕ) (q : ℕ) → Small bytes → q < length bytes → bytes_number bytes / 256 ^ q % 256 ≡ slice_index bytes q
+unfolding bytes_number
+digit_of_bytes bytes q small l = digit-digits_sum 256 (slice_index bytes) (length bytes) q (lit< tt) (λ i m. small i) l
+
+-- cells without a fault are below the bound, and the bytes are their image
+pub record IsImage (m n : ℕ) (bytes cells : List ℕ) : Type 0 where
+  pub long : length cells ≡ n
+  pub below : AllBelow m cells
+  pub image : fields_image m cells ≡ bytes
+
+pub fields_read : (m n : ℕ) (bytes : List ℕ) → Small bytes → length bytes ≡ fields_len (width_of m) n → fields_fault (width_of m) n m bytes ≡ None → IsImage m n bytes (field_cells (width_of m) n (bytes_number bytes))
+unfolding fields_fault fields_image fields_byte fields_number
+fields_read m n bytes small whole none =
+    let w : ℕ = width_of m in
+    let number : ℕ = bytes_number bytes in
+    let cells : List ℕ = field_cells w n number in
+    let long : length cells ≡ n = length-field_cells w n number in
+    let parts = none_or _ _ _ _ none in
+    let first : n ≤ position_or_len (λ c. nat_le m c) cells = ge_of _ _ parts.0 in
+    let clear : number < (2 ^ w) ^ n = below_power number ((2 ^ w) ^ n) (power_some w n) (omega (arith, ge_of _ _ parts.1)) in
+    let same : fields_number w cells ≡ number =
+    ap (digits_sum (2 ^ w) (slice_index cells)) long
+    ∙ digits_sum-same (2 ^ w) _ (λ i. number / (2 ^ w) ^ i % 2 ^ w) n (λ i l. field_cells-at w n number i l)
+    ∙ digits_sum-digits (2 ^ w) n number (pow_pos w) clear in
+    let room : fields_len w (length cells) ≡ fields_len w n = ap (fields_len w) long in
+    record {
+      long = long;
+      below = λ k l. leb-false m _ (fails_before_first (λ c. nat_le m c) cells k 0 (omega (arith, l, first, long)));
+      image = ext_get_or 0 _ bytes (length-map-range_with_len _ 0 _ ∙ room ∙ sym whole) (λ q l.
+          let here : q < fields_len w (length cells) = omega (arith, l, length-map-range_with_len (fields_byte w cells) 0 (fields_len w (length cells))) in
+          get_or-map-range_with_len (fields_byte w cells) 0 (fields_len w (length cells)) q q 0 here (omega arith)
+          ∙ ap (λ (x : ℕ). x / 256 ^ q % 256) same
+          ∙ digit_of_bytes bytes q small (omega (arith, here, room, whole)));
+    }
+
+pub unless_ok : (at : ℕ) (place : ℕ → ℕ) (o : Option ImageFault) (xs ys : List ℕ) → unless_bad at place o xs ≡ Ok ys → (o ≡ None) × (xs ≡ ys)
+unless_ok at place None xs ys is = (refl, ok_same is)
+unless_ok at place (Some f) xs ys is = absurd (ok_err ys _ (sym is))
+
+pub record ReadsImage (bytes : List ℕ) (at size : ℕ) (fault : List ℕ → Option ImageFault) (item : List ℕ) : Type 0 where
+  pub there : Stands bytes at size item
+  pub none : fault item ≡ None
+
+pub image_back : (bytes : List ℕ) (at size : ℕ) (place : ℕ → ℕ) (fault : List ℕ → Option ImageFault) (item : List ℕ) → image_at bytes at size place fault ≡ Ok item → ReadsImage bytes at size fault item
+unfolding image_at
+image_back bytes at size place fault item is =
+    let s = step (item_at bytes at size) _ item is in
+    let parts = unless_ok at place (fault s.value) s.value item s.next in
+    let made : ReadsImage bytes at size fault s.value = record { there = stands bytes at size s.value s.was; none = parts.0 } in
+    subst (λ (xs : List ℕ). ReadsImage bytes at size fault xs) parts.1 made
+
+-- the same of cells that are digits
+pub record IsPackedImage (d p n : ℕ) (bytes cells : List ℕ) : Type 0 where
+  pub long : length cells ≡ n
+  pub below : AllBelow d cells
+  pub image : packed_image d p cells ≡ bytes
+
+pub packed_read : (d p n : ℕ) (bytes : List ℕ) → 0 < d → 0 < p → length bytes ≡ packed_len p n → packed_fault d p n bytes ≡ None → IsPackedImage d p n bytes (packed_cells d p n bytes)
+unfolding packed_image
+packed_read d p n bytes some many whole none =
+    let long : length (packed_cells d p n bytes) ≡ n = length-packed_cells d p n bytes in
+    record {
+      long = long;
+      below = AllBelow-packed_cells d p n bytes some;
+      image = ap (λ (k : ℕ). list_of (packed_byte d p (packed_cells d p n bytes)) (packed_len p k)) long ∙ sym (image-list d p n bytes (IsPacked-sound d p n bytes some many whole none));
+    }
+
+-- ---- ranks
+
+pub ranks_back : (bytes : List ℕ) (at : ℕ) (ranks : List ℕ) (x : Unit {0}) → ranks_at bytes at ranks ≡ Ok x → drop at bytes ≡ ranks_image ranks ++ drop (at + 4 * length ranks) bytes
+unfolding ranks_at ranks_image
+ranks_back bytes at [] x is = let z : at + 4 * 0 ≡ at = omega arith in rw z refl
+ranks_back bytes at (r ∷ rs) x is =
+    let s = step (item_at bytes at 4) _ x is in
+    let there = stands bytes at 4 s.value s.was in
+    let test = if_next (pointwise nat_eq s.value (to_le_bytes w32 r)) _ _ x s.next in
+    let same : s.value ≡ to_le_bytes w32 r = (bytes_decides s.value (to_le_bytes w32 r)).0 test.0 in
+    let next : at + 4 + 4 * length rs ≡ at + 4 * suc (length rs) = omega arith in
+    let rest = rw next at (ranks_back bytes (at + 4) rs x test.1) in
+    there.cut ∙ ap (λ (l : List ℕ). l ++ drop (at + 4) bytes) same ∙ ap (λ (l : List ℕ). to_le_bytes w32 r ++ l) rest
+    ∙ sym (append_assoc (to_le_bytes w32 r) (flat_map (to_le_bytes w32) rs) (drop (at + 4 * suc (length rs)) bytes))
+
+-- ---- the end
+
+pub end_read : (bytes : List ℕ) (at : ℕ) (x : Unit {0}) → end_at bytes at ≡ Ok x → length bytes ≤ at
+unfolding end_at
+end_read bytes at x is = ge_of at (length bytes) (trailing_or (nat_lt at (length bytes)) x is) where
+  trailing_or : (t : Bool) (x : Unit {0}) → (if t then (let r : Result (Unit {0}) LoadFault = Err faults.Trailing in r) else Ok tt) ≡ Ok x → t ≡ false
+  trailing_or true x is = absurd (ok_err x faults.Trailing (sym is))
+  trailing_or false x is = refl
+
+-- the bytes after an offset, where they end with what stands there
+pub last_item : (bytes : List ℕ) (at n : ℕ) (xs : List ℕ) → drop at bytes ≡ xs ++ drop n bytes → length bytes ≤ n → drop at bytes ≡ xs
+last_item bytes at n xs cut ended = cut ∙ ap (λ (l : List ℕ). xs ++ l) (drop_of_length-le bytes ended) ∙ append-nil xs
+
+pub record ReadsFunction (bytes : List ℕ) (f : Func) : Type 0 where
+  pub dump : dump_of f ≡ bytes
+  pub valid : IsFunction f

@@ -1,0 +1,73 @@
+-- A function's buckets, one after another.
+use Rattle.std.proofs.Common.{◌≡◌, ◌∙◌, ℕ, suc, ◌+◌, ◌-◌, ◌≤◌, length, ap, sym, subst, arith, refl, inl, inr, count_by, nat_lt, List, [], ◌∷◌, length-append, lit<, eq-eqb, true, false, Ok, Err}
+use Rattle.std.proofs.lemmas.Bool.{false≢true, ne_eqb}
+use Rattle.std.proofs.Math.Nat.{div-le_self}
+use Rattle.cm_buckets.specs.Functions.{Brz, Bucket, bucket_count, keys_in}
+use Rattle.cm_buckets.specs.Pushing.{Miscounts, with_bucket}
+use Rattle.cm_spec.specs.Cells.{is_busy}
+use Rattle.cm_dump.specs.declared.fault.LoadFault.{LoadFault}
+use Rattle.cm_dump.specs.Reading.{Fails, end_at}
+use Rattle.cm_dump.specs.Spelling.{bucket_at, bucket_len, crumbs_at, is_off, left_of, packed_at, rest_at}
+use Rattle.cm_dump.proofs.CellLemmas.{packed_of_image}
+use Rattle.cm_dump.specs.declared.fault.LoadFault.TheVariants as faults
+use Rattle.cm_bits.specs.Bound.{AllBelow}
+use Rattle.cm_spec.specs.Image.{packed_byte, packed_len}
+use Rattle.cm_spec.specs.Lists.{list_of}
+use Rattle.cm_dump.proofs.ItemLemmas.{ltb_no, ltb_yes}
+use Rattle.cm_dump.proofs.StepLemmas.{fails_then}
+
+-- a bucket that was read
+pub rest_step : (bytes : List ℕ) (at left k : ℕ) (f : Brz) (b : Bucket) → k ≡ suc left → bucket_at bytes at f left ≡ Ok b → rest_at bytes at k f ≡ rest_at bytes (at + bucket_len b) left (with_bucket f b)
+unfolding rest_at
+rest_step bytes at left k f b more read = rw (more, read) refl
+
+-- one that has a fault
+pub rest_fault : (bytes : List ℕ) (at left k : ℕ) (f : Brz) (e : LoadFault) → k ≡ suc left → Fails e (bucket_at bytes at f left) → Fails e (rest_at bytes at k f)
+unfolding rest_at
+rest_fault bytes at left k f e more fails = rw more (fails_then e _ _ fails)
+
+-- a bucket that fits is the function's next one
+pub never_miscounts : (f : Brz) (b : Bucket) (left : ℕ) → count_by (is_busy 3) b.cells ≡ b.size → is_off f.keys (keys_in f.buckets + b.size) left ≡ false → left + 1 + length f.buckets ≡ bucket_count f.keys f.width → Miscounts f b → ⊥
+never_miscounts f b left busy fits many (inl other) = other busy
+never_miscounts f b left busy fits many (inr (inl more)) =
+    let test : nat_lt f.keys (keys_in f.buckets + b.size) ≡ true = ltb_yes f.keys (keys_in f.buckets + b.size) more in
+    false≢true (sym (rw test at fits))
+never_miscounts f b left busy fits many (inr (inr last)) =
+    let held : ℕ = keys_in f.buckets + b.size in
+    let none : left ≡ 0 = omega (arith, many, last.0) in
+    let test : nat_lt f.keys held ≡ false = ltb_no f.keys held (omega (arith, last.1)) in
+    let fewer : nat_lt held f.keys ≡ true = ltb_yes held f.keys last.1 in
+    let off = subst (λ (k : ℕ). is_off f.keys held k ≡ false) none fits in
+    false≢true (sym (rw (test, fewer) at off))
+
+-- there are not many buckets
+pub few_buckets : (m b : ℕ) → m ≤ 16777216 → b ≤ 255 → bucket_count m b ≤ 16777471
+few_buckets m b few wide = omega (arith, div-le_self (m + (b - 1)) b, few, wide)
+
+-- no bucket is to come
+pub rest_ended : (bytes : List ℕ) (at k : ℕ) (u : Unit {0}) (f : Brz) → k ≡ 0 → end_at bytes at ≡ Ok u → rest_at bytes at k f ≡ Ok f
+unfolding rest_at
+rest_ended bytes at k u f none ended = rw (none, ended) refl
+
+pub rest_trails : (bytes : List ℕ) (at k : ℕ) (f : Brz) (e : LoadFault) → k ≡ 0 → Fails e (end_at bytes at) → Fails e (rest_at bytes at k f)
+unfolding rest_at
+rest_trails bytes at k f e none fails = rw none (fails_then e _ _ fails)
+
+-- a bucket that was read, and is the function's next one
+pub rest_next : (bytes : List ℕ) (at left len : ℕ) (f g : Brz) (b : Bucket) → g ≡ with_bucket f b → left + 1 + length f.buckets ≡ bucket_count f.keys f.width → len ≡ bucket_len b → bucket_at bytes at f left ≡ Ok b → rest_at bytes at (left_of f) f ≡ rest_at bytes (at + len) (left_of g) g
+rest_next bytes at left len f g b is many size read =
+    let moved : left ≡ left_of (with_bucket f b) = omega (arith, many, length-append f.buckets (b ∷ [])) in
+    let more : left_of f ≡ suc left = omega (arith, many) in
+    rest_step bytes at left (left_of f) f b more read
+    ∙ (ap (λ (k : ℕ). rest_at bytes (at + k) left (with_bucket f b)) (sym size)
+    ∙ (ap (λ (k : ℕ). rest_at bytes (at + len) k (with_bucket f b)) moved
+    ∙ ap (λ (h : Brz). rest_at bytes (at + len) (left_of h) h) (sym is)))
+
+-- the cells of an image are those of a bucket, if as many are not 3
+pub crumbs_known : (bytes : List ℕ) (at size n : ℕ) (cells : List ℕ) → length cells ≡ n → AllBelow 4 cells → packed_at bytes at 4 4 n ≡ Ok (list_of (packed_byte 4 4 cells) (packed_len 4 n)) → count_by (is_busy 3) cells ≡ size → crumbs_at bytes at size n ≡ Ok cells
+unfolding crumbs_at
+crumbs_known bytes at size n cells long below there busy = rw (there, packed_of_image 4 4 n cells _ (lit< tt) (lit< tt) long below refl, eq-eqb _ _ busy) refl
+
+pub crumbs_other : (bytes : List ℕ) (at size n : ℕ) (cells : List ℕ) → length cells ≡ n → AllBelow 4 cells → packed_at bytes at 4 4 n ≡ Ok (list_of (packed_byte 4 4 cells) (packed_len 4 n)) → (count_by (is_busy 3) cells ≡ size → ⊥) → crumbs_at bytes at size n ≡ Err (faults.BadCount at)
+unfolding crumbs_at
+crumbs_other bytes at size n cells long below there other = rw (there, packed_of_image 4 4 n cells _ (lit< tt) (lit< tt) long below refl, ne_eqb _ _ other) refl

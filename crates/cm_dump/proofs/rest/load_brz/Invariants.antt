@@ -1,0 +1,25 @@
+use Rattle.std.proofs.Common.{◌≡◌, ◌≤◌, ◌+◌, ◌*◌, length}
+use Rattle.std.specs.Option.{ForSome}
+use Rattle.cm_buckets.specs.Functions.{bucket_count}
+use Rattle.cm_dump.specs.Reading.{IsAt}
+use Rattle.cm_dump.specs.Spelling.{brz_at, left_of, rest_at}
+use Rattle.cm_dump.proofs.rest.load_brz.Given as goal
+
+abbrev pub invariant-buckets : goal.invariant-buckets
+invariant-buckets g l =
+    let told = g.S.Source.told in
+    record {
+      same : told l.source ≡ told l.fn.source;
+      quiet : g.S.Source.faults l.source ≡ g.S.Source.faults l.fn.source;
+      keys : l.parts.keys ≡ l.fn.header.keys;
+      ratio : l.parts.ratio ≡ l.fn.header.ratio;
+      width : l.parts.width ≡ l.fn.header.b;
+      split : l.parts.split ≡ l.fn.header.seed;
+      few : length l.parts.buckets ≤ bucket_count l.fn.header.keys l.fn.header.b;
+      near : l.at ≤ 24 + 268435456 * length l.parts.buckets;
+      at : IsAt (told l.source) (g.S.Source.place l.source) l.at;
+      right : ForSome (told l.source) (λ bytes. brz_at bytes l.fn.header ≡ rest_at bytes l.at (left_of l.parts) l.parts);
+    }
+
+abbrev pub decreases-buckets : goal.decreases-buckets
+decreases-buckets g l = left_of l.parts

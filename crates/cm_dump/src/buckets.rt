@@ -1,0 +1,55 @@
+//! The buckets of a BRZ function, as they are written.
+ghost use Rattle.std.specs.Prelude.{◌≡◌, ◌<◌, ◌^◌, ℕ, List, length, slice_index_or};
+ghost use Rattle.cm_buckets.specs.Functions.{no_bucket};
+ghost use Rattle.cm_outer.specs.Causes.{HasCause};
+ghost use Rattle.cm_outer.specs.Writing.{Writes};
+ghost use Rattle.cm_dump.specs.Dumps.{bucket_image, buckets_image};
+
+use cm_bits::{Cells, Crumbs};
+use cm_buckets::Brz;
+use cm_outer::{Failed, Sink, write_pieces};
+
+/// How many bytes a bucket has before its cells: its number of keys, and its seed.
+pub(crate) const FRONT: u64 = 5;
+
+/// Writes bucket `j`.
+#[tactic(auto, unfolding(crate::specs::Dumps::bucket_image, crate::specs::Dumps::packed_image))]
+fn save_bucket<O: Sink>(brz: &Brz, j: u32, out: &mut O) -> Result<(), Failed>
+    requires inside { j < length brz.now.buckets }
+    ensures bytes { Writes (O.written out.old) (O.written out.new) (bucket_image (slice_index_or brz.now.buckets j no_bucket)) result }
+    ensures cause { HasCause (O.faults out.old) (O.faults out.new) result }
+{
+    write_pieces(
+        out,
+        &[
+            &[brz.size_of(j)],
+            &brz.seed_of(j).to_le_bytes(),
+            brz.cells_of(j).image(),
+        ],
+    )
+}
+
+/// Writes the buckets. Fails exactly where the sink does, which has then taken a prefix of them.
+#[tactic(auto, unfolding(crate::specs::Dumps::buckets_image))]
+pub(crate) fn save_buckets<O: Sink>(brz: &Brz, out: &mut O) -> Result<(), Failed>
+    ensures bytes { Writes (O.written out.old) (O.written out.new) (buckets_image brz.now.buckets) result }
+    ensures cause { HasCause (O.faults out.old) (O.faults out.new) result }
+{
+    for j in 0..brz.buckets() {
+        save_bucket(brz, j, out)?;
+    }
+    Ok(())
+}
+
+/// How many bytes the buckets have.
+#[tactic(auto, unfolding(crate::specs::Dumps::buckets_image))]
+pub(crate) fn buckets_len(brz: &Brz) -> u64
+    ensures len { result ≡ length (buckets_image brz.now.buckets) }
+    ensures few { result < 2 ^ 61 }
+{
+    let mut len = 0;
+    for j in 0..brz.buckets() {
+        len += FRONT + Crumbs::image_len(brz.cells_of(j).len(), 4);
+    }
+    len
+}

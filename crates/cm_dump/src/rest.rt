@@ -1,0 +1,203 @@
+//! The BRZ function of a header, bucket by bucket.
+ghost use Rattle.std.specs.Prelude.{◌≡◌, ◌+◌, ◌*◌, ◌<◌, ◌≤◌, ◌^◌, ◌↔◌, ℕ, List, Option, OnOk, IfOk, IfErr, IsTrue, false, count_by, length};
+ghost use Rattle.std.specs.Option.{ForSome};
+ghost use Rattle.cm_buckets.specs.Functions.{IsBrz, bucket_cells, bucket_count, keys_in};
+ghost use Rattle.cm_buckets.specs.declared.limits.TheConstants.{MIN_WIDTH, MAX_WIDTH};
+ghost use Rattle.cm_outer.specs.declared.key_pass.TheConstants.{MAX_KEYS};
+ghost use Rattle.cm_spec.specs.Bdz.{bdz_size};
+ghost use Rattle.cm_spec.specs.Cells.{is_busy};
+ghost use Rattle.cm_spec.specs.Image.{packed_len};
+ghost use Rattle.cm_spec.specs.Rule.{IsRatio};
+ghost use Rattle.cm_dump.specs.Reading.{Answers, Fails, IsAt, HasLoadCause};
+ghost use Rattle.cm_dump.specs.Spelling.{bucket_at, bucket_len, brz_at, crumbs_at, is_off, left_of, most_seed, rest_at, size_at};
+
+use crate::LoadFault;
+use crate::buckets::FRONT;
+use crate::front::Header;
+use crate::items::{end, item, number};
+use crate::reader::read_cells;
+use cm_bdz::{BdzScheme, PartsFault};
+use cm_bits::{Cells, Crumbs};
+use cm_buckets::{Brz, BrzParts};
+use cm_outer::Source;
+use cm_rank::Counted;
+use cm_scheme::Scheme;
+use std::alloc::Global;
+
+/// A bucket as it is read.
+#[derive(Drop)]
+struct Bucket {
+    size: u8,
+    seed: u32,
+    cells: Crumbs,
+}
+
+/// Whether so many keys in the buckets of a function, of which `left` are to come, are too many, or too few.
+fn is_off(keys: u32, held: u32, left: u32) -> bool
+    ensures { result ≡ is_off keys held left }
+{
+    held > keys || left == 0 && held < keys
+}
+
+/// The number of keys of the next bucket, at this offset, after which `left` are to come.
+#[tactic(auto, unfolding(crate::specs::Spelling::size_at))]
+fn read_size<S: Source>(
+    source: &mut S,
+    at: u64,
+    parts: &BrzParts,
+    left: u32,
+) -> Result<u8, LoadFault>
+    requires room { at < 2 ^ 60 }
+    requires at { IsAt (S.told source.old) (S.place source.old) at }
+    ensures told { S.told source.new ≡ S.told source.old }
+    ensures at { OnOk result (IsAt (S.told source.new) (S.place source.new) (at + 1)) }
+    ensures fits { IfOk result (λ size. is_off parts.now.keys (keys_in parts.now.buckets + size) left ≡ false) }
+    ensures exact { ForSome (S.told source.old) (λ bytes. Answers (λ x. x) result (size_at bytes at parts.now left)) }
+    ensures cause { HasLoadCause (S.faults source.old) (S.faults source.new) result }
+{
+    let mut buf = [0; 1];
+    item(source, at, &mut buf)?;
+    let size = buf[0];
+    if is_off(parts.keys(), parts.held() + size as u32, left) {
+        Err(LoadFault::BadCount { at })
+    } else {
+        Ok(size)
+    }
+}
+
+/// The greatest seed of a bucket of so many keys.
+fn greatest_seed(size: u8) -> u32
+    ensures { result ≡ most_seed size }
+{
+    if size == 0 { 0 } else { u32::MAX }
+}
+
+/// How many cells a bucket of so many keys has.
+fn cells_of(size: u8, c: u32) -> u32
+    requires ratio { IsRatio c }
+    ensures { result ≡ bucket_cells size c }
+{
+    if size == 0 {
+        0
+    } else {
+        BdzScheme {}.size(size as u32, c)
+    }
+}
+
+/// The `n` cells of a bucket at this offset, of which `size` are not 3.
+#[tactic(auto, unfolding(crate::specs::Spelling::crumbs_at), using(crate::proofs::CellLemmas::packed_near))]
+fn read_crumbs<S: Source>(
+    alloc: Global,
+    source: &mut S,
+    at: u64,
+    size: u8,
+    n: u32,
+) -> Result<Crumbs, LoadFault>
+    requires room { at < 2 ^ 60 }
+    requires few { n ≤ 671088645 }
+    requires at { IsAt (S.told source.old) (S.place source.old) at }
+    ensures told { S.told source.new ≡ S.told source.old }
+    ensures at { OnOk result (IsAt (S.told source.new) (S.place source.new) (at + packed_len 4 n)) }
+    ensures size { IfOk result (λ t. length (⟦<Crumbs as Cells>⟧.cells t) ≡ n) }
+    ensures busy { IfOk result (λ t. count_by (is_busy 3) (⟦<Crumbs as Cells>⟧.cells t) ≡ size) }
+    ensures exact { ForSome (S.told source.old) (λ bytes. Answers (λ t. ⟦<Crumbs as Cells>⟧.cells t) result (crumbs_at bytes at size n)) }
+    ensures cause { HasLoadCause (S.faults source.old) (S.faults source.new) result }
+{
+    let cells: Crumbs = match read_cells(alloc, source, at, n, 4) {
+        Ok(cells) => cells,
+        Err(fault) => return Err(fault),
+    };
+    if cells.count_busy(3, 0, n) == size as u32 {
+        Ok(cells)
+    } else {
+        Err(LoadFault::BadCount { at })
+    }
+}
+
+/// The next bucket, at this offset, after which `left` are to come.
+#[tactic(auto, unfolding(crate::specs::Spelling::bucket_at))]
+fn read_bucket<S: Source>(
+    alloc: Global,
+    source: &mut S,
+    at: u64,
+    parts: &BrzParts,
+    left: u32,
+) -> Result<Bucket, LoadFault>
+    requires room { at < 2 ^ 59 }
+    requires at { IsAt (S.told source.old) (S.place source.old) at }
+    ensures told { S.told source.new ≡ S.told source.old }
+    ensures at { IfOk result (λ b. IsAt (S.told source.new) (S.place source.new) (at + (5 + packed_len 4 (length (⟦<Crumbs as Cells>⟧.cells b.cells))))) }
+    ensures size { IfOk result (λ b. length (⟦<Crumbs as Cells>⟧.cells b.cells) ≡ bucket_cells b.size parts.now.ratio) }
+    ensures unseeded { IfOk result (λ b. b.size ≡ 0 → b.seed ≡ 0) }
+    ensures busy { IfOk result (λ b. count_by (is_busy 3) (⟦<Crumbs as Cells>⟧.cells b.cells) ≡ b.size) }
+    ensures fits { IfOk result (λ b. is_off parts.now.keys (keys_in parts.now.buckets + b.size) left ≡ false) }
+    ensures exact { ForSome (S.told source.old) (λ bytes. Answers (λ b. record { size = b.size; seed = b.seed; cells = ⟦<Crumbs as Cells>⟧.cells b.cells }) result (bucket_at bytes at parts.now left)) }
+    ensures cause { HasLoadCause (S.faults source.old) (S.faults source.new) result }
+{
+    let size = read_size(source, at, parts, left)?;
+    let seed = number(source, at + 1, 0, greatest_seed(size))?;
+    let cells = read_crumbs(alloc, source, at + 5, size, cells_of(size, parts.c()))?;
+    Ok(Bucket { size, seed, cells })
+}
+
+/// The BRZ function of a header, whose dump ends with the source.
+#[tactic(auto, unfolding(crate::specs::Spelling::brz_at))]
+pub(crate) fn load_brz<S: Source>(
+    alloc: Global,
+    source: &mut S,
+    header: Header,
+) -> Result<Brz, LoadFault>
+    requires keys { (1 ≤ header.keys) × (header.keys ≤ MAX_KEYS) }
+    requires ratio { IsRatio header.ratio }
+    requires b { (MIN_WIDTH ≤ header.b) × (header.b ≤ MAX_WIDTH) }
+    requires at { IsAt (S.told source.old) (S.place source.old) 24 }
+    ensures told { S.told source.new ≡ S.told source.old }
+    ensures exact { ForSome (S.told source.old) (λ bytes. Answers (λ f. f) result (brz_at bytes header)) }
+    ensures valid { IfOk result (λ f. IsBrz f) }
+    ensures cause { HasLoadCause (S.faults source.old) (S.faults source.new) result }
+{
+    let mut parts = BrzParts::new(alloc, header.keys, header.ratio, header.b, header.seed);
+    let mut at = 24;
+    'buckets: while parts.left() > 0 {
+        match next_bucket(alloc, source, at, &mut parts) {
+            Ok(len) => at += len,
+            Err(fault) => return Err(fault),
+        }
+    }
+    match end(source, at) {
+        Ok(()) => Ok(parts.finish()),
+        Err(fault) => Err(fault),
+    }
+}
+
+/// Reads the next bucket, at this offset, and says how many bytes it has.
+fn next_bucket<S: Source>(
+    alloc: Global,
+    source: &mut S,
+    at: u64,
+    parts: &mut BrzParts,
+) -> Result<u64, LoadFault>
+    requires room { at < 2 ^ 59 }
+    requires some { length parts.old.buckets < bucket_count parts.old.keys parts.old.width }
+    requires at { IsAt (S.told source.old) (S.place source.old) at }
+    ensures told { S.told source.new ≡ S.told source.old }
+    ensures at { IfOk result (λ len. IsAt (S.told source.new) (S.place source.new) (at + len)) }
+    ensures near { IfOk result (λ len. len ≤ 268435456) }
+    ensures one { OnOk result (length parts.new.buckets ≡ length parts.old.buckets + 1) }
+    ensures same { OnOk result (parts.new ≡ record parts.old { buckets = parts.new.buckets }) }
+    ensures right { IfOk result (λ len. ForSome (S.told source.old) (λ bytes. rest_at bytes at (left_of parts.old) parts.old ≡ rest_at bytes (at + len) (left_of parts.new) parts.new)) }
+    ensures fault { IfErr result (λ e. ForSome (S.told source.old) (λ bytes. Fails e (rest_at bytes at (left_of parts.old) parts.old))) }
+    ensures cause { HasLoadCause (S.faults source.old) (S.faults source.new) result }
+{
+    let left = parts.left() - 1;
+    let bucket = match read_bucket(alloc, source, at, parts, left) {
+        Ok(bucket) => bucket,
+        Err(fault) => return Err(fault),
+    };
+    let len = FRONT + Crumbs::image_len(bucket.cells.len(), 4);
+    match parts.push(bucket.size, bucket.seed, bucket.cells) {
+        Ok(()) => Ok(len),
+        Err(PartsFault::Memory) => Err(LoadFault::Memory),
+        Err(PartsFault::BadCount) => unreachable!(),
+    }
+}
