@@ -1,0 +1,11 @@
+mod Coding
+mod Laying
+mod Rising
+mod Sorting
+mod Appending
+mod Pieces
+mod Leaving
+mod Zipping
+mod Storing
+mod Buckets
+mod Giving

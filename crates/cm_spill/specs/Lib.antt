@@ -1,0 +1,6 @@
+pub mod Records
+pub mod Stores
+pub mod StoresLaws
+pub mod Laid
+pub mod Reading
+pub mod Reads

@@ -1,0 +1,14 @@
+-- What is true of every store, and worked rows: 120 is the letter x, 121 is y.
+use Rattle.std.specs.Prelude.{◌≡◌, ◌+◌, ◌++◌, [], ◌∷◌, ℕ, List, length, Some}
+use Rattle.std.specs.List.{sum_by}
+use Rattle.cm_spill.specs.Records.{Record, encoded, size}
+use Rattle.cm_spill.specs.Stores.{Holds, Store, held_by}
+
+-- The bytes of the records put are those of the spill and those that wait.
+abbrev pub HoldsBytes : Type 0
+HoldsBytes = (store : Store) (bytes : List ℕ) (puts : List Record) → store.known ≡ Some bytes → Holds store puts → sum_by size puts ≡ length bytes + held_by store
+
+-- Two records, each with a key of one byte.
+abbrev pub TwoRecords : Type 0
+TwoRecords = encoded (record { bucket = 0; line = 2; key = 121 ∷ [] }) ++ encoded (record { bucket = 1; line = 1; key = 120 ∷ [] })
+    ≡ 0 ∷ 0 ∷ 0 ∷ 0 ∷ 2 ∷ 0 ∷ 0 ∷ 0 ∷ 1 ∷ 0 ∷ 121 ∷ 1 ∷ 0 ∷ 0 ∷ 0 ∷ 1 ∷ 0 ∷ 0 ∷ 0 ∷ 1 ∷ 0 ∷ 120 ∷ []

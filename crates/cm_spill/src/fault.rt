@@ -1,0 +1,48 @@
+ghost use Rattle.std.specs.Prelude.{◌≡◌};
+ghost use Rattle.cm_spill.specs.declared.fault.SpillError.TheVariants.{Memory, Failed as SpillFailed};
+
+use cm_outer::Failed;
+use std::alloc::{AllocError, AllocFailed};
+use thiserror::Error;
+
+/// Why a store can't go on. Offsets are in bytes from 0.
+#[derive(Clone, Copy, Debug, PartialEq, Eq, Error)]
+pub enum SpillError {
+    /// There was too little memory.
+    #[error("out of memory")]
+    Memory,
+    /// The spill failed.
+    #[error("the spill failed")]
+    Failed,
+    /// The record at this offset isn't one that was appended: this number was expected, and that one found.
+    #[error("the spill is damaged at {offset}: {found} in place of {expected}")]
+    Damaged {
+        offset: u64,
+        expected: u64,
+        found: u64,
+    },
+}
+
+impl From<AllocError> for SpillError {
+    ghost from_gives = { λ _ e. e ≡ Memory };
+
+    fn from(_: AllocError) -> Self {
+        SpillError::Memory
+    }
+}
+
+impl<T: Drop> From<AllocFailed<T>> for SpillError {
+    ghost from_gives = { λ _ e. e ≡ Memory };
+
+    fn from(_: AllocFailed<T>) -> Self {
+        SpillError::Memory
+    }
+}
+
+impl From<Failed> for SpillError {
+    ghost from_gives = { λ _ e. e ≡ SpillFailed };
+
+    fn from(_: Failed) -> Self {
+        SpillError::Failed
+    }
+}
