@@ -16,8 +16,9 @@ use cm_outer::{KeyBuf, KeyFault, KeyPass, MAX_KEYS};
 use cm_scheme::{Divisor, Scheme};
 use cm_witness::GatherFault;
 
-/// How many keys there are. The buffer is for its use.
-pub(crate) fn count_all<P: KeyPass>(keys: &mut P, key: &mut KeyBuf) -> Result<u32, KeyFault>
+/// How many keys there are, from 0 to `MAX_KEYS`: the keys are passed once from the start. The buffer is for its use. Fails exactly as
+/// the pass does.
+pub fn count_all<P: KeyPass>(keys: &mut P, key: &mut KeyBuf) -> Result<u32, KeyFault>
     ensures told { P.told keys.new ≡ P.told keys.old }
     ensures cause { HasKeyCause (P.faults keys.old) (P.faults keys.new) result }
     ensures few { IfOk result (λ n. n ≤ 16777216) }

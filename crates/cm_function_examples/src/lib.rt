@@ -4,6 +4,8 @@
 #[cfg(test)]
 mod bdz;
 #[cfg(test)]
+mod brz;
+#[cfg(test)]
 mod certificates;
 #[cfg(test)]
 mod chm;

@@ -70,16 +70,16 @@ impl Firsts {
     }
 }
 
-/// Keys noted so far, and the equal ones among them.
+/// Keys noted so far with their lines, and the equal ones among them. Of equal keys one is kept.
 #[derive(Drop)]
-pub(crate) struct EqualKeys {
+pub struct EqualKeys {
     pub(crate) firsts: Firsts,
     pub(crate) pairs: Vec<Pair>,
 }
 
 impl EqualKeys {
-    /// No keys, with room for so many.
-    pub(crate) fn new(alloc: Global, keys: usize) -> Result<EqualKeys, AllocError>
+    /// No keys, with a table for so many. Fails if out of memory.
+    pub fn new(alloc: Global, keys: usize) -> Result<EqualKeys, AllocError>
         ensures none { IfOk result (λ made. AreNoted [] made.firsts made.pairs.items) }
     {
         Ok(EqualKeys {
@@ -88,14 +88,22 @@ impl EqualKeys {
         })
     }
 
-    /// Notes a key with its line, and adds a pair where an equal key was noted before.
-    pub(crate) fn note(&mut self, alloc: Global, line: u32, key: &[u8]) -> Result<(), AllocError>
+    /// Notes a key with its line, and adds a pair if an equal key was noted before. Fails if out of memory.
+    pub fn note(&mut self, alloc: Global, line: u32, key: &[u8]) -> Result<(), AllocError>
         ensures { (earlier : List (ℕ × List ℕ)) → AreNoted earlier self.old.firsts self.old.pairs.items → OnOk result (AreNoted (earlier ++ (line, key.now) ∷ []) self.new.firsts self.new.pairs.items) }
     {
         if let Some(first) = self.firsts.note(alloc, line, key)? {
             self.pairs.push(Pair { first, again: line })?;
         }
         Ok(())
+    }
+
+    /// The equal ones among the keys that were noted, as the first line that has the key and a later one, in the order of the later
+    /// ones.
+    pub fn into_pairs(self) -> Vec<Pair>
+        ensures { (earlier : List (ℕ × List ℕ)) → AreNoted earlier self.firsts self.pairs.items → result.items ≡ pairs earlier }
+    {
+        self.pairs
     }
 }
 

@@ -12,6 +12,7 @@ mod table;
 pub use candidates::count_candidates;
 pub use certificate::{Certificate, CoreEdge, GatherFault, InBucket, Pair};
 pub use cm_algorithm::Algorithm;
-pub use firsts::equal_pairs;
+pub use firsts::{EqualKeys, equal_pairs};
 pub use gathering::gather;
 pub use laws::{each_paired, reports};
+pub use report::{append, append_number, write_pairs};

@@ -15,9 +15,9 @@ const HEAD_ROOM: usize = 96;
 /// Room for any line of an edge or a pair.
 const LINE_ROOM: usize = 64;
 
-/// Appends a part for which there is room.
+/// Appends a part to a line that has room for it.
 #[inline(always)]
-fn append<const N: usize>(line: &mut ArrayVec<u8, N>, part: &[u8])
+pub fn append<const N: usize>(line: &mut ArrayVec<u8, N>, part: &[u8])
     requires room { length line.old.items + length part.now ≤ N }
     ensures all { line.new.items ≡ line.old.items ++ part.now }
 {
@@ -26,9 +26,9 @@ fn append<const N: usize>(line: &mut ArrayVec<u8, N>, part: &[u8])
     }
 }
 
-/// Appends a part and a number in decimal, for which there is room.
+/// Appends a part and a number in decimal to a line that has room for both, and for ten digits. The buffer is for its use.
 #[inline(always)]
-fn append_number<const N: usize>(
+pub fn append_number<const N: usize>(
     line: &mut ArrayVec<u8, N>,
     part: &[u8],
     number: u32,
@@ -81,8 +81,9 @@ fn write_edges<O: Sink>(out: &mut O, edges: &[CoreEdge], buffer: &mut Buffer) ->
     Ok(())
 }
 
-/// Writes the lines of the pairs.
-fn write_pairs<O: Sink>(out: &mut O, pairs: &[Pair], buffer: &mut Buffer) -> Result<(), Failed>
+/// Writes a line for each pair of equal keys. Takes no memory. Fails exactly where the sink does, which has then taken a prefix of
+/// the text. The buffer is for its use.
+pub fn write_pairs<O: Sink>(out: &mut O, pairs: &[Pair], buffer: &mut Buffer) -> Result<(), Failed>
     ensures lines { Writes (O.written out.old) (O.written out.new) (joined (map pair_line pairs.now)) result }
     ensures cause { HasCause (O.faults out.old) (O.faults out.new) result }
 {

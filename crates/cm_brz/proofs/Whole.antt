@@ -1,0 +1,141 @@
+-- From the parts of a build to the whole.
+use Rattle.std.proofs.Common.{◌≡◌, ◌∙◌, ℕ, ◌<◌, List, length, get_or, sym, ap, subst, None, Some, is_some}
+use Rattle.std.specs.Prelude.{slice_index}
+use Rattle.cm_brz.specs.BrzOf.{AreBuilt, IsBrzOf, bucket_from}
+use Rattle.cm_brz.specs.Fails.{FailsBrz, FailsBuckets, FailsPassing, HasBrzForm, HasBuildingForm, HasOverfullForm, HasPassingForm, IsCoredIn, IsDamage, RefusesOverfull}
+use Rattle.cm_brz.specs.Puts.{keys_in_bucket, records_under}
+use Rattle.cm_brz.specs.Records.{Record}
+use Rattle.cm_brz.specs.Split.{IsLowestOver, keys_of_bucket, split_of}
+use Rattle.cm_brz.specs.declared.fault.BrzFault.{BrzFault}
+use Rattle.cm_brz.specs.declared.fault.BrzFault.TheVariants.{Memory, NoKeys, Overfull, Cored, Key, Changed, SpillFailed, SpillDamaged}
+use Rattle.cm_buckets.specs.Functions.{Brz, bucket_count, no_bucket}
+use Rattle.cm_buckets.specs.declared.limits.TheConstants.{MAX_BUCKET}
+use Rattle.cm_outer.specs.Passes.{Told}
+use Rattle.cm_spec.specs.Bdz.{bdz_rule}
+use Rattle.cm_spec.specs.Built.{IsFirst}
+use Rattle.cm_witness.specs.Pairs.{pairs}
+use Rattle.cm_witness.specs.declared.certificate.InBucket.{InBucket}
+use Rattle.cm_brz.proofs.Putting.{keys_of_records}
+
+-- the records of a bucket are its keys
+bucket_keys : (keys : List (ℕ × List ℕ)) (k split : ℕ) (records : List Record) → records ≡ records_under keys k split → (j : ℕ) → keys_in_bucket records j ≡ keys_of_bucket keys k split j
+bucket_keys keys k split records e j = ap (λ (rs : List Record). keys_in_bucket rs j) e ∙ keys_of_records keys k split j
+
+pub brz_of : (keys : List (ℕ × List ℕ)) (c b : ℕ) (seeds : List ℕ) (f : Brz) (records : List Record) → f.keys ≡ length keys → f.ratio ≡ c → f.width ≡ b → split_of keys (bucket_count (length keys) b) seeds ≡ Some f.split → length f.buckets ≡ bucket_count (length keys) b → AreBuilt (keys_in_bucket records) c seeds f.buckets → records ≡ records_under keys (length f.buckets) f.split → IsBrzOf keys c b seeds f
+brz_of keys c b seeds f records many ratio width split count built e =
+    let same : (j : ℕ) → keys_in_bucket records j ≡ keys_of_bucket keys (length f.buckets) f.split j = bucket_keys keys (length f.buckets) f.split records e in
+    record {
+      many = many;
+      ratio = ratio;
+      width = width;
+      split = split;
+      count = count;
+      each = λ j l. ap (λ (ks : List (ℕ × List ℕ)). bucket_from ks c seeds) (sym (same j)) ∙ built.each j l;
+      first = λ j l some. subst (λ (ks : List (ℕ × List ℕ)). (place : ℕ) × IsFirst bdz_rule ks c seeds place (get_or f.buckets j no_bucket).seed) (same j) (built.first j l (λ none. some (sym (same j) ∙ none)));
+    }
+
+pub fails_whole : (told : Told) (c b split : ℕ) (seeds : List ℕ) (records : List Record) (e : BrzFault) → told.fault ≡ None → split_of told.keys (bucket_count (length told.keys) b) seeds ≡ Some split → records ≡ records_under told.keys (bucket_count (length told.keys) b) split → FailsBuckets (keys_in_bucket records) (bucket_count (length told.keys) b) c split seeds e → FailsBrz told c b seeds e
+fails_whole told c b split seeds records Memory whole chosen is h = tt
+fails_whole told c b split seeds records NoKeys whole chosen is h = absurd h
+fails_whole told c b split seeds records (Overfull seed bucket count equal) whole chosen is h = absurd h
+fails_whole told c b split seeds records (Cored made) whole chosen is h =
+    let k : ℕ = bucket_count (length told.keys) b in
+    let same : (j : ℕ) → keys_in_bucket records j ≡ keys_of_bucket told.keys k split j = bucket_keys told.keys k split records is in
+    let place : InBucket = record { split = split; bucket = h.bucket } in (
+      whole,
+      record {
+        place = place;
+        chosen = chosen;
+        within = h.within;
+        earlier = λ j l. ap (λ (ks : List (ℕ × List ℕ)). is_some (bucket_from ks c seeds)) (sym (same j)) ∙ h.earlier j l;
+        cored = subst (λ (ks : List (ℕ × List ℕ)). IsCoredIn ks c seeds place made) (same h.bucket) h.cored;
+      },
+    )
+fails_whole told c b split seeds records (Key fault) whole chosen is h = absurd h
+fails_whole told c b split seeds records (Changed first now) whole chosen is h = absurd h
+fails_whole told c b split seeds records SpillFailed whole chosen is h = tt
+fails_whole told c b split seeds records (SpillDamaged offset expected found) whole chosen is h = absurd h
+
+pub fails_passing : (told : Told) (c b : ℕ) (seeds : List ℕ) (e : BrzFault) → FailsPassing told e → FailsBrz told c b seeds e
+fails_passing told c b seeds Memory h = tt
+fails_passing told c b seeds NoKeys h = absurd h
+fails_passing told c b seeds (Overfull seed bucket count equal) h = absurd h
+fails_passing told c b seeds (Cored made) h = absurd h
+fails_passing told c b seeds (Key fault) h = h
+fails_passing told c b seeds (Changed first now) h = absurd h
+fails_passing told c b seeds SpillFailed h = tt
+fails_passing told c b seeds (SpillDamaged offset expected found) h = absurd h
+
+pub passing_form : (seeds : List ℕ) (e : BrzFault) → HasPassingForm e → HasBrzForm seeds e
+passing_form seeds Memory h = tt
+passing_form seeds NoKeys h = absurd h
+passing_form seeds (Overfull seed bucket count equal) h = absurd h
+passing_form seeds (Cored made) h = absurd h
+passing_form seeds (Key fault) h = tt
+passing_form seeds (Changed first now) h = h
+passing_form seeds SpillFailed h = tt
+passing_form seeds (SpillDamaged offset expected found) h = absurd h
+
+pub building_form : (seeds : List ℕ) (e : BrzFault) → HasBuildingForm seeds e → HasBrzForm seeds e
+building_form seeds Memory h = tt
+building_form seeds NoKeys h = absurd h
+building_form seeds (Overfull seed bucket count equal) h = absurd h
+building_form seeds (Cored made) h = h
+building_form seeds (Key fault) h = absurd h
+building_form seeds (Changed first now) h = absurd h
+building_form seeds SpillFailed h = tt
+building_form seeds (SpillDamaged offset expected found) h = h
+
+pub passing_undamaged : (e : BrzFault) → HasPassingForm e → IsDamage e → ⊥
+passing_undamaged Memory h d = d
+passing_undamaged NoKeys h d = d
+passing_undamaged (Overfull seed bucket count equal) h d = d
+passing_undamaged (Cored made) h d = d
+passing_undamaged (Key fault) h d = d
+passing_undamaged (Changed first now) h d = d
+passing_undamaged SpillFailed h d = d
+passing_undamaged (SpillDamaged offset expected found) h d = h
+
+pub building_undamaged : (keys_of : ℕ → List (ℕ × List ℕ)) (k c split : ℕ) (seeds : List ℕ) (e : BrzFault) → FailsBuckets keys_of k c split seeds e → IsDamage e → ⊥
+building_undamaged keys_of k c split seeds Memory h d = d
+building_undamaged keys_of k c split seeds NoKeys h d = d
+building_undamaged keys_of k c split seeds (Overfull seed bucket count equal) h d = d
+building_undamaged keys_of k c split seeds (Cored made) h d = d
+building_undamaged keys_of k c split seeds (Key fault) h d = d
+building_undamaged keys_of k c split seeds (Changed first now) h d = d
+building_undamaged keys_of k c split seeds SpillFailed h d = d
+building_undamaged keys_of k c split seeds (SpillDamaged offset expected found) h d = h
+
+-- the refusal for an overfull bucket
+pub refuses : (told : Told) (c b seed bucket count : ℕ) (seeds : List ℕ) (e : BrzFault) → told.fault ≡ None → seed ≡ slice_index seeds 0 → split_of told.keys (bucket_count (length told.keys) b) seeds ≡ None → IsLowestOver told.keys (bucket_count (length told.keys) b) seed bucket count → RefusesOverfull told (bucket_count (length told.keys) b) seed bucket count e → FailsBrz told c b seeds e
+refuses told c b seed bucket count seeds Memory whole first none lowest h = tt
+refuses told c b seed bucket count seeds NoKeys whole first none lowest h = absurd h
+refuses told c b seed bucket count seeds (Overfull s j n equal) whole first none lowest h =
+    let k : ℕ = bucket_count (length told.keys) b in (
+      whole,
+      record {
+        none = none;
+        first = h.0 ∙ first;
+        lowest = subst (λ (x : ℕ). IsLowestOver told.keys k s j x) (sym h.2) (subst (λ (x : ℕ). IsLowestOver told.keys k s x count) (sym h.1) (subst (λ (x : ℕ). IsLowestOver told.keys k x bucket count) (sym h.0) lowest));
+        equal_are = h.3 ∙ (ap (λ (x : ℕ). pairs (keys_of_bucket told.keys k x bucket)) (sym h.0) ∙ ap (λ (x : ℕ). pairs (keys_of_bucket told.keys k s x)) (sym h.1));
+      },
+    )
+refuses told c b seed bucket count seeds (Cored made) whole first none lowest h = absurd h
+refuses told c b seed bucket count seeds (Key fault) whole first none lowest h = h
+refuses told c b seed bucket count seeds (Changed x y) whole first none lowest h = absurd h
+refuses told c b seed bucket count seeds SpillFailed whole first none lowest h = absurd h
+refuses told c b seed bucket count seeds (SpillDamaged offset expected found) whole first none lowest h = absurd h
+
+pub overfull_form : (seeds : List ℕ) (seed count : ℕ) (e : BrzFault) → seed ≡ slice_index seeds 0 → MAX_BUCKET < count → HasOverfullForm seed count e → HasBrzForm seeds e
+overfull_form seeds seed count Memory first over h = tt
+overfull_form seeds seed count NoKeys first over h = absurd h
+overfull_form seeds seed count (Overfull s j n equal) first over h = (h.0 ∙ first, subst (λ (x : ℕ). MAX_BUCKET < x) (sym h.1) over)
+overfull_form seeds seed count (Cored made) first over h = absurd h
+overfull_form seeds seed count (Key fault) first over h = tt
+overfull_form seeds seed count (Changed x y) first over h = h
+overfull_form seeds seed count SpillFailed first over h = absurd h
+overfull_form seeds seed count (SpillDamaged offset expected found) first over h = absurd h
+
+pub refuses_at : (told : Told) (c b k seed bucket count : ℕ) (seeds : List ℕ) (e : BrzFault) → k ≡ bucket_count (length told.keys) b → told.fault ≡ None → seed ≡ slice_index seeds 0 → split_of told.keys k seeds ≡ None → IsLowestOver told.keys k seed bucket count → RefusesOverfull told k seed bucket count e → FailsBrz told c b seeds e
+refuses_at told c b k seed bucket count seeds e is whole first none lowest h =
+    refuses told c b seed bucket count seeds e whole first (subst (λ (x : ℕ). split_of told.keys x seeds ≡ None) is none) (subst (λ (x : ℕ). IsLowestOver told.keys x seed bucket count) is lowest) (subst (λ (x : ℕ). RefusesOverfull told x seed bucket count e) is h)

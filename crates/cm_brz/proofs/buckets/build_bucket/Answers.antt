@@ -1,0 +1,29 @@
+use Rattle.std.proofs.Common.{arith, None, refl}
+use Rattle.cm_brz.proofs.Pushes.{bucket_made, cored_in}
+use Rattle.cm_brz.proofs.buckets.build_bucket.Goals as goal
+
+pub returns-in-Ok-clause-many : goal.returns-in-Ok-clause-many
+returns-in-Ok-clause-many g c = (c.in-Ok.ensures.first (record { keys = c.args.held.now.keys; fault = None }) refl).1.many
+
+pub returns-in-Ok-clause-made : goal.returns-in-Ok-clause-made
+returns-in-Ok-clause-made g c = bucket_made c.args.held.now.keys c.args.c c.args.seeds.now c.in-Ok.built.m c.in-Ok.built.seed _ _ _ _ c.requires.keys (c.in-Ok.ensures.first (record { keys = c.args.held.now.keys; fault = None }) refl).1
+
+pub returns-in-Ok-clause-first : goal.returns-in-Ok-clause-first
+returns-in-Ok-clause-first g c =
+    let made = (c.in-Ok.ensures.first (record { keys = c.args.held.now.keys; fault = None }) refl).1 in
+    (made.place, made.first)
+
+pub returns-in-Ok-clause-steps : goal.returns-in-Ok-clause-steps
+returns-in-Ok-clause-steps g c = omega (arith, c.build_with.ensures.steps (record { keys = c.args.held.now.keys; fault = None }) refl)
+
+pub returns-in-Err-Memory-clause-steps : goal.returns-in-Err-Memory-clause-steps
+returns-in-Err-Memory-clause-steps g c = omega (arith, c.build_with.ensures.steps (record { keys = c.args.held.now.keys; fault = None }) refl)
+
+pub returns-in-Err-Cored-clause-steps : goal.returns-in-Err-Cored-clause-steps
+returns-in-Err-Cored-clause-steps g c = omega (arith, c.build_with.ensures.steps (record { keys = c.args.held.now.keys; fault = None }) refl)
+
+pub returns-in-Err-Cored-clause-fault : goal.returns-in-Err-Cored-clause-fault
+returns-in-Err-Cored-clause-fault g c =
+    let form = rw c.in-Err-Cored.field-0-is at c.in-Err-Cored.ensures.certificate in
+    let fails = rw c.in-Err-Cored.field-0-is at c.in-Err-Cored.ensures.fault in
+    cored_in (record { keys = c.args.held.now.keys; fault = None }) c.args.c c.args.seeds.now c.args.place _ c.in_bucket.result c.in_bucket.ensures.algorithm c.in_bucket.ensures.seed c.in_bucket.ensures.place c.in_bucket.ensures.edges c.in_bucket.ensures.equal form (fails (record { keys = c.args.held.now.keys; fault = None }) refl)

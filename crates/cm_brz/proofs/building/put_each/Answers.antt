@@ -1,0 +1,38 @@
+use Rattle.std.proofs.Common.{arith, rules, ◌∙◌, ◌<◌, length, refl}
+use Rattle.cm_brz.proofs.Putting.{put_more}
+use Rattle.cm_brz.proofs.Sizes.{count_more, sum_one_more}
+use Rattle.cm_brz.proofs.building.put_each.Goals as goal
+
+pub returns-in-None-clause-fault : goal.returns-in-None-clause-fault
+returns-in-None-clause-fault g c = λ told is.
+    let gone = rw c.in-None.is at c.in_ok-bucket.ensures.ends in
+    let ends = gone told (c.loop-count.invariant.same ∙ is) in
+    omega (arith, ends.all, (c.requires.counted told is).many, c.loop-count.invariant.at, c.loop-count-test.true)
+
+pub loop-count-preserved : goal.loop-count-preserved
+loop-count-preserved g c =
+    let P = g.P.KeyPass in
+    let B = g.B.Store in
+    let before = c.loop-count.invariant in
+    let counts = rw c.in-Some.is at c.in_ok-bucket.ensures.counts in
+    let below = rw c.in-Some.is at c.in_ok-bucket.ensures.below in
+    let gives = rw c.in-Some.is at c.in_ok-bucket.ensures.gives in
+    let low : c.in-Some.bucket < length c.loop-count.put = omega (arith, below, before.long) in
+    record {
+      ready = search rules;
+      same = search rules;
+      quiet = search rules;
+      at = omega (arith, counts, before.at);
+      usable = search rules;
+      open_still = search rules;
+      last = search rules;
+      still = search rules;
+      long = search rules;
+      all = omega (arith, sum_one_more c.loop-count.put c.in-Some.bucket _ low refl, before.all);
+      counts = λ told is.
+          (let given = gives told (before.same ∙ is) in
+          count_more c.loop-count.put given.0 _ _ told.keys c.args.split.now.buckets c.args.split.now.seed c.in-Some.bucket _ (before.counts told is) given.1 given.2 low refl);
+      records = λ none.
+          put_more (B.holds c.loop-count.store) (B.holds c.put_next.new.store) (P.told c.args.keys.now) (P.told c.loop-count.keys) (P.place c.loop-count.keys) (P.place c.put_next.new.keys) c.loop-count.put c.args.split.now.buckets c.args.split.now.seed c.in-Some.bucket _ before.same (before.records none)
+          (λ records held. rw c.in-Some.is at (c.in_ok-bucket.ensures.puts records held)) low refl;
+    }

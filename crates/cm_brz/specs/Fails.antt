@@ -1,0 +1,157 @@
+-- Why a build by BRZ was refused.
+use Rattle.std.specs.Prelude.{◌≡◌, ◌≢◌, ℕ, ◌<◌, ◌≤◌, List, [], All, length, slice_index, is_some, true, None, Some, Result, Err}
+use Rattle.cm_algo.specs.Fails.{IsToldFault, ShowsCore}
+use Rattle.cm_algorithm.specs.declared.algorithm.Algorithm.TheVariants as algorithm
+use Rattle.cm_brz.specs.BrzOf.{bucket_from}
+use Rattle.cm_brz.specs.Split.{IsLowestOver, keys_of_bucket, split_of}
+use Rattle.cm_brz.specs.declared.fault.BrzFault.{BrzFault}
+use Rattle.cm_brz.specs.declared.fault.BrzFault.TheVariants.{Memory, NoKeys, Overfull, Cored, Key, Changed, SpillFailed, SpillDamaged}
+use Rattle.cm_brz.specs.declared.fault.PutFault.{PutFault}
+use Rattle.cm_brz.specs.declared.fault.PutFault.TheVariants as put_fault
+use Rattle.cm_brz.specs.declared.store.StoreFault.{StoreFault}
+use Rattle.cm_brz.specs.declared.store.StoreFault.TheVariants as store_fault
+use Rattle.cm_buckets.specs.Functions.{bucket_count}
+use Rattle.cm_buckets.specs.declared.limits.TheConstants.{MAX_BUCKET}
+use Rattle.cm_outer.specs.Causes.{Rose}
+use Rattle.cm_outer.specs.Passes.{Told, HasKeyCause}
+use Rattle.cm_spec.specs.Bdz.{bdz_rule}
+use Rattle.cm_spec.specs.Built.{AllCored, first_seed}
+use Rattle.cm_witness.specs.Pairs.{pairs}
+use Rattle.cm_witness.specs.declared.certificate.Certificate.{Certificate}
+use Rattle.cm_witness.specs.declared.certificate.GatherFault.{GatherFault}
+use Rattle.cm_witness.specs.declared.certificate.GatherFault.TheVariants as gather_fault
+use Rattle.cm_witness.specs.declared.certificate.InBucket.{InBucket}
+use Rattle.cm_witness.specs.declared.certificate.Pair.{Pair}
+
+-- the fault of a build that is refused for one of its passes
+abbrev pub brz_fault_of : GatherFault → BrzFault
+brz_fault_of gather_fault.Memory = Memory
+brz_fault_of (gather_fault.Key fault) = Key fault
+brz_fault_of (gather_fault.Changed first now) = Changed first now
+
+-- the same for a refusal of the store
+abbrev pub store_fault_of : StoreFault → BrzFault
+store_fault_of store_fault.Memory = Memory
+store_fault_of store_fault.Failed = SpillFailed
+store_fault_of (store_fault.Damaged offset expected found) = SpillDamaged offset expected found
+
+-- and for a key that was not put into it
+abbrev pub put_fault_of : PutFault → BrzFault
+put_fault_of (put_fault.Key fault) = Key fault
+put_fault_of (put_fault.Store fault) = store_fault_of fault
+
+-- `Key Read` exactly where the count of the keys' faults rose
+abbrev pub HasKeysCause : {T : Type 0} → ℕ → ℕ → Result T BrzFault → Type 0
+HasKeysCause before now (Err (Key fault)) = HasKeyCause {T = Unit {0}} before now (Err fault)
+HasKeysCause before now result = now ≡ before
+
+-- `SpillFailed` exactly where the count of the spill's faults rose
+abbrev pub HasSpillCause : {T : Type 0} → ℕ → ℕ → Result T BrzFault → Type 0
+HasSpillCause before now (Err SpillFailed) = (before ≤ now) × Rose before now
+HasSpillCause before now result = now ≡ before
+
+-- every seed of the list leaves a bucket with more keys than one may have; under the first seed this is the lowest such bucket,
+-- which has so many keys, and these are the equal ones among them
+pub record IsOverfull (keys : List (ℕ × List ℕ)) (k : ℕ) (seeds : List ℕ) (seed bucket count : ℕ) (equal : List Pair) : Type 0 where
+  pub none : split_of keys k seeds ≡ None
+  pub first : seed ≡ slice_index seeds 0
+  pub lowest : IsLowestOver keys k seed bucket count
+  pub equal_are : equal ≡ pairs (keys_of_bucket keys k seed bucket)
+
+-- every seed of the list leaves a 2-core in the graph of a bucket's keys, and the certificate shows that of the first seed
+pub record IsCoredIn (keys : List (ℕ × List ℕ)) (c : ℕ) (seeds : List ℕ) (place : InBucket) (made : Certificate) : Type 0 where
+  pub shown : made.place ≡ Some place
+  pub none : first_seed bdz_rule keys c seeds ≡ None
+  pub cored : AllCored bdz_rule keys c seeds
+  pub shows : ShowsCore bdz_rule keys c (slice_index seeds 0) made
+
+-- the certificate is of the lowest bucket for which no seed of the list works
+pub record IsCoredBucket (keys : List (ℕ × List ℕ)) (k c : ℕ) (seeds : List ℕ) (made : Certificate) : Type 0 where
+  pub place : InBucket
+  pub chosen : split_of keys k seeds ≡ Some place.split
+  pub within : place.bucket < k
+  pub earlier : (j : ℕ) → j < place.bucket → is_some (bucket_from (keys_of_bucket keys k place.split j) c seeds) ≡ true
+  pub cored : IsCoredIn (keys_of_bucket keys k place.split place.bucket) c seeds place made
+
+-- the refusals of a build over keys with known contents: they never change, and what is refused is so by the keys alone
+abbrev pub FailsBrz : Told → ℕ → ℕ → List ℕ → BrzFault → Type 0
+FailsBrz told c b seeds Memory = Unit {0}
+FailsBrz told c b seeds NoKeys = (told.keys ≡ []) × (told.fault ≡ None)
+FailsBrz told c b seeds (Overfull seed bucket count equal) = (told.fault ≡ None) × IsOverfull told.keys (bucket_count (length told.keys) b) seeds seed bucket count equal.items
+FailsBrz told c b seeds (Cored made) = (told.fault ≡ None) × IsCoredBucket told.keys (bucket_count (length told.keys) b) c seeds made
+FailsBrz told c b seeds (Key fault) = IsToldFault told fault
+FailsBrz told c b seeds (Changed first now) = ⊥
+FailsBrz told c b seeds SpillFailed = Unit {0}
+FailsBrz told c b seeds (SpillDamaged offset expected found) = Unit {0}
+
+-- what a refusal has, whatever the keys are: numbers of `Changed` and of damage that differ, an overfull bucket of the first seed,
+-- and a certificate of the first seed in a bucket, with three ends an edge
+abbrev pub HasBrzForm : List ℕ → BrzFault → Type 0
+HasBrzForm seeds (Overfull seed bucket count equal) = (seed ≡ slice_index seeds 0) × (MAX_BUCKET < count)
+HasBrzForm seeds (Cored made) = (made.algorithm ≡ algorithm.Brz) × (made.seed ≡ slice_index seeds 0) × (is_some made.place ≡ true) × All (λ e. is_some e.third ≡ true) made.edges.items
+HasBrzForm seeds (Changed first now) = first ≢ now
+HasBrzForm seeds (SpillDamaged offset expected found) = expected ≢ found
+HasBrzForm seeds fault = Unit {0}
+
+-- a pass that puts keys with known contents into a store refuses for these alone
+abbrev pub FailsPassing : Told → BrzFault → Type 0
+FailsPassing told Memory = Unit {0}
+FailsPassing told (Key fault) = IsToldFault told fault
+FailsPassing told SpillFailed = Unit {0}
+FailsPassing told fault = ⊥
+
+-- and over any keys for these, with two numbers that differ
+abbrev pub HasPassingForm : BrzFault → Type 0
+HasPassingForm Memory = Unit {0}
+HasPassingForm (Key fault) = Unit {0}
+HasPassingForm (Changed first now) = first ≢ now
+HasPassingForm SpillFailed = Unit {0}
+HasPassingForm fault = ⊥
+
+-- the build of a bucket refuses for these alone
+abbrev pub FailsBucket : List (ℕ × List ℕ) → ℕ → List ℕ → InBucket → BrzFault → Type 0
+FailsBucket keys c seeds place Memory = Unit {0}
+FailsBucket keys c seeds place (Cored made) = HasBrzForm seeds (Cored made) × IsCoredIn keys c seeds place made
+FailsBucket keys c seeds place fault = ⊥
+
+-- the lowest bucket, of k, for which no seed of the list works; these are the keys of the buckets
+pub record IsCoredAt (keys_of : ℕ → List (ℕ × List ℕ)) (k c split : ℕ) (seeds : List ℕ) (made : Certificate) : Type 0 where
+  pub bucket : ℕ
+  pub within : bucket < k
+  pub earlier : (j : ℕ) → j < bucket → is_some (bucket_from (keys_of j) c seeds) ≡ true
+  pub cored : IsCoredIn (keys_of bucket) c seeds (record { split = split; bucket = bucket }) made
+
+-- the build of all buckets from a store with known contents refuses for these alone
+abbrev pub FailsBuckets : (ℕ → List (ℕ × List ℕ)) → ℕ → ℕ → ℕ → List ℕ → BrzFault → Type 0
+FailsBuckets keys_of k c split seeds Memory = Unit {0}
+FailsBuckets keys_of k c split seeds (Cored made) = IsCoredAt keys_of k c split seeds made
+FailsBuckets keys_of k c split seeds SpillFailed = Unit {0}
+FailsBuckets keys_of k c split seeds fault = ⊥
+
+-- and from any store for these
+abbrev pub HasBuildingForm : List ℕ → BrzFault → Type 0
+HasBuildingForm seeds Memory = Unit {0}
+HasBuildingForm seeds (Cored made) = HasBrzForm seeds (Cored made)
+HasBuildingForm seeds SpillFailed = Unit {0}
+HasBuildingForm seeds (SpillDamaged offset expected found) = expected ≢ found
+HasBuildingForm seeds fault = ⊥
+
+-- the store found a damage
+abbrev pub IsDamage : BrzFault → Type 0
+IsDamage (SpillDamaged offset expected found) = Unit {0}
+IsDamage fault = ⊥
+
+-- the refusal for an overfull bucket, with this seed, bucket and number of keys, over keys with known contents
+abbrev pub RefusesOverfull : Told → ℕ → ℕ → ℕ → ℕ → BrzFault → Type 0
+RefusesOverfull told k s j n Memory = Unit {0}
+RefusesOverfull told k s j n (Overfull seed bucket count equal) = (seed ≡ s) × (bucket ≡ j) × (count ≡ n) × (equal.items ≡ pairs (keys_of_bucket told.keys k s j))
+RefusesOverfull told k s j n (Key fault) = IsToldFault told fault
+RefusesOverfull told k s j n fault = ⊥
+
+-- and over any keys
+abbrev pub HasOverfullForm : ℕ → ℕ → BrzFault → Type 0
+HasOverfullForm s n Memory = Unit {0}
+HasOverfullForm s n (Overfull seed bucket count equal) = (seed ≡ s) × (count ≡ n)
+HasOverfullForm s n (Key fault) = Unit {0}
+HasOverfullForm s n (Changed first now) = first ≢ now
+HasOverfullForm s n fault = ⊥

@@ -1,0 +1,10 @@
+pub mod BrzOf
+pub mod BucketPass
+pub mod Fails
+pub mod HeldKeys
+pub mod Passes
+pub mod Puts
+pub mod Records
+pub mod Reports
+pub mod Split
+pub mod Stores

@@ -1,0 +1,24 @@
+-- Why a store refuses.
+use Rattle.std.specs.Prelude.{◌≡◌, ◌≢◌, ℕ, ◌≤◌, Result, Ok, Err}
+use Rattle.cm_brz.specs.declared.store.StoreFault.{StoreFault}
+use Rattle.cm_brz.specs.declared.store.StoreFault.TheVariants.{Memory, Failed, Damaged}
+use Rattle.cm_outer.specs.Causes.{Rose}
+
+-- The count never falls, and a call returns `Failed` exactly where it rose.
+abbrev pub HasStoreCause : {T : Type 0} → ℕ → ℕ → Result T StoreFault → Type 0
+HasStoreCause before now (Ok x) = now ≡ before
+HasStoreCause before now (Err Memory) = now ≡ before
+HasStoreCause before now (Err Failed) = (before ≤ now) × Rose before now
+HasStoreCause before now (Err (Damaged offset expected found)) = now ≡ before
+
+-- no damage was found
+abbrev pub NotDamaged : StoreFault → Type 0
+NotDamaged Memory = Unit {0}
+NotDamaged Failed = Unit {0}
+NotDamaged (Damaged offset expected found) = ⊥
+
+-- what a call that gives keys back may refuse: it takes no memory, and a damage has two numbers that differ
+abbrev pub IsReadFault : StoreFault → Type 0
+IsReadFault Memory = ⊥
+IsReadFault Failed = Unit {0}
+IsReadFault (Damaged offset expected found) = expected ≢ found

@@ -1,0 +1,232 @@
+//! From the store to the functions of the buckets.
+ghost use Rattle.std.specs.Prelude.{◌≡◌, ◌≢◌, ℕ, ◌+◌, ◌*◌, ◌<◌, ◌≤◌, List, [], Some, length, slice_index, sum, count_by, IfOk, IfErr, IsTrue, OnOk, true};
+ghost use Rattle.cm_algorithm.specs.declared.algorithm.Algorithm.TheVariants as algorithm;
+ghost use Rattle.cm_brz.specs.BrzOf.{AreBuilt, PushesBucket, bucket_from};
+ghost use Rattle.cm_brz.specs.Fails.{FailsBucket, FailsBuckets, HasBuildingForm, HasSpillCause};
+ghost use Rattle.cm_brz.specs.Puts.{HasTwoNumbers, HaveSizes, keys_in_bucket};
+ghost use Rattle.cm_brz.specs.Records.{Record, records_of};
+ghost use Rattle.cm_brz.specs.Stores.{HasStoreCause, NotDamaged};
+ghost use Rattle.cm_brz.specs.declared.fault.BrzFault.TheVariants as brz_fault;
+ghost use Rattle.cm_buckets.specs.Functions.{bucket_cells, bucket_count, keys_in};
+ghost use Rattle.cm_buckets.specs.Pushing.{with_bucket};
+ghost use Rattle.cm_buckets.specs.declared.limits.TheConstants.{MAX_BUCKET};
+ghost use Rattle.cm_outer.specs.declared.key_pass.TheConstants.{MAX_KEYS};
+ghost use Rattle.cm_spec.specs.Bdz.{bdz_rule, bdz_size};
+ghost use Rattle.cm_spec.specs.Built.{IsFirst};
+ghost use Rattle.cm_spec.specs.Cells.{is_busy};
+ghost use Rattle.cm_spec.specs.Rule.{IsRatio};
+
+use crate::bucket_keys::BucketKeys;
+use crate::fault::BrzFault;
+use crate::store::{Store, StoreFault};
+use cm_algo::{BuildFault, build_with};
+use cm_algorithm::Algorithm;
+use cm_bdz::{BdzScheme, PartsFault};
+use cm_bits::{Cells, Crumbs};
+use cm_buckets::BrzParts;
+use cm_graph::{Steps, Xored};
+use cm_outer::KeyBuf;
+use cm_scheme::Built;
+use cm_witness::{Certificate, InBucket};
+use std::alloc::Global;
+use std::sync::ledger::Ledger;
+
+/// Reads the keys of a bucket from the store, where so many were put. The buffer is for its use.
+fn read_bucket<B: Store>(
+    store: &mut B,
+    bucket: u32,
+    size: u32,
+    held: &mut BucketKeys,
+    key: &mut KeyBuf,
+) -> Result<(), StoreFault>
+    requires small { size ≤ MAX_BUCKET }
+    requires store { IsTrue (B.usable store.old) }
+    requires sealed { B.sealed store.old ≡ true }
+    requires asks { B.may_ask store.old bucket }
+    requires none { (B.given store.old bucket ≡ 0) × (B.given_last store.old bucket ≡ 0) }
+    ensures store { OnOk result (B.usable store.new ≡ true) }
+    ensures sealed { OnOk result (B.sealed store.new ≡ true) }
+    ensures asks { OnOk result (B.may_ask store.new (bucket + 1)) }
+    ensures later { OnOk result ((j : ℕ) → bucket < j → (B.given store.new j ≡ 0) × (B.given_last store.new j ≡ 0)) }
+    ensures cause { HasStoreCause (B.faults store.old) (B.faults store.new) result }
+    ensures size { OnOk result (length held.new.keys ≡ size) }
+    ensures holds { (records : List Record) → B.holds store.old records → OnOk result (B.holds store.new records) }
+    ensures keys { (records : List Record) → B.holds store.old records → OnOk result (held.new.keys ≡ keys_in_bucket records bucket) }
+    ensures undamaged { (records : List Record) → B.holds store.old records → length (records_of bucket records) ≡ size → IfErr result NotDamaged }
+    ensures fault { IfErr result HasTwoNumbers }
+{
+    held.clear();
+    for count in 0..size {
+        match store.next_of(bucket, key)? {
+            Some(line) => match held.push(line, key.as_slice()) {
+                Ok(()) => {}
+                Err(_) => return Err(StoreFault::Memory),
+            },
+            None => {
+                return Err(StoreFault::Damaged {
+                    offset: store.read_end(),
+                    expected: size as u64,
+                    found: count as u64,
+                });
+            }
+        }
+    }
+    match store.next_of(bucket, key)? {
+        Some(_) => Err(StoreFault::Damaged {
+            offset: store.read_end(),
+            expected: size as u64,
+            found: size as u64 + 1,
+        }),
+        None => Ok(()),
+    }
+}
+
+/// The certificate of a graph by BDZ, as that of a bucket.
+fn in_bucket(certificate: Certificate, place: InBucket) -> Certificate
+    ensures algorithm { result.algorithm ≡ algorithm.Brz }
+    ensures seed { result.seed ≡ certificate.seed }
+    ensures place { result.place ≡ Some place }
+    ensures edges { result.edges.items ≡ certificate.edges.items }
+    ensures equal { result.equal.items ≡ certificate.equal.items }
+{
+    Certificate {
+        algorithm: Algorithm::Brz,
+        seed: certificate.seed,
+        place: Some(place),
+        edges: certificate.edges,
+        equal: certificate.equal,
+    }
+}
+
+/// Builds the function of a bucket's keys, of which there is one at least. The buffer is for its use.
+fn build_bucket<L: Ledger>(
+    alloc: Global,
+    held: &mut BucketKeys,
+    key: &mut KeyBuf,
+    place: InBucket,
+    c: u32,
+    seeds: &[u32],
+    steps: &mut Steps<L>,
+) -> Result<Built<Crumbs>, BrzFault>
+    requires ratio { IsRatio c }
+    requires some { 0 < length seeds.now }
+    requires keys { 0 < length held.old.keys }
+    ensures many { IfOk result (λ b. b.m ≡ length held.old.keys) }
+    ensures made { IfOk result (λ b. bucket_from held.old.keys c seeds.now ≡ Some (record { size = b.m; seed = b.seed; cells = ⟦<Crumbs as Cells>⟧.cells b.cells })) }
+    ensures first { IfOk result (λ b. (t : ℕ) × IsFirst bdz_rule held.old.keys c seeds.now t b.seed) }
+    ensures cells { IfOk result (λ b. length (⟦<Crumbs as Cells>⟧.cells b.cells) ≡ bdz_size b.m c) }
+    ensures busy { IfOk result (λ b. count_by (is_busy 3) (⟦<Crumbs as Cells>⟧.cells b.cells) ≡ b.m) }
+    ensures steps { steps.new ≤ steps.old + 24 * length held.old.keys * length seeds.now }
+    ensures fault { IfErr result (FailsBucket held.old.keys c seeds.now place) }
+{
+    match build_with::<BdzScheme, Xored<3>, BucketKeys, 3, L>(
+        alloc,
+        &BdzScheme {},
+        held,
+        key,
+        c,
+        seeds,
+        steps,
+    ) {
+        Ok(built) => Ok(built),
+        Err(BuildFault::Memory) => Err(BrzFault::Memory),
+        Err(BuildFault::Cored(certificate)) => {
+            Err(BrzFault::Cored(in_bucket(certificate, place)))
+        }
+        // The keys are in memory: there is one, and each pass gives all of them.
+        Err(_) => unreachable!(),
+    }
+}
+
+/// Adds a bucket to the function.
+fn push_bucket(parts: &mut BrzParts, size: u32, seed: u32, cells: Crumbs) -> Result<(), BrzFault>
+    requires small { size ≤ MAX_BUCKET }
+    requires room { length parts.old.buckets < bucket_count parts.old.keys parts.old.width }
+    requires cells { length (⟦<Crumbs as Cells>⟧.cells cells) ≡ bucket_cells size parts.old.ratio }
+    requires busy { count_by (is_busy 3) (⟦<Crumbs as Cells>⟧.cells cells) ≡ size }
+    requires unseeded { size ≡ 0 → seed ≡ 0 }
+    requires within { keys_in parts.old.buckets + size ≤ parts.old.keys }
+    requires all { length parts.old.buckets + 1 ≡ bucket_count parts.old.keys parts.old.width → keys_in parts.old.buckets + size ≡ parts.old.keys }
+    ensures pushed { OnOk result (parts.new ≡ with_bucket parts.old (record { size = size; seed = seed; cells = ⟦<Crumbs as Cells>⟧.cells cells })) }
+    ensures memory { IfErr result (λ e. e ≡ brz_fault.Memory) }
+{
+    match parts.push(size as u8, seed, cells) {
+        Ok(()) => Ok(()),
+        Err(PartsFault::Memory) => Err(BrzFault::Memory),
+        // It has as many cells that are not idle as keys, and the buckets have all keys that were counted.
+        Err(PartsFault::BadCount) => unreachable!(),
+    }
+}
+
+/// Builds the function of a bucket's keys and adds it. A bucket without keys has none. The buffer is for its use.
+fn add_bucket<L: Ledger>(
+    alloc: Global,
+    held: &mut BucketKeys,
+    key: &mut KeyBuf,
+    place: InBucket,
+    c: u32,
+    seeds: &[u32],
+    parts: &mut BrzParts,
+    steps: &mut Steps<L>,
+) -> Result<(), BrzFault>
+    requires ratio { IsRatio c }
+    requires some { 0 < length seeds.now }
+    requires same { parts.old.ratio ≡ c }
+    requires small { length held.old.keys ≤ MAX_BUCKET }
+    requires room { length parts.old.buckets < bucket_count parts.old.keys parts.old.width }
+    requires within { keys_in parts.old.buckets + length held.old.keys ≤ parts.old.keys }
+    requires all { length parts.old.buckets + 1 ≡ bucket_count parts.old.keys parts.old.width → keys_in parts.old.buckets + length held.old.keys ≡ parts.old.keys }
+    ensures pushed { OnOk result (PushesBucket parts.old parts.new held.old.keys c seeds.now) }
+    ensures steps { steps.new ≤ steps.old + 24 * length held.old.keys * length seeds.now }
+    ensures fault { IfErr result (FailsBucket held.old.keys c seeds.now place) }
+{
+    if held.len() == 0 {
+        let cells = Crumbs::zeroed(alloc, 0, 4)?;
+        push_bucket(parts, 0, 0, cells)?;
+        return Ok(());
+    }
+    let built = build_bucket(alloc, held, key, place, c, seeds, steps)?;
+    push_bucket(parts, built.m, built.seed, built.cells)?;
+    Ok(())
+}
+
+/// Reads each bucket's keys from the store, and builds and adds its function, one bucket after another. The buffer is for its use.
+pub(crate) fn build_buckets<B: Store, L: Ledger>(
+    alloc: Global,
+    store: &mut B,
+    key: &mut KeyBuf,
+    split: u32,
+    sizes: &[u32],
+    c: u32,
+    seeds: &[u32],
+    parts: &mut BrzParts,
+    steps: &mut Steps<L>,
+) -> Result<(), BrzFault>
+    requires ratio { IsRatio c }
+    requires some { 0 < length seeds.now }
+    requires store { IsTrue (B.usable store.old) }
+    requires sealed { B.sealed store.old ≡ true }
+    requires asks { B.may_ask store.old 0 }
+    requires none { (j : ℕ) → (B.given store.old j ≡ 0) × (B.given_last store.old j ≡ 0) }
+    requires small { (j : ℕ) → j < length sizes.now → slice_index sizes.now j ≤ MAX_BUCKET }
+    requires new { (parts.old.buckets ≡ []) × (parts.old.ratio ≡ c) }
+    requires few { length sizes.now ≤ MAX_KEYS }
+    requires count { length sizes.now ≡ bucket_count parts.old.keys parts.old.width }
+    requires all { sum sizes.now ≡ parts.old.keys }
+    ensures same { OnOk result (parts.new ≡ record parts.old { buckets = parts.new.buckets }) }
+    ensures count { OnOk result (length parts.new.buckets ≡ length sizes.now) }
+    ensures cause { HasSpillCause (B.faults store.old) (B.faults store.new) result }
+    ensures built { (records : List Record) → B.holds store.old records → OnOk result (B.holds store.new records × AreBuilt (keys_in_bucket records) c seeds.now parts.new.buckets) }
+    ensures fault { (records : List Record) → B.holds store.old records → HaveSizes records sizes.now (length sizes.now) → IfErr result (FailsBuckets (keys_in_bucket records) (length sizes.now) c split seeds.now) }
+    ensures form { IfErr result (HasBuildingForm seeds.now) }
+    ensures steps { steps.new ≤ steps.old + 24 * parts.old.keys * length seeds.now }
+{
+    let mut held = BucketKeys::new(alloc);
+    for (j, size) in sizes.iter().enumerate() {
+        let bucket = j as u32;
+        read_bucket(store, bucket, *size, &mut held, key)?;
+        let place = InBucket { split, bucket };
+        add_bucket(alloc, &mut held, key, place, c, seeds, parts, steps)?;
+    }
+    Ok(())
+}

@@ -1,0 +1,426 @@
+//! From keys to buckets, through a store.
+ghost use Rattle.std.specs.Prelude.{◌≡◌, ◌≢◌, ℕ, ◌+◌, ◌*◌, ◌<◌, ◌≤◌, List, [], length, slice_index, sum, IfOk, IfErr, IfSome, IfNone, IsTrue, OnOk, Contains, None, Some, Ok, Err, true, false};
+ghost use Rattle.std.specs.Option.{ForSome};
+ghost use Rattle.cm_outer.specs.Passes.{Ends};
+ghost use Rattle.cm_outer.specs.declared.key_pass.TheConstants.{MAX_KEYS};
+ghost use Rattle.cm_brz.specs.BrzOf.{AreBuilt, IsBrzOf};
+ghost use Rattle.cm_brz.specs.Fails.{FailsBrz, FailsBuckets, FailsPassing, HasBrzForm, HasBuildingForm, HasKeysCause, HasOverfullForm, HasPassingForm, HasSpillCause, IsDamage, RefusesOverfull};
+ghost use Rattle.cm_brz.specs.Passes.{AreCounted};
+ghost use Rattle.cm_brz.specs.Puts.{AreAllPut, FailsPut, HasPutCause, HaveSizes, IsPutFault, PutsOne, keys_in_bucket, records_under};
+ghost use Rattle.cm_brz.specs.Records.{Record};
+ghost use Rattle.cm_brz.specs.Split.{AreSizes, GivesBucket, size_of_bucket, split_of};
+ghost use Rattle.cm_buckets.specs.Functions.{bucket_count};
+ghost use Rattle.cm_buckets.specs.declared.limits.TheConstants.{MAX_BUCKET, MAX_WIDTH, MIN_WIDTH};
+ghost use Rattle.cm_spec.specs.Rule.{IsRatio};
+
+use crate::buckets::build_buckets;
+use crate::fault::{BrzFault, PutFault};
+use crate::overfull::gather_equal;
+use crate::split::{Overfull, Split, choose_split};
+use crate::store::Store;
+use cm_algo::count_all;
+use cm_buckets::{Brz, BrzParts};
+use cm_graph::Steps;
+use cm_outer::{KeyBuf, KeyPass};
+use cm_scheme::Divisor;
+use std::alloc::Global;
+use std::sync::ledger::Ledger;
+
+/// Puts the next key into the store, and returns its bucket, or none at the end. The buffer is for its use.
+fn put_next<P: KeyPass, B: Store>(
+    alloc: Global,
+    keys: &mut P,
+    key: &mut KeyBuf,
+    split: &Split,
+    store: &mut B,
+) -> Result<Option<u32>, PutFault>
+    requires usable { IsTrue (P.usable keys.old) }
+    requires store { IsTrue (B.usable store.old) }
+    requires open { B.sealed store.old ≡ false }
+    requires last { B.put_last store.old ≡ P.last keys.old }
+    ensures told { P.told keys.new ≡ P.told keys.old }
+    ensures cause { HasPutCause (P.faults keys.old) (P.faults keys.new) (B.faults store.old) (B.faults store.new) result }
+    ensures counts { IfOk result (λ o. IfSome o (λ _. P.place keys.new ≡ P.place keys.old + 1)) }
+    ensures below { IfOk result (λ o. IfSome o (λ j. j < split.now.buckets)) }
+    ensures usable { OnOk result (P.usable keys.new ≡ true) }
+    ensures store { OnOk result (B.usable store.new ≡ true) }
+    ensures open { OnOk result (B.sealed store.new ≡ false) }
+    ensures last { OnOk result (B.put_last store.new ≡ P.last keys.new) }
+    ensures gives { IfOk result (λ o. IfSome o (λ j. ForSome (P.told keys.old) (λ told. GivesBucket told (P.place keys.old) (P.place keys.new) split.now.buckets split.now.seed (Ok (Some j))))) }
+    ensures puts { (records : List Record) → B.holds store.old records → IfOk result (λ o. IfSome o (λ j. PutsOne (B.holds store.new) (P.told keys.old) (P.place keys.old) (P.place keys.new) split.now.buckets split.now.seed j records)) }
+    ensures kept { (records : List Record) → B.holds store.old records → IfOk result (λ o. IfNone o (B.holds store.new records)) }
+    ensures ends { IfOk result (λ o. IfNone o (ForSome (P.told keys.old) (λ told. Ends told (P.place keys.old) None))) }
+    ensures undamaged { IfErr result IsPutFault }
+    ensures fault { IfErr result (λ e. ForSome (P.told keys.old) (λ told. FailsPut told e)) }
+{
+    if !keys.next(key)? {
+        return Ok(None);
+    }
+    let bucket = split.bucket_of(key.as_slice());
+    store.put(alloc, bucket, keys.line(), key.as_slice())?;
+    Ok(Some(bucket))
+}
+
+/// The first bucket for which another number of keys was put than was counted.
+fn find_other(sizes: &[u32], put: &[u32]) -> Option<usize>
+    requires long { length put.now ≡ length sizes.now }
+    ensures some { IfSome result (λ j. (j < length sizes.now) × (slice_index sizes.now j ≢ slice_index put.now j)) }
+    ensures lowest { IfSome result (λ j. (i : ℕ) → i < j → slice_index put.now i ≡ slice_index sizes.now i) }
+    ensures none { IfNone result ((i : ℕ) → i < length sizes.now → slice_index put.now i ≡ slice_index sizes.now i) }
+{
+    for (j, size) in sizes.iter().enumerate() {
+        if *size != put[j] {
+            return Some(j);
+        }
+    }
+    None
+}
+
+/// Puts all keys, which are to be `m`, into the store in one pass, each with its bucket and its line, and counts those of each bucket.
+/// The buffer is for its use.
+fn put_each<P: KeyPass, B: Store>(
+    alloc: Global,
+    keys: &mut P,
+    key: &mut KeyBuf,
+    m: u32,
+    split: &Split,
+    put: &mut [u32],
+    store: &mut B,
+) -> Result<(), BrzFault>
+    requires few { m ≤ MAX_KEYS }
+    requires long { length put.old ≡ split.now.buckets }
+    requires store { IsTrue (B.usable store.old) }
+    requires open { B.sealed store.old ≡ false }
+    requires new { B.put_last store.old ≡ 0 }
+    requires counted { ForSome (P.told keys.old) (AreCounted m) }
+    ensures told { P.told keys.new ≡ P.told keys.old }
+    ensures keys_cause { HasKeysCause (P.faults keys.old) (P.faults keys.new) result }
+    ensures spill_cause { HasSpillCause (B.faults store.old) (B.faults store.new) result }
+    ensures store { OnOk result (B.usable store.new ≡ true) }
+    ensures open { OnOk result (B.sealed store.new ≡ false) }
+    ensures sizes { OnOk result (ForSome (P.told keys.old) (λ told. AreSizes put.new told.keys split.now.buckets split.now.seed)) }
+    ensures put { B.holds store.old [] → OnOk result (AreAllPut (B.holds store.new) (P.told keys.old) put.new split.now.buckets split.now.seed) }
+    ensures fault { IfErr result (λ e. ForSome (P.told keys.old) (λ told. FailsPassing told e)) }
+    ensures form { IfErr result HasPassingForm }
+{
+    keys.rewind()?;
+    put.fill(0);
+    for count in 0..m {
+        match put_next(alloc, keys, key, split, store)? {
+            Some(bucket) => put[bucket as usize] += 1,
+            None => {
+                return Err(BrzFault::Changed {
+                    first: m,
+                    now: count,
+                });
+            }
+        }
+    }
+    if keys.next(key)? {
+        return Err(BrzFault::Changed {
+            first: m,
+            now: m + 1,
+        });
+    }
+    Ok(())
+}
+
+/// Puts all keys into the store, each with its bucket and its line, in one pass, and compares: the keys are to be `m`, and each bucket
+/// is to have as many as were counted. The buffer is for its use.
+fn put_keys<P: KeyPass, B: Store>(
+    alloc: Global,
+    keys: &mut P,
+    key: &mut KeyBuf,
+    m: u32,
+    split: &Split,
+    sizes: &[u32],
+    store: &mut B,
+) -> Result<(), BrzFault>
+    requires few { m ≤ MAX_KEYS }
+    requires long { length sizes.now ≡ split.now.buckets }
+    requires store { IsTrue (B.usable store.old) }
+    requires open { B.sealed store.old ≡ false }
+    requires new { B.put_last store.old ≡ 0 }
+    requires counted { ForSome (P.told keys.old) (AreCounted m) }
+    requires sizes { ForSome (P.told keys.old) (λ told. AreSizes sizes.now told.keys split.now.buckets split.now.seed) }
+    ensures told { P.told keys.new ≡ P.told keys.old }
+    ensures keys_cause { HasKeysCause (P.faults keys.old) (P.faults keys.new) result }
+    ensures spill_cause { HasSpillCause (B.faults store.old) (B.faults store.new) result }
+    ensures store { OnOk result (B.usable store.new ≡ true) }
+    ensures open { OnOk result (B.sealed store.new ≡ false) }
+    ensures put { B.holds store.old [] → OnOk result (AreAllPut (B.holds store.new) (P.told keys.old) sizes.now split.now.buckets split.now.seed) }
+    ensures fault { IfErr result (λ e. ForSome (P.told keys.old) (λ told. FailsPassing told e)) }
+    ensures form { IfErr result HasPassingForm }
+{
+    let mut table = vec![in alloc; 0; sizes.len()]?;
+    let put: &mut [u32] = &mut table;
+    put_each(alloc, keys, key, m, split, put, store)?;
+    match find_other(sizes, put) {
+        Some(j) => Err(BrzFault::Changed {
+            first: sizes[j],
+            now: put[j],
+        }),
+        None => Ok(()),
+    }
+}
+
+/// `put_keys`, and then the store is sealed.
+fn put_all<P: KeyPass, B: Store>(
+    alloc: Global,
+    keys: &mut P,
+    key: &mut KeyBuf,
+    m: u32,
+    split: &Split,
+    sizes: &[u32],
+    store: &mut B,
+) -> Result<(), BrzFault>
+    requires few { m ≤ MAX_KEYS }
+    requires long { length sizes.now ≡ split.now.buckets }
+    requires store { IsTrue (B.usable store.old) }
+    requires open { B.sealed store.old ≡ false }
+    requires new { B.put_last store.old ≡ 0 }
+    requires counted { ForSome (P.told keys.old) (AreCounted m) }
+    requires sizes { ForSome (P.told keys.old) (λ told. AreSizes sizes.now told.keys split.now.buckets split.now.seed) }
+    ensures told { P.told keys.new ≡ P.told keys.old }
+    ensures keys_cause { HasKeysCause (P.faults keys.old) (P.faults keys.new) result }
+    ensures spill_cause { HasSpillCause (B.faults store.old) (B.faults store.new) result }
+    ensures store { OnOk result (B.usable store.new ≡ true) }
+    ensures sealed { OnOk result (B.sealed store.new ≡ true) }
+    ensures asks { OnOk result (B.may_ask store.new 0) }
+    ensures none { OnOk result ((j : ℕ) → (B.given store.new j ≡ 0) × (B.given_last store.new j ≡ 0)) }
+    ensures put { B.holds store.old [] → OnOk result (AreAllPut (B.holds store.new) (P.told keys.old) sizes.now split.now.buckets split.now.seed) }
+    ensures fault { IfErr result (λ e. ForSome (P.told keys.old) (λ told. FailsPassing told e)) }
+    ensures form { IfErr result HasPassingForm }
+{
+    put_keys(alloc, keys, key, m, split, sizes, store)?;
+    store.seal(alloc)?;
+    Ok(())
+}
+
+/// The refusal for an overfull bucket, with the equal keys in it. The keys are passed once more. The buffer is for its use.
+fn refuse_overfull<P: KeyPass>(
+    alloc: Global,
+    keys: &mut P,
+    key: &mut KeyBuf,
+    m: u32,
+    split: &Split,
+    over: Overfull,
+) -> BrzFault
+    requires few { m ≤ MAX_KEYS }
+    requires over { MAX_BUCKET < over.count }
+    requires counted { ForSome (P.told keys.old) (AreCounted m) }
+    requires size { ForSome (P.told keys.old) (λ told. over.count ≡ size_of_bucket told.keys split.now.buckets split.now.seed over.bucket) }
+    ensures told { P.told keys.new ≡ P.told keys.old }
+    ensures cause { HasKeysCause {T = Unit {0}} (P.faults keys.old) (P.faults keys.new) (Err result) }
+    ensures undamaged { IsDamage result → ⊥ }
+    ensures shows { ForSome (P.told keys.old) (λ told. RefusesOverfull told split.now.buckets split.now.seed over.bucket over.count result) }
+    ensures form { HasOverfullForm split.now.seed over.count result }
+    ensures spill { (n : ℕ) → HasSpillCause {T = Unit {0}} n n (Err result) }
+{
+    match gather_equal(alloc, keys, key, m, split, over) {
+        Ok(equal) => BrzFault::Overfull {
+            seed: split.seed,
+            bucket: over.bucket,
+            count: over.count,
+            equal,
+        },
+        Err(fault) => fault.into(),
+    }
+}
+
+/// How many buckets `m` keys are split into, with `b` keys a bucket on average.
+fn bucket_total(m: u32, b: u8) -> u32
+    requires many { (1 ≤ m) × (m ≤ MAX_KEYS) }
+    requires some { 0 < b }
+    ensures count { result ≡ bucket_count m b }
+    ensures some { 0 < result }
+    ensures few { result ≤ m }
+{
+    (m + (b as u32 - 1)) / b as u32
+}
+
+/// How keys are split: the buckets, and how many keys each has.
+#[derive(Drop)]
+struct Splitting {
+    split: Split,
+    sizes: Vec<u32>,
+}
+
+/// The split of keys that were counted, into buckets of `b` keys on average. The buffer is for its use.
+fn split_keys<P: KeyPass>(
+    alloc: Global,
+    keys: &mut P,
+    key: &mut KeyBuf,
+    m: u32,
+    b: u8,
+    seeds: &[u32],
+) -> Result<Splitting, BrzFault>
+    requires many { (1 ≤ m) × (m ≤ MAX_KEYS) }
+    requires width { (MIN_WIDTH ≤ b) × (b ≤ MAX_WIDTH) }
+    requires some { 0 < length seeds.now }
+    requires counted { ForSome (P.told keys.old) (AreCounted m) }
+    ensures told { P.told keys.new ≡ P.told keys.old }
+    ensures cause { HasKeysCause (P.faults keys.old) (P.faults keys.new) result }
+    ensures buckets { IfOk result (λ s. (s.split.buckets ≡ bucket_count m b) × (length s.sizes.items ≡ bucket_count m b)) }
+    ensures seed { IfOk result (λ s. Contains seeds.now s.split.seed) }
+    ensures all { IfOk result (λ s. sum s.sizes.items ≡ m) }
+    ensures small { IfOk result (λ s. (j : ℕ) → j < length s.sizes.items → slice_index s.sizes.items j ≤ MAX_BUCKET) }
+    ensures sizes { IfOk result (λ s. ForSome (P.told keys.old) (λ told. AreSizes s.sizes.items told.keys s.split.buckets s.split.seed)) }
+    ensures first { IfOk result (λ s. ForSome (P.told keys.old) (λ told. split_of told.keys (bucket_count (length told.keys) b) seeds.now ≡ Some s.split.seed)) }
+    ensures fault { IfErr result (λ e. ForSome (P.told keys.old) (λ told. (c : ℕ) → FailsBrz told c b seeds.now e)) }
+    ensures form { IfErr result (HasBrzForm seeds.now) }
+    ensures undamaged { IfErr result (λ e. IsDamage e → ⊥) }
+    ensures spill { (n : ℕ) → HasSpillCause n n result }
+{
+    let total = bucket_total(m, b);
+    let buckets = Divisor::new(total);
+    let mut sizes = vec![in alloc; 0; total as usize]?;
+    match choose_split(keys, key, m, buckets, seeds, &mut sizes)? {
+        Ok(split) => Ok(Splitting { split, sizes }),
+        Err(over) => {
+            let split = Split {
+                seed: seeds[0],
+                buckets,
+            };
+            Err(refuse_overfull(alloc, keys, key, m, &split, over))
+        }
+    }
+}
+
+/// The function of `m` keys that were put into the store by their buckets. The buffer is for its use.
+fn build_function<B: Store, L: Ledger>(
+    alloc: Global,
+    store: &mut B,
+    key: &mut KeyBuf,
+    splitting: &Splitting,
+    m: u32,
+    c: u32,
+    b: u8,
+    seeds: &[u32],
+    steps: &mut Steps<L>,
+) -> Result<Brz, BrzFault>
+    requires many { (1 ≤ m) × (m ≤ MAX_KEYS) }
+    requires ratio { IsRatio c }
+    requires width { (MIN_WIDTH ≤ b) × (b ≤ MAX_WIDTH) }
+    requires some { 0 < length seeds.now }
+    requires store { IsTrue (B.usable store.old) }
+    requires sealed { B.sealed store.old ≡ true }
+    requires asks { B.may_ask store.old 0 }
+    requires none { (j : ℕ) → (B.given store.old j ≡ 0) × (B.given_last store.old j ≡ 0) }
+    requires few { length splitting.now.sizes.items ≤ MAX_KEYS }
+    requires count { length splitting.now.sizes.items ≡ bucket_count m b }
+    requires all { sum splitting.now.sizes.items ≡ m }
+    requires small { (j : ℕ) → j < length splitting.now.sizes.items → slice_index splitting.now.sizes.items j ≤ MAX_BUCKET }
+    ensures numbers { IfOk result (λ f. (f.keys ≡ m) × (f.ratio ≡ c) × (f.width ≡ b) × (f.split ≡ splitting.now.split.seed)) }
+    ensures count { IfOk result (λ f. length f.buckets ≡ bucket_count m b) }
+    ensures cause { HasSpillCause (B.faults store.old) (B.faults store.new) result }
+    ensures built { (records : List Record) → B.holds store.old records → IfOk result (λ f. B.holds store.new records × AreBuilt (keys_in_bucket records) c seeds.now f.buckets) }
+    ensures fault { (records : List Record) → B.holds store.old records → HaveSizes records splitting.now.sizes.items (bucket_count m b) → IfErr result (FailsBuckets (keys_in_bucket records) (bucket_count m b) c splitting.now.split.seed seeds.now) }
+    ensures form { IfErr result (HasBuildingForm seeds.now) }
+    ensures steps { steps.new ≤ steps.old + 24 * m * length seeds.now }
+{
+    let mut parts = BrzParts::new(alloc, m, c, b, splitting.split.seed);
+    build_buckets(
+        alloc,
+        store,
+        key,
+        splitting.split.seed,
+        &splitting.sizes,
+        c,
+        seeds,
+        &mut parts,
+        steps,
+    )?;
+    Ok(parts.finish())
+}
+
+/// `brz_over` of keys that were counted. The buffer is for its use.
+fn brz_counted<P: KeyPass, B: Store, L: Ledger>(
+    alloc: Global,
+    keys: &mut P,
+    key: &mut KeyBuf,
+    store: &mut B,
+    m: u32,
+    c: u32,
+    b: u8,
+    seeds: &[u32],
+    steps: &mut Steps<L>,
+) -> Result<Brz, BrzFault>
+    requires many { (1 ≤ m) × (m ≤ MAX_KEYS) }
+    requires ratio { IsRatio c }
+    requires width { (MIN_WIDTH ≤ b) × (b ≤ MAX_WIDTH) }
+    requires some { 0 < length seeds.now }
+    requires store { IsTrue (B.usable store.old) }
+    requires open { B.sealed store.old ≡ false }
+    requires new { B.put_last store.old ≡ 0 }
+    requires counted { ForSome (P.told keys.old) (AreCounted m) }
+    ensures told { P.told keys.new ≡ P.told keys.old }
+    ensures keys_cause { HasKeysCause (P.faults keys.old) (P.faults keys.new) result }
+    ensures spill_cause { HasSpillCause (B.faults store.old) (B.faults store.new) result }
+    ensures numbers { IfOk result (λ f. (f.ratio ≡ c) × (f.width ≡ b) × Contains seeds.now f.split) }
+    ensures made { B.holds store.old [] → IfOk result (λ f. ForSome (P.told keys.old) (λ told. IsBrzOf told.keys c b seeds.now f)) }
+    ensures put { B.holds store.old [] → IfOk result (λ f. ForSome (P.told keys.old) (λ told. B.holds store.new (records_under told.keys (length f.buckets) f.split))) }
+    ensures fault { B.holds store.old [] → IfErr result (λ e. ForSome (P.told keys.old) (λ told. FailsBrz told c b seeds.now e)) }
+    ensures undamaged { B.holds store.old [] → IfErr result (λ e. IsDamage e → ⊥) }
+    ensures form { IfErr result (HasBrzForm seeds.now) }
+    ensures steps { steps.new ≤ steps.old + 24 * m * length seeds.now }
+{
+    let splitting = match split_keys(alloc, keys, key, m, b, seeds) {
+        Ok(splitting) => splitting,
+        Err(fault) => return Err(fault),
+    };
+    put_all(
+        alloc,
+        keys,
+        key,
+        m,
+        &splitting.split,
+        &splitting.sizes,
+        store,
+    )?;
+    match build_function(alloc, store, key, &splitting, m, c, b, seeds, steps) {
+        Ok(function) => Ok(function),
+        Err(fault) => Err(fault),
+    }
+}
+
+/// The function by BRZ of the keys of a pass: the first seed of the list by which no bucket has more than `MAX_BUCKET` keys splits them
+/// into buckets of `b` on average, and each bucket takes the first seed of the list whose graph by BDZ has an empty 2-core. The ratio
+/// `c` is in millionths. The keys wait for their buckets in the store, which is new. They are passed once to be counted, once for each
+/// seed that is tried for the split, and once to be put into the store, or to gather the equal keys of an overfull bucket.
+pub(crate) fn brz_over<P: KeyPass, B: Store, L: Ledger>(
+    alloc: Global,
+    keys: &mut P,
+    store: &mut B,
+    c: u32,
+    b: u8,
+    seeds: &[u32],
+    steps: &mut Steps<L>,
+) -> Result<Brz, BrzFault>
+    requires ratio { IsRatio c }
+    requires width { (MIN_WIDTH ≤ b) × (b ≤ MAX_WIDTH) }
+    requires some { 0 < length seeds.now }
+    requires store { IsTrue (B.usable store.old) }
+    requires open { B.sealed store.old ≡ false }
+    requires new { B.put_last store.old ≡ 0 }
+    ensures told { P.told keys.new ≡ P.told keys.old }
+    ensures keys_cause { HasKeysCause (P.faults keys.old) (P.faults keys.new) result }
+    ensures spill_cause { HasSpillCause (B.faults store.old) (B.faults store.new) result }
+    ensures numbers { IfOk result (λ f. (f.ratio ≡ c) × (f.width ≡ b) × Contains seeds.now f.split) }
+    ensures made { B.holds store.old [] → IfOk result (λ f. ForSome (P.told keys.old) (λ told. (told.fault ≡ None) × IsBrzOf told.keys c b seeds.now f)) }
+    ensures put { B.holds store.old [] → IfOk result (λ f. ForSome (P.told keys.old) (λ told. B.holds store.new (records_under told.keys (length f.buckets) f.split))) }
+    ensures fault { B.holds store.old [] → IfErr result (λ e. ForSome (P.told keys.old) (λ told. FailsBrz told c b seeds.now e)) }
+    ensures undamaged { B.holds store.old [] → IfErr result (λ e. IsDamage e → ⊥) }
+    ensures form { IfErr result (HasBrzForm seeds.now) }
+    ensures steps { ForSome (P.told keys.old) (λ told. steps.new ≤ steps.old + 24 * length told.keys * length seeds.now) }
+{
+    let mut key = KeyBuf::new();
+    let m = count_all(keys, &mut key)?;
+    if m == 0 {
+        return Err(BrzFault::NoKeys);
+    }
+    match brz_counted(alloc, keys, &mut key, store, m, c, b, seeds, steps) {
+        Ok(function) => Ok(function),
+        Err(fault) => Err(fault),
+    }
+}

@@ -1,0 +1,50 @@
+//! The report on an overfull bucket as text.
+ghost use Rattle.std.specs.Prelude.{◌≡◌, ◌++◌};
+ghost use Rattle.cm_outer.specs.Causes.{HasCause};
+ghost use Rattle.cm_outer.specs.Writing.{Writes};
+ghost use Rattle.cm_brz.specs.Reports.{overfull_head, overfull_text};
+
+use arrayvec::ArrayVec;
+use cm_outer::{Failed, Sink};
+use cm_witness::{Pair, append, append_number, write_pairs};
+use itoa::Buffer;
+
+/// Room for any first line.
+const HEAD_ROOM: usize = 64;
+
+/// Writes the first line as one piece.
+fn write_head<O: Sink>(
+    seed: u32,
+    bucket: u32,
+    count: u32,
+    out: &mut O,
+    buffer: &mut Buffer,
+) -> Result<(), Failed>
+    ensures line { Writes (O.written out.old) (O.written out.new) (overfull_head seed bucket count) result }
+    ensures cause { HasCause (O.faults out.old) (O.faults out.new) result }
+{
+    let mut line = ArrayVec::<u8, HEAD_ROOM>::new();
+    append_number(&mut line, b"overfull brz seed ", seed, buffer);
+    append_number(&mut line, b" bucket ", bucket, buffer);
+    append_number(&mut line, b" keys ", count, buffer);
+    append(&mut line, b"\n");
+    out.write(line.as_slice())
+}
+
+/// Writes the report on an overfull bucket: the seed of the split, the bucket, from 0, and its number of keys, and then each pair of
+/// equal keys, each in a line of its own. Takes no memory. Fails exactly where the sink does, which has then taken a prefix of the
+/// text.
+pub fn write_overfull<O: Sink>(
+    seed: u32,
+    bucket: u32,
+    count: u32,
+    equal: &[Pair],
+    out: &mut O,
+) -> Result<(), Failed>
+    ensures text { Writes (O.written out.old) (O.written out.new) (overfull_text seed bucket count equal.now) result }
+    ensures cause { HasCause (O.faults out.old) (O.faults out.new) result }
+{
+    let mut buffer = Buffer::new();
+    write_head(seed, bucket, count, out, &mut buffer)?;
+    write_pairs(out, equal, &mut buffer)
+}
