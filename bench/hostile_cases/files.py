@@ -100,6 +100,23 @@ for each in NAMES:
     case(f"5,000 damaged function files of {each.upper()}, each asked for some keys")(functools.partial(damaged_dumps, each))
 
 
+@case("5,000 damaged function files of BRZ, which no command builds yet, each asked for some keys")
+def _(machine: Machine, row: Row) -> None:
+    rng = random.Random("damaged dumps of brz")
+    bases = []
+    for count in (1, 2, 8, 34, 64, 65, 128, 129, 300, 400):
+        keys = sample_keys(rng, count)
+        bases.append((keys, model.split(keys, 64 + count % 112, count)))
+    for keys, dump in bases:
+        put("keys", keys)
+        checked_query(machine, row, dump, keys)
+    dumps = [dump for _, dump in bases]
+    asked = b"".join(rng.choice(keys.splitlines(keepends=True)) for keys, _ in bases) + b"\nstranger\nlonger than twelve bytes\n"
+    put("keys", asked)
+    for _ in range(machine.count(5000)):
+        checked_query(machine, row, damaged(rng, rng.choice(dumps), dumps), asked)
+
+
 # Random files
 
 

@@ -12,7 +12,7 @@ sys.path.append(str(Path(__file__).resolve().parents[2] / "docs"))
 from draw import words  # noqa: E402  the hash lookup2
 
 MOST_KEYS, LONGEST = 16_777_216, 65_535
-NUMBERS = {"chm": 1, "bdz": 2, "bdz_ph": 3}
+NUMBERS = {"chm": 1, "bdz": 2, "bdz_ph": 3, "brz": 4}
 NAMES = {number: name for name, number in NUMBERS.items()}
 RATIOS = {"chm": 2_090_000, "bdz": 1_230_000, "bdz_ph": 1_230_000}
 NO_SEED = "no seed of the list gives an empty core"
@@ -61,6 +61,20 @@ class Function(NamedTuple):
     cells: list[int]
 
 
+class Split(NamedTuple):
+    """A function by BRZ: in each bucket a function by BDZ, or none if no key lies there."""
+
+    keys: int  # how many
+    ratio: int  # in millionths
+    seed: int
+    b: int
+    buckets: list[Function | None]
+
+
+def bucket_of(key: bytes, seed: int, buckets: int) -> int:
+    return words(key, seed ^ 0xFFFFFFFF)[2] % buckets
+
+
 def size_of(name: str, keys: int, ratio: int) -> int:
     """The number of vertices."""
     if name == "chm":
@@ -79,7 +93,11 @@ def edge_of(name: str, key: bytes, seed: int, n: int) -> list[int]:
     return [first % r, r + second % r, 2 * r + third % r]
 
 
-def answer_of(f: Function, key: bytes) -> int | None:
+def answer_of(f: Function | Split, key: bytes) -> int | None:
+    if isinstance(f, Split):
+        at = bucket_of(key, f.seed, len(f.buckets))
+        value = answer_of(f.buckets[at], key) if f.buckets[at] else None
+        return None if value is None else sum(each.keys for each in f.buckets[:at] if each) + value
     ends = edge_of(f.name, key, f.seed, len(f.cells))
     total = sum(f.cells[end] for end in ends)
     if f.name == "chm":
@@ -99,16 +117,27 @@ def samples_of(cells: list[int], b: int) -> list[int]:
     return [sum(cell != 3 for cell in cells[:at]) for at in range(0, len(cells), 2**b)]
 
 
+def image_of(cells: list[int], base: int, each: int) -> bytes:
+    groups = [cells[at : at + each] for at in range(0, len(cells), each)]
+    return bytes(sum(cell * base**at for at, cell in enumerate(group)) for group in groups)
+
+
+def head_of(name: str, b: int, keys: int, ratio: int, seed: int) -> bytes:
+    return b"CMPHDMP1" + bytes([NUMBERS[name], b, 0, 0]) + b"".join(number.to_bytes(4, "little") for number in (keys, ratio, seed))
+
+
+def dump_of_split(f: Split) -> bytes:
+    buckets = [bytes([each.keys]) + each.seed.to_bytes(4, "little") + image_of(each.cells, 4, 4) if each else bytes(5) for each in f.buckets]
+    return head_of("brz", f.b, f.keys, f.ratio, f.seed) + b"".join(buckets)
+
+
 def dump_of(f: Function) -> bytes:
-    numbers = b"".join(number.to_bytes(4, "little") for number in (f.keys, f.ratio, f.seed))
-    head = b"CMPHDMP1" + bytes([NUMBERS[f.name], f.b, 0, 0]) + numbers
+    head = head_of(f.name, f.b, f.keys, f.ratio, f.seed)
     if f.name == "chm":
         width = width_of(f.keys)
         image = sum(cell << width * at for at, cell in enumerate(f.cells))
         return head + image.to_bytes((len(f.cells) * width + 7) // 8, "little")
-    base, each = (4, 4) if f.name == "bdz" else (3, 5)
-    groups = [f.cells[at : at + each] for at in range(0, len(f.cells), each)]
-    image = bytes(sum(cell * base**at for at, cell in enumerate(group)) for group in groups)
+    image = image_of(f.cells, *((4, 4) if f.name == "bdz" else (3, 5)))
     ranks = samples_of(f.cells, f.b) if f.name == "bdz" else []
     return head + image + b"".join(rank.to_bytes(4, "little") for rank in ranks)
 
@@ -141,30 +170,57 @@ def fields(image: bytes, n: int, keys: int) -> list[int]:
     return cells
 
 
-def digits(image: bytes, n: int, base: int, each: int) -> list[int]:
+def digits(image: bytes, n: int, base: int, each: int, begin: int = 24) -> list[int]:
     """The cells of BDZ and BDZ_PH: digits, so many in a byte."""
     for at, byte in enumerate(image):
         if byte >= base**each:
-            raise Fault(f"bad cell at {24 + at}")
+            raise Fault(f"bad cell at {begin + at}")
     cells = [byte // base**at % base for byte in image for at in range(each)]
     if any(cells[n:]):
-        raise Fault(f"bad padding at {23 + len(image)}")
+        raise Fault(f"bad padding at {begin - 1 + len(image)}")
     return cells[:n]
 
 
-def read_dump(data: bytes) -> Function:
+def read_buckets(data: bytes, b: int, keys: int, ratio: int, seed: int) -> Split:
+    """The buckets of a function by BRZ."""
+    buckets, at, held, count = [], 24, 0, -(-keys // b)
+    for left in reversed(range(count)):
+        size = item(data, at, 1)[0]
+        held += size
+        if held > keys or (left == 0 and held < keys):
+            raise Fault(f"bad count at {at}")
+        own = number(data, at + 1, 4, 0, 2**32 - 1 if size else 0)
+        at += 5
+        if not size:
+            buckets.append(None)
+            continue
+        n = size_of("bdz", size, ratio)
+        image = item(data, at, -(-n // 4))
+        cells = digits(image, n, 4, 4, at)
+        if sum(cell != 3 for cell in cells) != size:
+            raise Fault(f"bad count at {at}")
+        buckets.append(Function("bdz", size, ratio, own, 0, cells))
+        at += len(image)
+    if len(data) > at:
+        raise Fault("trailing bytes")
+    return Split(keys, ratio, seed, b, buckets)
+
+
+def read_dump(data: bytes) -> Function | Split:
     """The function that bytes spell, or their first fault."""
     if item(data, 0, 8) != b"CMPHDMP1":
         raise Fault("bad magic")
     name = NAMES.get(item(data, 8, 1)[0])
     if name is None:
         raise Fault("bad algorithm")
-    b = number(data, 9, 1, *((3, 10) if name == "bdz" else (0, 0)))
+    b = number(data, 9, 1, *{"bdz": (3, 10), "brz": (64, 175)}.get(name, (0, 0)))
     number(data, 10, 1, 0, 0)
     number(data, 11, 1, 0, 0)
     keys = number(data, 12, 4, 1, MOST_KEYS)
     ratio = number(data, 16, 4, 1_000_000, 10_000_000)
     seed = number(data, 20, 4, 0, 2**32 - 1)
+    if name == "brz":
+        return read_buckets(data, b, keys, ratio, seed)
     n = size_of(name, keys, ratio)
     each = {"bdz": 4, "bdz_ph": 5}.get(name)
     image = item(data, 24, -(-n // each) if each else (n * width_of(keys) + 7) // 8)
@@ -260,3 +316,15 @@ def build(name: str, keys_path: str, content: bytes, seed: int, seeds: int, rati
             return Ends(0, b"", b"", dump_of(f))
         first = first or report(name, seed, keys, edges, left)
     return Ends(1, first, said(NO_SEED))
+
+
+def split(content: bytes, b: int, seed: int, ratio: int = 1_230_000) -> bytes:
+    """The function by BRZ of distinct keys, none of whose buckets is too large, with the first seeds that work."""
+    keys = lines_of(content)
+    count, buckets = -(-len(keys) // b), []
+    for at in range(count):
+        mine = [key for key in keys if bucket_of(key, seed, count) == at]
+        built = build("bdz", "keys", b"".join(key + b"\n" for key in mine), seed, 100, ratio) if mine else None
+        f = read_dump(built.dump) if built else None
+        buckets.append(f._replace(b=0) if f else None)
+    return dump_of_split(Split(len(keys), ratio, seed, b, buckets))
