@@ -17,7 +17,7 @@ SECOND = 1.0  # how long a run may take, without what it waits for a processor
 MOST_C = 500  # runs of the C tool in a case
 GIB = 1 << 30
 OLDER = b"older"
-NAMES = list(model.NUMBERS)
+NAMES = ["chm", "bdz", "bdz_ph"]  # of the algorithms that builds offer
 
 
 class Left(NamedTuple):
