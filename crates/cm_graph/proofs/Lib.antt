@@ -1,5 +1,6 @@
 pub mod Chaining
 pub mod Chains
+pub mod Degrees
 pub mod Filled
 pub mod Linking
 pub mod Lone

@@ -8,7 +8,7 @@ use Rattle.std.proofs.lemmas.List.Folds.{list_any_at}
 use Rattle.std.proofs.lemmas.Nat.{mod_below}
 use Rattle.std.proofs.Math.ListN.{length-set}
 use Rattle.std.proofs.Math.Nat.{div-add-mod', mul-zero}
-use Rattle.std.proofs.lemmas.List.Sums.{sum_by-set}
+use Rattle.std.proofs.lemmas.List.Sums.{count_by-le-length, sum_by-set}
 use Rattle.std.proofs.lemmas.List.Folds.{sum_by-replicate}
 use Rattle.cm_graph.specs.Graph.{lies_in, slot_touches}
 use Rattle.cm_graph.specs.Next.{halves_at, half_at, AreNext, AreApart}
@@ -126,15 +126,23 @@ module _ {less more : List (List (Option ℕ))} {h : Half} (n : AreNext less mor
   touches_other v ne = same_touch v _ _ (λ i. in_more (h.place / 4) i v) (back v ne)
 
 -- the degrees
-module _ {less more : List (List (Option ℕ))} {h : Half} (n : AreNext less more h) (a : AreApart more) where
+module _ {less more : List (List (Option ℕ))} {h : Half} (n : AreNext less more h) where
   counts : (v : ℕ) → count_by (slot_touches v) more + cond (slot_touches v (halves_at less (h.place / 4))) 1 0 ≡ count_by (slot_touches v) less + cond (slot_touches v (halves_at more (h.place / 4))) 1 0
   counts v = ap (λ (slots : List (List (Option ℕ))). count_by (slot_touches v) slots + cond (slot_touches v (halves_at less (h.place / 4))) 1 0) n.is ∙ sum_by-set (λ x. cond (slot_touches v x) 1 0) less (h.place / 4) (halves_at more (h.place / 4)) [] n.within
 
+  pub count_new : slot_touches h.vertex (halves_at less (h.place / 4)) ≡ false → count_by (slot_touches h.vertex) more ≡ count_by (slot_touches h.vertex) less + 1
+  count_new free = omega (arith, counts h.vertex, ap (λ (b : Bool). cond {A = ℕ} b 1 0) free, ap (λ (b : Bool). cond {A = ℕ} b 1 0) (touches_more n))
+
+  -- there are fewer half-edges in a vertex than edges
+  pub count_below : slot_touches h.vertex (halves_at less (h.place / 4)) ≡ false → count_by (slot_touches h.vertex) less < length less
+  count_below free = omega (arith, count_new free, count_by-le-length (slot_touches h.vertex) more, long n)
+
+module _ {less more : List (List (Option ℕ))} {h : Half} (n : AreNext less more h) (a : AreApart more) where
   pub count_here : count_by (slot_touches h.vertex) more ≡ count_by (slot_touches h.vertex) less + 1
-  count_here = omega (arith, counts h.vertex, ap (λ (b : Bool). cond {A = ℕ} b 1 0) (touches_less n a), ap (λ (b : Bool). cond {A = ℕ} b 1 0) (touches_more n))
+  count_here = count_new n (touches_less n a)
 
   pub count_other : (v : ℕ) → v ≢ h.vertex → count_by (slot_touches v) more ≡ count_by (slot_touches v) less
-  count_other v ne = omega (arith, counts v, ap (λ (b : Bool). cond {A = ℕ} b 1 0) (touches_other n v ne))
+  count_other v ne = omega (arith, counts n v, ap (λ (b : Bool). cond {A = ℕ} b 1 0) (touches_other n v ne))
 
 -- where nothing is linked
 pub bare_half : (m e i v : ℕ) → half_at (replicate m []) e i ≡ Some v → ⊥

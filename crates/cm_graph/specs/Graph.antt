@@ -1,5 +1,5 @@
 -- What is seen of a list of edges, and of the linked ones among them.
-use Rattle.std.specs.Prelude.{◌≡◌, ◌≢◌, ℕ, ◌+◌, ◌*◌, ◌/◌, ◌%◌, ◌≤◌, Bool, false, ◌==◌, List, [], ◌∷◌, Option, None, Some, All, AllPairs, count_by, filter, map, slice_get, slice_index_or, slice_set}
+use Rattle.std.specs.Prelude.{◌≡◌, ◌≢◌, ℕ, ◌+◌, ◌*◌, ◌/◌, ◌%◌, ◌<◌, ◌≤◌, Bool, false, ◌==◌, List, [], ◌∷◌, Option, None, Some, All, AllPairs, count_by, filter, map, slice_get, slice_index_or, slice_set}
 use Rattle.std.specs.List.{list_any, position_or_len}
 use Rattle.cm_spec.specs.Lists.{numbers_from}
 use Rattle.cm_graph.specs.declared.incidence.Half.{Half}
@@ -34,6 +34,10 @@ slot_touches v slot = list_any (lies_in v) slot
 -- how many linked edges touch v
 abbrev pub degree_of : Links → ℕ → ℕ
 degree_of l v = count_by (slot_touches v) l.slots
+
+-- no vertex has a greater degree
+abbrev pub AreDegreesWithin : ℕ → Links → Type 0
+AreDegreesWithin most l = (v : ℕ) → v < l.vertices → degree_of l v ≤ most
 
 -- the half-edges of an edge number
 abbrev pub slot_of : Links → ℕ → List (Option ℕ)

@@ -1,6 +1,6 @@
 //! Linking by blocks of vertices: half-edges wait in a bucket for each block, and a full bucket is emptied into the words of its block.
 ghost use Rattle.std.specs.Prelude.{◌≡◌, ◌≢◌, ◌+◌, ◌*◌, ◌/◌, ◌%◌, ◌<◌, ◌≤◌, Bool, true, [], IfOk, length, replicate};
-ghost use Rattle.cm_graph.specs.Graph.{Links, all_linked};
+ghost use Rattle.cm_graph.specs.Graph.{Links, AreDegreesWithin, all_linked};
 ghost use Rattle.cm_graph.specs.Waiting.{AreSplit, IsEnd, IsSame, IsMore, AreFirst, count_waiting, times_of, waiting_in};
 
 use crate::edges::Edges;
@@ -50,7 +50,7 @@ fn empty_bucket<const K: usize, S: Halves, L: Ledger>(
     ensures none { result ≡ true → waiting_in buckets.new.items b ≡ [] }
     ensures others { result ≡ true → (i : _) → i ≢ b → waiting_in buckets.new.items i ≡ waiting_in buckets.old.items i }
     ensures many { length buckets.new.items ≡ length buckets.old.items }
-    ensures all { S.holds_all ≡ true → result ≡ true }
+    ensures all { AreDegreesWithin S.most_degree (all_linked _edges.now.vertices _edges.now.edges) → result ≡ true }
     ensures steps { steps.new + count_waiting buckets.new.items ≤ steps.old + count_waiting buckets.old.items }
 {
     for _i in 0..buckets[b].len() {
@@ -83,7 +83,7 @@ fn add<const K: usize, S: Halves, L: Ledger>(
     ensures split { IfOk result (λ all. all ≡ true → AreSplit K edges.now.vertices edges.now.edges (S.kept store.new) buckets.new.items) }
     ensures more { IfOk result (λ all. all ≡ true → IsMore half.place (S.kept store.old).slots buckets.old.items (S.kept store.new).slots buckets.new.items) }
     ensures many { IfOk result (λ _. length buckets.new.items ≡ length buckets.old.items) }
-    ensures all { S.holds_all ≡ true → IfOk result (λ all. all ≡ true) }
+    ensures all { AreDegreesWithin S.most_degree (all_linked edges.now.vertices edges.now.edges) → IfOk result (λ all. all ≡ true) }
     ensures steps { steps.new + count_waiting buckets.new.items ≤ steps.old + count_waiting buckets.old.items + 1 }
 {
     let b = (half.vertex / BLOCK) as usize;
@@ -110,7 +110,7 @@ fn add_edge<const K: usize, S: Halves, L: Ledger>(
     ensures split { IfOk result (λ all. all ≡ true → AreSplit K edges.now.vertices edges.now.edges (S.kept store.new) buckets.new.items) }
     ensures first { IfOk result (λ all. all ≡ true → AreFirst K (4 * (e + 1)) (S.kept store.new).slots buckets.new.items) }
     ensures many { IfOk result (λ _. length buckets.new.items ≡ length buckets.old.items) }
-    ensures all { S.holds_all ≡ true → IfOk result (λ all. all ≡ true) }
+    ensures all { AreDegreesWithin S.most_degree (all_linked edges.now.vertices edges.now.edges) → IfOk result (λ all. all ≡ true) }
     ensures steps { steps.new + count_waiting buckets.new.items ≤ steps.old + count_waiting buckets.old.items + K }
 {
     let ends = edges.ends(e);
@@ -138,7 +138,7 @@ fn add_all<const K: usize, S: Halves, L: Ledger>(
     requires first { AreFirst K 0 (S.kept store.old).slots buckets.old.items }
     ensures split { IfOk result (λ all. all ≡ true → AreSplit K edges.now.vertices edges.now.edges (S.kept store.new) buckets.new.items) }
     ensures first { IfOk result (λ all. all ≡ true → AreFirst K (4 * length edges.now.edges) (S.kept store.new).slots buckets.new.items) }
-    ensures all { S.holds_all ≡ true → IfOk result (λ all. all ≡ true) }
+    ensures all { AreDegreesWithin S.most_degree (all_linked edges.now.vertices edges.now.edges) → IfOk result (λ all. all ≡ true) }
     ensures steps { steps.new + count_waiting buckets.new.items ≤ steps.old + count_waiting buckets.old.items + K * length edges.now.edges }
 {
     for e in 0..edges.len() {
@@ -159,7 +159,7 @@ fn empty_all<const K: usize, S: Halves, L: Ledger>(
     requires split { AreSplit K edges.now.vertices edges.now.edges (S.kept store.old) buckets.old.items }
     requires first { AreFirst K (4 * length edges.now.edges) (S.kept store.old).slots buckets.old.items }
     ensures links { result ≡ true → S.kept store.new ≡ all_linked edges.now.vertices edges.now.edges }
-    ensures all { S.holds_all ≡ true → result ≡ true }
+    ensures all { AreDegreesWithin S.most_degree (all_linked edges.now.vertices edges.now.edges) → result ≡ true }
     ensures steps { steps.new + count_waiting buckets.new.items ≤ steps.old + count_waiting buckets.old.items }
 {
     for b in 0..buckets.len() {
@@ -181,7 +181,7 @@ pub(crate) fn link_blocks<const K: usize, S: Halves, L: Ledger>(
 ) -> Result<bool, AllocError>
     requires none { S.kept store.old ≡ record { vertices = edges.now.vertices; slots = replicate (length edges.now.edges) [] } }
     ensures links { IfOk result (λ all. all ≡ true → S.kept store.new ≡ all_linked edges.now.vertices edges.now.edges) }
-    ensures all { S.holds_all ≡ true → IfOk result (λ all. all ≡ true) }
+    ensures all { AreDegreesWithin S.most_degree (all_linked edges.now.vertices edges.now.edges) → IfOk result (λ all. all ≡ true) }
     ensures steps { steps.new ≤ steps.old + K * length edges.now.edges }
 {
     // For the proof alone: the edges have their ends below the number of vertices.
@@ -203,7 +203,7 @@ pub(crate) fn link_all<const K: usize, S: Halves, L: Ledger>(
 ) -> Result<bool, AllocError>
     requires none { S.kept store.old ≡ record { vertices = edges.now.vertices; slots = replicate (length edges.now.edges) [] } }
     ensures links { IfOk result (λ all. all ≡ true → S.kept store.new ≡ all_linked edges.now.vertices edges.now.edges) }
-    ensures all { S.holds_all ≡ true → IfOk result (λ all. all ≡ true) }
+    ensures all { AreDegreesWithin S.most_degree (all_linked edges.now.vertices edges.now.edges) → IfOk result (λ all. all ≡ true) }
     ensures steps { steps.new ≤ steps.old + K * length edges.now.edges }
 {
     let blocks = edges.vertices() / BLOCK + 1;

@@ -1,7 +1,7 @@
 //! What keeps half-edges one by one, and what is done with many of them over any such.
-ghost use Rattle.std.specs.Prelude.{◌≡◌, ℕ, ◌+◌, ◌*◌, ◌/◌, ◌<◌, ◌≤◌, Bool, true, false, [], All, IsTrue, length, replicate, slice_index_or, take};
+ghost use Rattle.std.specs.Prelude.{◌≡◌, ◌↔◌, ℕ, ◌+◌, ◌*◌, ◌/◌, ◌<◌, ◌≤◌, true, false, [], All, IsTrue, length, replicate, slice_index_or, take};
 ghost use Rattle.cm_spec.specs.Graph.{IsEdge};
-ghost use Rattle.cm_graph.specs.Graph.{Links, IsFree, IsLinked, IsWidth, AreHalves, all_linked, linked, unlinked, removed_all, places_of, alone_from, place_of, degree_of, sole_of, is_free, slot_touches};
+ghost use Rattle.cm_graph.specs.Graph.{Links, IsFree, IsLinked, IsWidth, AreDegreesWithin, AreHalves, all_linked, linked, unlinked, removed_all, places_of, alone_from, place_of, degree_of, sole_of, is_free, slot_touches};
 ghost use Rattle.cm_graph.specs.Next.{AreNext, halves_at};
 
 use crate::edges::Edges;
@@ -15,8 +15,8 @@ pub(crate) trait Halves: Sized {
     /// The half-edges, as an incidence has them.
     ghost kept: { Self → Links };
 
-    /// Whether there is room for all half-edges.
-    ghost holds_all: { Bool };
+    /// The greatest degree that there is room for in a vertex.
+    ghost most_degree: { ℕ };
 
     /// The slots, for proofs.
     fn slots(&self) -> Slots
@@ -24,14 +24,15 @@ pub(crate) trait Halves: Sized {
         ensures few { length result.each ≤ 67108864 }
         ensures vertices { (kept self.now).vertices < 4294967296 };
 
-    /// Adds a half-edge, with which the slots are `more`. Where there is no room for it, it says so, and nothing changes.
+    /// Adds a half-edge, with which the slots are `more`. If its vertex has the greatest degree already, it returns false, and nothing
+    /// changes.
     fn put(&mut self, half: Half, more: Slots) -> bool
         requires vertex { half.vertex < (kept self.old).vertices }
         requires next { AreNext (kept self.old).slots more.each half }
         requires apart { slot_touches half.vertex (halves_at (kept self.old).slots (half.place / 4)) ≡ false }
         ensures ok { result ≡ true → kept self.new ≡ record { vertices = (kept self.old).vertices; slots = more.each } }
         ensures full { result ≡ false → kept self.new ≡ kept self.old }
-        ensures all { holds_all ≡ true → result ≡ true };
+        ensures room { (result ≡ true) ↔ (degree_of (kept self.old) half.vertex < most_degree) };
 
     /// Removes a half-edge, without which the slots are `less`.
     fn take_out(&mut self, half: Half, less: Slots)
@@ -51,7 +52,7 @@ pub(crate) trait Halves: Sized {
         ensures edge { is_free (kept self.now) v ≡ true → result / 4 ≡ sole_of (kept self.now) v };
 }
 
-/// Links the edge of number `e`. Where there is no room for one of its half-edges, it says so.
+/// Links the edge of number `e`. If there is no room for one of its half-edges, it returns false.
 pub(crate) fn link_edge<const K: usize, S: Halves, L: Ledger>(
     store: &mut S,
     e: u32,
@@ -62,7 +63,7 @@ pub(crate) fn link_edge<const K: usize, S: Halves, L: Ledger>(
     requires free { IsFree (S.kept store.old) e }
     requires edge { IsEdge (S.kept store.old).vertices ends }
     ensures links { result ≡ true → S.kept store.new ≡ linked (S.kept store.old) e ends.entry }
-    ensures all { S.holds_all ≡ true → result ≡ true }
+    ensures all { AreDegreesWithin S.most_degree (linked (S.kept store.old) e ends.entry) → result ≡ true }
     ensures most { steps.new ≤ steps.old + K }
     ensures steps { result ≡ true → steps.new ≡ steps.old + K }
 {
@@ -102,7 +103,7 @@ pub(crate) fn unlink_edge<const K: usize, S: Halves, L: Ledger>(
     }
 }
 
-/// Links all edges, where none is linked. Where there is no room for one of their half-edges, it says so.
+/// Links all edges, where none is linked. If there is no room for one of their half-edges, it returns false.
 pub(crate) fn link_each<const K: usize, S: Halves, L: Ledger>(
     store: &mut S,
     edges: &Edges<K>,
@@ -110,7 +111,7 @@ pub(crate) fn link_each<const K: usize, S: Halves, L: Ledger>(
 ) -> bool
     requires none { S.kept store.old ≡ record { vertices = edges.now.vertices; slots = replicate (length edges.now.edges) [] } }
     ensures links { result ≡ true → S.kept store.new ≡ all_linked edges.now.vertices edges.now.edges }
-    ensures all { S.holds_all ≡ true → result ≡ true }
+    ensures all { AreDegreesWithin S.most_degree (all_linked edges.now.vertices edges.now.edges) → result ≡ true }
     ensures steps { steps.new ≤ steps.old + K * length edges.now.edges }
 {
     for e in 0..edges.len() {

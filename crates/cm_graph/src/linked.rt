@@ -98,7 +98,8 @@ impl Chains {
 impl Halves for Chains {
     ghost kept = { λ x. x };
 
-    ghost holds_all = { true };
+    // No more edges than that can be linked.
+    ghost most_degree = { 67108864 };
 
     fn slots(&self) -> Slots {
         self.slots.same()
@@ -175,6 +176,8 @@ impl<const K: usize> Incidence<K> for Linked<K> {
         ensures links { self.new ≡ linked self.old e ends.entry }
         ensures steps { steps.new ≡ steps.old + K }
     {
+        // For the proof alone: there are no more edges than a degree has room for.
+        let _slots = self.table.slots();
         link_edge(&mut self.table, e, ends, steps);
     }
 

@@ -1,5 +1,5 @@
 //! A degree and a xor of places for each vertex, in 4 bytes.
-ghost use Rattle.std.specs.Prelude.{◌≡◌, ◌≤◌, IfOk, [], replicate, false, length};
+ghost use Rattle.std.specs.Prelude.{◌≡◌, ◌≤◌, IfOk, [], replicate, length};
 
 use crate::halves::Halves;
 use crate::incidence::Half;
@@ -51,7 +51,7 @@ impl Narrow {
 impl Halves for Narrow {
     ghost kept = { λ x. x };
 
-    ghost holds_all = { false };
+    ghost most_degree = { 63 };
 
     fn slots(&self) -> Slots {
         self.slots.same()
@@ -59,18 +59,18 @@ impl Halves for Narrow {
 
     fn put(&mut self, half: Half, more: Slots) -> bool {
         let word = self.words[half.vertex as usize];
-        let degree = word / ONE;
-        if degree >= MOST_DEGREE {
+        if word / ONE >= MOST_DEGREE {
             return false;
         }
-        self.words[half.vertex as usize] = (degree + 1) * ONE + ((word % ONE) ^ half.place);
+        // The place has 26 bits, so that the degree above the xor is left as it is.
+        self.words[half.vertex as usize] = (word ^ half.place) + ONE;
         self.slots = more;
         true
     }
 
     fn take_out(&mut self, half: Half, less: Slots) {
         let word = self.words[half.vertex as usize];
-        self.words[half.vertex as usize] = (word / ONE - 1) * ONE + ((word % ONE) ^ half.place);
+        self.words[half.vertex as usize] = (word ^ half.place) - ONE;
         self.slots = less;
     }
 

@@ -1,5 +1,5 @@
 //! A degree and a xor of places for each vertex, in 8 bytes.
-ghost use Rattle.std.specs.Prelude.{◌≡◌, ◌≤◌, IfOk, [], replicate, true, length};
+ghost use Rattle.std.specs.Prelude.{◌≡◌, ◌≤◌, IfOk, [], replicate, length};
 ghost use Rattle.cm_graph.specs.Graph.{Links};
 
 use crate::halves::Halves;
@@ -54,7 +54,8 @@ impl Wide {
 impl Halves for Wide {
     ghost kept = { λ x. x };
 
-    ghost holds_all = { true };
+    // No more edges than that can be linked.
+    ghost most_degree = { 67108864 };
 
     fn slots(&self) -> Slots {
         self.slots.same()

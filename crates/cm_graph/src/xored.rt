@@ -1,9 +1,9 @@
 //! An incidence that keeps for each vertex its degree, and the xor of the places of its half-edges.
-ghost use Rattle.std.specs.Prelude.{◌≡◌, ◌+◌, ◌*◌, ◌<◌, ◌≤◌, All, IfOk, length, take, true};
+ghost use Rattle.std.specs.Prelude.{◌≡◌, ◌+◌, ◌*◌, ◌<◌, ◌≤◌, All, IfOk, IsSome, length, take, true, false};
 ghost use Rattle.std.specs.Option.{ForSome};
 ghost use Rattle.cm_spec.specs.Graph.{IsEdge};
 ghost use Rattle.cm_graph.specs.Graph.{AreHalves, IsFree, IsLinked, IsWidth, alone_from, all_linked, degree_of, linked, places_of, removed_all, sole_of, unlinked};
-ghost use Rattle.cm_graph.specs.Choice.{seen_of};
+ghost use Rattle.cm_graph.specs.Choice.{FitNarrow, seen_of};
 
 use crate::blocks::link_all;
 use crate::edges::{EdgeList, Edges};
@@ -30,6 +30,7 @@ fn narrow_of<const K: usize, L: Ledger>(
     steps: &mut Steps<L>,
 ) -> Result<Option<Narrow>, AllocError>
     ensures links { IfOk result (λ made. ForSome made (λ words. words ≡ all_linked edges.now.vertices edges.now.edges)) }
+    ensures narrow { FitNarrow edges.now.vertices edges.now.edges → IfOk result (λ made. IsSome made) }
     ensures steps { steps.new ≤ steps.old + K * length edges.now.edges }
 {
     if edges.len() > MOST_EDGES {
@@ -65,6 +66,7 @@ impl Table {
         steps: &mut Steps<L>,
     ) -> Result<Self, AllocError>
         ensures links { IfOk result (λ made. (seen_of made).links ≡ all_linked edges.now.vertices edges.now.edges) }
+        ensures narrow { FitNarrow edges.now.vertices edges.now.edges → IfOk result (λ made. (seen_of made).takes ≡ false) }
         ensures steps { steps.new ≤ steps.old + 2 * (K * length edges.now.edges) }
     {
         match narrow_of(alloc, edges, steps)? {
@@ -86,6 +88,8 @@ impl Table {
         match self {
             Table::Narrow(_) => unreachable!(),
             Table::Wide(words) => {
+                // For the proof alone: there are no more edges than a degree has room for.
+                let _slots = words.slots();
                 link_edge(words, e, ends, steps);
             }
         }
@@ -200,7 +204,11 @@ impl<const K: usize> Incidence<K> for Xored<K> {
         alloc: Global,
         edges: &E,
         steps: &mut Steps<L>,
-    ) -> Result<Self, AllocError> {
+    ) -> Result<Self, AllocError>
+        ensures links { IfOk result (λ made. made.links ≡ all_linked (E.graph edges.now).vertices (E.graph edges.now).edges) }
+        ensures narrow { FitNarrow (E.graph edges.now).vertices (E.graph edges.now).edges → IfOk result (λ made. made.takes ≡ false) }
+        ensures steps { steps.new ≤ steps.old + 2 * (K * length (E.graph edges.now).edges) }
+    {
         let edges = edges.edges();
         // For the proof alone: an edge has two or three ends.
         let _many = edges.len();

@@ -6,6 +6,7 @@ use Rattle.cm_graph.proofs.Linking.{links_eq}
 use Rattle.cm_graph.specs.Next.{AreNext}
 use Rattle.cm_graph.specs.Waiting.{AreSplit, times_of, waiting_in}
 use Rattle.cm_graph.proofs.Splitting.{apart, count_popped, next, popped, popped_same, taken, waiting_here, waiting_other, with_in}
+use Rattle.cm_graph.proofs.Degrees.{room_in}
 use Rattle.cm_graph.proofs.blocks.empty_bucket.Goals as goal
 
 pub put-requires-clause-next : goal.put-requires-clause-next
@@ -43,3 +44,9 @@ returns-then-not-put-clause-steps g c =
     let within : c.args.b < length c.loop-i.buckets.items = omega (arith, c.requires.bucket, c.loop-i.invariant.many) in
     let last : waiting_in c.loop-i.buckets.items c.args.b ≡ c.pop.new.self.items ++ c.in-Some.half ∷ [] = taken c.loop-i.buckets.items c.args.b c.index_mut.result.now within c.index_mut.ensures.value ∙ c.in-Some.ensures.items in
     omega (arith, c.loop-i.invariant.steps, count_popped c.loop-i.buckets.items c.args.b c.pop.new.self c.in-Some.half within last)
+
+pub returns-then-not-put-clause-all : goal.returns-then-not-put-clause-all
+returns-then-not-put-clause-all g c few =
+    let within : c.args.b < length c.loop-i.buckets.items = omega (arith, c.requires.bucket, c.loop-i.invariant.many) in
+    let last : waiting_in c.loop-i.buckets.items c.args.b ≡ c.pop.new.self.items ++ c.in-Some.half ∷ [] = taken c.loop-i.buckets.items c.args.b c.index_mut.result.now within c.index_mut.ensures.value ∙ c.in-Some.ensures.items in
+    sym c.if-not-put.true ∙ c.put.ensures.room.1 (room_in c.loop-i.invariant.split c.args.b c.pop.new.self c.in-Some.half within last g.S.Halves.most_degree few)

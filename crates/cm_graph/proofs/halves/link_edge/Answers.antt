@@ -1,8 +1,9 @@
 use Rattle.std.proofs.Common.{◌≡◌, ◌+◌, ◌*◌, ◌/◌, ◌<◌, ℕ, List, [], Option, length, get_or, set, take, false, rules, arith, refl, ap, sym, subst, ◌∙◌}
 use Rattle.std.proofs.lemmas.Option.{slice_get_within}
-use Rattle.cm_graph.specs.Graph.{Links, linked, halves_of, slot_touches}
+use Rattle.cm_graph.specs.Graph.{Links, degree_of, linked, halves_of, slot_touches}
 use Rattle.cm_graph.specs.Next.{AreNext, halves_at}
 use Rattle.cm_graph.specs.declared.incidence.Half.{Half}
+use Rattle.cm_graph.proofs.Degrees.{room_at}
 use Rattle.cm_graph.proofs.Positions.{place_edge, place_position}
 use Rattle.cm_graph.proofs.Linking.{links_eq, relinked, linked_bare, linked_next, linked_apart, few_edges}
 use Rattle.cm_graph.proofs.halves.link_edge.Goals as goal
@@ -62,3 +63,19 @@ loop-j-preserved g c =
       store = c.put.ensures.ok c.if-not-put.false ∙ (links_eq _ _ _ _ (ap (λ (l : Links). l.vertices) c.loop-j.invariant.store) each ∙ relinked old e (take j ends) (take (j + 1) ends));
       steps = omega (arith, c.tick.ensures, c.loop-j.invariant.steps);
     }
+
+pub returns-then-not-put-clause-all : goal.returns-then-not-put-clause-all
+returns-then-not-put-clause-all g c few =
+    let old : Links = g.S.Halves.kept c.args.store.now in
+    let e : ℕ = c.args.e in
+    let j : ℕ = c.loop-j.j in
+    let ends : List ℕ = c.args.ends in
+    let wide : length ends ≡ g.row.K = search rules in
+    let four : j < 4 = omega (arith, c.loop-j-test.true, c.requires.width.1) in
+    let position : j < length ends = omega (arith, c.loop-j-test.true, wide) in
+    let half : Half = record { vertex = get_or ends j 0; place = 4 * e + j } in
+    let within : e < length old.slots = slice_get_within old.slots e [] c.requires.free in
+    let next : AreNext (linked old e (take j ends)).slots (set (linked old e (take j ends)).slots e (halves_of (take (j + 1) ends))) half = linked_next old e j ends half within position (place_edge e j four) (place_position e j four) refl in
+    let free : slot_touches half.vertex (halves_at (linked old e (take j ends)).slots (half.place / 4)) ≡ false = linked_apart old e j half.place ends within c.requires.edge.1 position (place_edge e j four) in
+    let room : degree_of (linked old e (take j ends)) half.vertex < g.S.Halves.most_degree = room_at g.S.Halves.most_degree old e j ends half next free within (c.requires.edge.0 j 0 position) few in
+    sym c.if-not-put.true ∙ c.put.ensures.room.1 (subst (λ l. degree_of l half.vertex < g.S.Halves.most_degree) (sym c.loop-j.invariant.store) room)

@@ -1,7 +1,8 @@
-use Rattle.std.proofs.Common.{◌≡◌, ◌/◌, ◌<◌, List, Option, ℕ, false, length, ap, sym, subst, arith}
+use Rattle.std.proofs.Common.{◌≡◌, ◌/◌, ◌<◌, List, Option, ℕ, false, length, ap, refl, sym, subst, arith}
 use Rattle.cm_graph.specs.Graph.{Links, slot_touches}
 use Rattle.cm_graph.specs.Next.{AreNext, halves_at}
 use Rattle.cm_graph.proofs.Shares.{kept_more, few_degree}
+use Rattle.cm_graph.proofs.Positions.{count_below}
 use Rattle.cm_graph.proofs.wide.WideHalves.put.Goals as goal
 
 pub overflow_add-vertex : goal.overflow_add-vertex
@@ -17,3 +18,7 @@ invariant_of-self c =
     (subst (λ (s : List (List (Option ℕ))). AreNext s c.args.more.each c.args.half) slots c.requires.next)
     (subst (λ (s : List (List (Option ℕ))). slot_touches c.args.half.vertex (halves_at s (c.args.half.place / 4)) ≡ false) slots c.requires.apart)
     within c.index_mut-vertex.ensures.value
+
+pub returns-clause-room : goal.returns-clause-room
+returns-clause-room c =
+    let slots : c.args.self.now.slots ≡ c.self.inside.slots.each = sym (ap (λ (l : Links). l.slots) c.self.view_is) in (λ _. omega (arith, count_below c.requires.next c.requires.apart, ap length slots, c.self.invariant.few), λ _. refl)
