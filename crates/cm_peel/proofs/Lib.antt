@@ -8,6 +8,7 @@ pub mod First
 pub mod Halves
 pub mod InRound
 pub mod Incident
+pub mod Leading
 pub mod Listing
 pub mod Marked
 pub mod Marking
@@ -17,6 +18,7 @@ pub mod Parts
 pub mod Pieces
 pub mod RoundFacts
 pub mod Sets
+pub mod Settling
 pub mod Taking
 pub mod Unlinking
 pub mod Waits

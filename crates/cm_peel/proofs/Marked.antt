@@ -1,25 +1,18 @@
 -- Edges that are taken and marked.
-use Rattle.std.proofs.Common.{◌≡◌, ◌⊎◌, ℕ, suc, ◌+◌, ◌*◌, ◌/◌, ◌%◌, ◌^◌, ◌<◌, ◌≤◌, Bool, true, false, not, cond, eqb, ◌&&◌, ◌||◌, List, [], ◌∷◌, ◌++◌, length, get_or, set, map, sym, refl, ap, ◌∙◌, inl, inr, arith, length-append}
+use Rattle.std.proofs.Common.{◌≡◌, ◌⊎◌, ℕ, suc, ◌+◌, ◌*◌, ◌/◌, ◌%◌, ◌^◌, ◌<◌, ◌≤◌, Bool, true, false, not, cond, eqb, ◌&&◌, ◌||◌, List, [], ◌∷◌, ◌++◌, length, get_or, set, sym, refl, ap, ◌∙◌, inl, inr, arith, length-append}
 use Rattle.std.specs.Prelude.{bit_or}
 use Rattle.std.specs.Int.{bit_at}
-use Rattle.std.specs.List.{All}
 use Rattle.std.proofs.lemmas.Bool.{cases_lt, and_right}
 use Rattle.std.proofs.lemmas.Nat.Bits.{bit_at-zero}
 use Rattle.std.proofs.lemmas.List.{get_or_past}
-use Rattle.std.proofs.lemmas.List.Sorted.{length_permutation}
 use mir.Val.{bool_byte}
 use Rattle.cm_spec.specs.Lists.{has, numbers_from}
-use Rattle.cm_spec.specs.Graph.{AreEdges}
 use Rattle.cm_spec.specs.Rounds.{is_left}
-use Rattle.cm_graph.specs.declared.incidence.Half.{Half}
-use Rattle.cm_graph.specs.Graph.{Graph, Links, IsHalf, places_of, removed_all}
-use Rattle.cm_peel.specs.AtRound.{AreApart, AreTaken, InRound, IsOtherPlace}
+use Rattle.cm_graph.specs.Graph.{Graph, Links}
+use Rattle.cm_peel.specs.AtRound.{AreApart, InRound}
 use Rattle.cm_peel.specs.Marks.{is_marked}
-use Rattle.cm_peel.specs.Waiting.{AreMarked, marked_of}
-use Rattle.cm_peel.specs.SetLaws.{Rises, Rises-filter, Rises-numbers, rises_below, has-filter, has-numbers}
-use Rattle.cm_peel.proofs.Incident.{place_in}
-use Rattle.cm_peel.proofs.InRound.{in_round_more}
-use Rattle.cm_peel.proofs.Listing.{kept_moved}
+use Rattle.cm_peel.specs.Waiting.{marked_of}
+use Rattle.cm_peel.specs.SetLaws.{Rises, rises_below, has-filter, has-numbers}
 use Rattle.cm_peel.proofs.Marking.{marked_one}
 use Rattle.cm_peel.proofs.Taking.{has-append, or_none}
 
@@ -67,33 +60,3 @@ in_round_members graph t gone l next next' bytes r apart same = record {
   next_byte = λ e m. r.next_byte e (sym (same e) ∙ m);
   taken = λ e h. r.taken e h ∙ ap (λ b. b || not (is_left graph.edges (suc t) e)) (sym (same e));
 }
-
-taken_behind : (t : ℕ) (places bytes bytes' next fresh : List ℕ) → AreTaken t places bytes bytes' [] fresh → AreTaken t places bytes bytes' next (next ++ fresh)
-taken_behind t places bytes bytes' next fresh a = record {
-  fresh = a.fresh;
-  next_is = ap (λ (xs : List ℕ). next ++ xs) a.next_is;
-  apart = a.apart;
-  members = a.members;
-  bytes_long = a.bytes_long;
-  byte = a.byte;
-}
-
--- some half-edges of the round are removed, and the edges that this frees are marked
-pub in_round_marked : (k : ℕ) (graph : Graph) (t : ℕ) (gone : List ℕ) (l m : Links) (halves : List Half) (marks bytes marks' bytes' : List ℕ) (count : ℕ) → k ≤ 3 → AreEdges k graph.vertices graph.edges → InRound graph t gone l (marked_of marks) bytes → All (IsHalf l) halves
-    → ((q : ℕ) → has (map place_in halves) q ≡ true → IsOtherPlace graph.edges t q) → m ≡ removed_all l halves → length graph.edges ≤ 64 * length marks' → AreMarked t (places_of m halves) bytes bytes' marks marks' count
-    → InRound graph t (gone ++ map place_in halves) m (marked_of marks') bytes' × (length (marked_of marks') ≡ length (marked_of marks) + count)
-in_round_marked k graph t gone l m halves marks bytes marks' bytes' count small are r there others is room a =
-    (in_round_members graph t (gone ++ map place_in halves) m all (marked_of marks') bytes' more (Rises-apart 0 (marked_of marks') (Rises-filter (is_marked marks') 0 _ (Rises-numbers 0 (64 * length marks')))) (λ e. has_marked marks' e ∙ same e), many) where
-      all : List ℕ
-      all = marked_of marks ++ a.fresh
-
-      more : InRound graph t (gone ++ map place_in halves) m (marked_of marks ++ a.fresh) bytes'
-      more = in_round_more k graph t gone l m halves (marked_of marks) bytes (marked_of marks ++ a.fresh) bytes' small are r there others is (taken_behind t (places_of m halves) bytes bytes' (marked_of marks) a.fresh a.taken)
-
-      same : (e : ℕ) → is_marked marks' e ≡ has (marked_of marks ++ a.fresh) e
-      same e = a.marked e ∙ (ap (λ b. b || has a.fresh e) (sym (has_marked marks e)) ∙ sym (has-append (marked_of marks) a.fresh e))
-
-      many : length (marked_of marks') ≡ length (marked_of marks) + count
-      many =
-          let moved = kept_moved (is_marked marks') all (64 * length marks') more.apart same (λ e n. omega (arith, more.inside e n, room)) in
-          omega (arith, length_permutation _ _ moved, length-append (marked_of marks) a.fresh, a.many)

@@ -6,6 +6,7 @@ use Rattle.cm_graph.specs.declared.incidence.Half.{Half}
 use Rattle.cm_graph.specs.Graph.{Graph, Links}
 use Rattle.cm_peel.specs.AtRound.{AreApart, AreTaken, InRound, IsOtherPlace}
 use Rattle.cm_peel.specs.Marks.{is_marked}
+use Rattle.cm_peel.specs.Peeling.{is_taken}
 
 -- the marked edges
 abbrev pub marked_of : List ℕ → List ℕ
@@ -17,6 +18,48 @@ pub record AreMarked (t : ℕ) (places bytes bytes' marks marks' : List ℕ) (co
   pub taken : AreTaken t places bytes bytes' [] fresh
   pub marked : (e : ℕ) → is_marked marks' e ≡ (is_marked marks e || has fresh e)
   pub many : count ≡ length fresh
+
+-- the places that wait for block b of edges: the room has a count for each of the blocks, and then `each` numbers for each
+abbrev pub freed_in : ℕ → ℕ → List ℕ → ℕ → List ℕ
+freed_in blocks each freed b = take (slice_index freed b) (drop (blocks + b * each) freed)
+
+-- the room once a place is written behind the c that wait for block b
+abbrev pub put_freed : ℕ → ℕ → List ℕ → ℕ → ℕ → ℕ → List ℕ
+put_freed blocks each freed b c q = slice_set (slice_set freed (blocks + b * each + c) q) b (c + 1)
+
+-- no block's part is full
+abbrev pub AreOpen : ℕ → ℕ → List ℕ → Type 0
+AreOpen blocks each freed = (b : ℕ) → b < blocks → slice_index freed b < each
+
+-- the places in `waiting`, of so many edges, wait for their blocks, each of which has 131,072 edges
+pub record AreWaiting (many blocks each : ℕ) (freed waiting : List ℕ) : Type 0 where
+  pub within : blocks + blocks * each ≤ length freed
+  pub few : length freed ≤ 67109056
+  pub short : each ≤ 16384
+  pub all : many ≤ 131072 * blocks
+  pub fits : (b : ℕ) → b < blocks → slice_index freed b ≤ each
+  pub block : (b q : ℕ) → b < blocks → has (freed_in blocks each freed b) q ≡ true → (q / 524288 ≡ b) × (q / 4 < many)
+  pub inside : (q : ℕ) → has waiting q ≡ true → q / 4 < many
+  pub same : (q : ℕ) → q / 4 < many → has waiting q ≡ has (freed_in blocks each freed (q / 524288)) q
+
+-- once the edges of all places that wait are taken, the bytes are those in `after`, and the marked edges are those in `next`
+pub record Leads (t blocks each : ℕ) (marks bytes freed after next : List ℕ) : Type 0 where
+  pub all_marks : length bytes ≤ 64 * length marks
+  pub few_marks : 64 * length marks ≤ 67108864
+  pub old : (e : ℕ) → is_marked marks e ≡ true → is_taken bytes e ≡ true
+  pub waiting : List ℕ
+  pub waits : AreWaiting (length bytes) blocks each freed waiting
+  pub fresh : List ℕ
+  pub taken : AreTaken t waiting bytes after [] fresh
+  pub members : (e : ℕ) → has next e ≡ (is_marked marks e || has fresh e)
+
+-- in a round by blocks: the half-edges at the places in `gone` are removed so far, and the edges that this has freed are marked, or a place of theirs waits
+pub record InTaking (graph : Graph) (t blocks each : ℕ) (gone : List ℕ) (l : Links) (marks bytes freed : List ℕ) : Type 0 where
+  pub after : List ℕ
+  pub next : List ℕ
+  pub leads : Leads t blocks each marks bytes freed after next
+  pub free : AreOpen blocks each freed
+  pub round : InRound graph t gone l next after
 
 -- the half-edges that numbers stand for, two each: vertex and place
 abbrev pub halves_in : List ℕ → List Half
@@ -40,10 +83,10 @@ pub record Waits (edges : List (List ℕ)) (t b : ℕ) (gone : List ℕ) (h : Ha
   pub there : has gone h.place ≡ false
 
 -- in a round by blocks: each half-edge at a place in `done` is removed, or waits for its block
-pub record InBlocks (graph : Graph) (t size : ℕ) (room counts : List ℕ) (l : Links) (marks bytes done : List ℕ) : Type 0 where
-  -- those that are removed, and what this leaves; the edges that it frees are marked
+pub record InBlocks (graph : Graph) (t size blocks each : ℕ) (room counts : List ℕ) (l : Links) (marks bytes freed done : List ℕ) : Type 0 where
+  -- those that are removed, and what this leaves; the edges that it frees are marked, or wait
   pub gone : List ℕ
-  pub round : InRound graph t gone l (marked_of marks) bytes
+  pub round : InTaking graph t blocks each gone l marks bytes freed
   -- those that wait: each for its block, and none of them twice
   pub fits : (b : ℕ) → b < length counts → 2 * slice_index counts b ≤ size
   pub waits : (b : ℕ) → b < length counts → All (Waits graph.edges t b gone) (waiting_in size room counts b)

@@ -8,9 +8,11 @@ ghost use Rattle.cm_spec.specs.Rounds.{left_after, removed_after};
 ghost use Rattle.cm_graph.specs.Graph.{AreHalves};
 ghost use Rattle.cm_peel.specs.AtRound.{AreApart, InRound, IsOtherPlace, other_places};
 ghost use Rattle.cm_peel.specs.Marks.{IsUnmarked};
-ghost use Rattle.cm_peel.specs.Waiting.{AreEmpty, AreMarked, InBlocks, IsEnd, IsOpen, IsRoom, halves_in, marked_of, put_room};
+ghost use Rattle.cm_peel.specs.Waiting.{AreEmpty, AreOpen, InBlocks, InTaking, IsEnd, IsOpen, IsRoom, halves_in, marked_of, put_room};
 
-use crate::chunk::{CHUNK, CHUNK_ENDS, UNTAKEN, list_halves, look_up_places};
+use crate::chunk::{CHUNK, CHUNK_ENDS, list_halves};
+use crate::freed;
+use crate::freed::{EDGES, FREED, Plan};
 use crate::marks::list_marked;
 use cm_graph::{Edges, Half, Incidence, Steps};
 use std::sync::ledger::Ledger;
@@ -27,6 +29,9 @@ const LEAST: usize = 64;
 /// How many half-edges of a block are removed together at most.
 const PART: usize = 256;
 
+/// So many numbers of the room suffice that a freed place can wait for each block of edges.
+const SPACE: usize = 8192;
+
 /// How many blocks so many vertices have: one for each 65,536 of them, or none for 2,097,152 vertices or fewer.
 pub(crate) fn count_blocks(vertices: usize) -> usize
     ensures none { vertices ≤ 2097152 → result ≡ 0 }
@@ -41,47 +46,16 @@ pub(crate) fn count_blocks(vertices: usize) -> usize
 }
 
 /// Whether a round that removes so many half-edges goes by blocks. It does if there are blocks, and at least 64 half-edges for each block, and room for
-/// 64 of each. `room` counts numbers, of which a half-edge takes two.
+/// 64 of each, and for the places that this frees. `room` counts numbers, of which a half-edge takes two.
 pub(crate) fn is_by_blocks(blocks: usize, halves: usize, room: usize) -> bool
     ensures so { result ≡ true → (0 < blocks) × (64 * blocks ≤ halves) × (128 * blocks ≤ room) }
-    ensures not_so { 0 < blocks → 64 * blocks ≤ halves → 128 * blocks ≤ room → result ≡ true }
+    ensures space { result ≡ true → 8192 ≤ room }
+    ensures not_so { 0 < blocks → 64 * blocks ≤ halves → 128 * blocks ≤ room → 8192 ≤ room → result ≡ true }
 {
-    blocks > 0 && halves / blocks >= LEAST && room / 2 / blocks >= LEAST
-}
-
-/// Takes the edges of these places, `known` being their bytes, marks those that are new, and says how many these are.
-fn mark_listed(
-    places: &[u32],
-    known: &[u8],
-    rounds: u32,
-    bytes: &mut [u8],
-    marks: &mut [u64],
-) -> usize
-    requires rounds { rounds < 67108864 }
-    requires places { All (λ q. q / 4 < length bytes.old) places.now }
-    requires long { length places.now ≤ length known.now }
-    requires known { (i : ℕ) → i < length places.now → slice_index known.now i ≡ slice_index bytes.old (slice_index places.now i / 4) }
-    requires room { length bytes.old ≤ 64 * length marks.old }
-    ensures marked { AreMarked rounds places.now bytes.old bytes.new marks.old marks.new result }
-    ensures few { result ≤ length places.now }
-{
-    let here = (rounds % 2) as u8;
-    let next = 4 * ((rounds + 1) % 2) as u8;
-    let mut count = 0;
-    for (i, place) in places.iter().enumerate() {
-        let e = *place / 4;
-        let old = bytes[e as usize];
-        let least = old.min(next + (*place % 4) as u8);
-        bytes[e as usize] = if known[i] / 4 == here { old } else { least };
-        let word = marks[(e / 64) as usize];
-        marks[(e / 64) as usize] = if old >= UNTAKEN {
-            word | 1 << (e % 64)
-        } else {
-            word
-        };
-        count += (old >= UNTAKEN) as usize;
+    if room < SPACE {
+        return false;
     }
-    count
+    blocks > 0 && halves / blocks >= LEAST && room / 2 / blocks >= LEAST
 }
 
 /// Reads half-edges from pairs of numbers, vertex and place.
@@ -104,21 +78,22 @@ fn empty<const K: usize, I: Incidence<K>, L: Ledger>(
     edges: &Edges<K>,
     incidence: &mut I,
     pairs: &[u32],
-    rounds: u32,
+    plan: Plan,
     bytes: &mut [u8],
+    freed: &mut [u32],
     marks: &mut [u64],
     steps: &mut Steps<L>,
 ) -> usize
     requires small { K ≤ 3 }
     requires fits { length edges.now.edges ≤ 67108864 }
     requires edges { AreEdges K edges.now.vertices edges.now.edges }
-    requires early { rounds < length edges.now.edges }
+    requires early { plan.rounds < length edges.now.edges }
     requires room { length edges.now.edges ≤ 64 * length marks.old }
-    requires state { (gone : List ℕ) × InRound edges.now rounds gone (I.links incidence.old) (marked_of marks.old) bytes.old }
+    requires state { (gone : List ℕ) × InTaking edges.now plan.rounds plan.blocks plan.each gone (I.links incidence.old) marks.old bytes.old freed.old }
     requires even { length pairs.now ≡ 2 * length (halves_in pairs.now) }
     requires halves { AreHalves (I.links incidence.old) (halves_in pairs.now) }
-    requires others { (q : ℕ) → has (map (λ h. h.place) (halves_in pairs.now)) q ≡ true → IsOtherPlace edges.now.edges rounds q }
-    ensures state { (gone : List ℕ) → InRound edges.now rounds gone (I.links incidence.old) (marked_of marks.old) bytes.old → InRound edges.now rounds (gone ++ map (λ h. h.place) (halves_in pairs.now)) (I.links incidence.new) (marked_of marks.new) bytes.new }
+    requires others { (q : ℕ) → has (map (λ h. h.place) (halves_in pairs.now)) q ≡ true → IsOtherPlace edges.now.edges plan.rounds q }
+    ensures state { (gone : List ℕ) → InTaking edges.now plan.rounds plan.blocks plan.each gone (I.links incidence.old) marks.old bytes.old freed.old → InTaking edges.now plan.rounds plan.blocks plan.each (gone ++ map (λ h. h.place) (halves_in pairs.now)) (I.links incidence.new) marks.new bytes.new freed.new }
     ensures count { length (marked_of marks.new) ≡ length (marked_of marks.old) + result }
     ensures steps { steps.new ≤ steps.old + 3 * length (halves_in pairs.now) }
 {
@@ -127,15 +102,13 @@ fn empty<const K: usize, I: Incidence<K>, L: Ledger>(
         place: 0,
     }; PART];
     let mut places = [0; PART];
-    let mut known = [0u8; PART];
     let mut at = 0;
     let mut count = 0;
     'parts: while at < pairs.len() {
         let many = PART.min((pairs.len() - at) / 2);
         read_pairs(&pairs[at..at + 2 * many], &mut halves[..many]);
-        let freed = incidence.remove(&halves[..many], &mut places, steps);
-        look_up_places(bytes, &places[..freed], &mut known);
-        count += mark_listed(&places[..freed], &known, rounds, bytes, marks);
+        let alone = incidence.remove(&halves[..many], &mut places, steps);
+        count += freed::wait(&places[..alone], plan, bytes, freed, marks);
         at += 2 * many;
     }
     count
@@ -164,9 +137,9 @@ fn empty_block<const K: usize, I: Incidence<K>, L: Ledger>(
     edges: &Edges<K>,
     incidence: &mut I,
     b: usize,
-    size: usize,
-    rounds: u32,
+    plan: Plan,
     bytes: &mut [u8],
+    freed: &mut [u32],
     room: &[u32],
     marks: &mut [u64],
     counts: &mut [u32],
@@ -175,19 +148,19 @@ fn empty_block<const K: usize, I: Incidence<K>, L: Ledger>(
     requires small { K ≤ 3 }
     requires fits { length edges.now.edges ≤ 67108864 }
     requires edges { AreEdges K edges.now.vertices edges.now.edges }
-    requires early { rounds < length edges.now.edges }
-    requires room { IsRoom edges.now size room.now counts.old marks.old }
+    requires early { plan.rounds < length edges.now.edges }
+    requires room { IsRoom edges.now plan.size room.now counts.old marks.old }
     requires there { b < length counts.old }
-    requires state { (done : List ℕ) × InBlocks edges.now rounds size room.now counts.old (I.links incidence.old) marks.old bytes.old done }
+    requires state { (done : List ℕ) × InBlocks edges.now plan.rounds plan.size plan.blocks plan.each room.now counts.old (I.links incidence.old) marks.old bytes.old freed.old done }
     ensures counts { counts.new ≡ slice_set counts.old b 0 }
-    ensures state { (done : List ℕ) → InBlocks edges.now rounds size room.now counts.old (I.links incidence.old) marks.old bytes.old done → InBlocks edges.now rounds size room.now counts.new (I.links incidence.new) marks.new bytes.new done }
+    ensures state { (done : List ℕ) → InBlocks edges.now plan.rounds plan.size plan.blocks plan.each room.now counts.old (I.links incidence.old) marks.old bytes.old freed.old done → InBlocks edges.now plan.rounds plan.size plan.blocks plan.each room.now counts.new (I.links incidence.new) marks.new bytes.new freed.new done }
     ensures count { length (marked_of marks.new) ≡ length (marked_of marks.old) + result }
     ensures steps { steps.new ≤ steps.old + 3 * slice_index counts.old b }
 {
     let many = 2 * counts[b] as usize;
     counts[b] = 0;
-    let pairs = &room[b * size..b * size + many];
-    empty(edges, incidence, pairs, rounds, bytes, marks, steps)
+    let pairs = &room[b * plan.size..b * plan.size + many];
+    empty(edges, incidence, pairs, plan, bytes, freed, marks, steps)
 }
 
 /// Empties a block if its part is full, and says how many edges were marked.
@@ -195,9 +168,9 @@ fn settle<const K: usize, I: Incidence<K>, L: Ledger>(
     edges: &Edges<K>,
     incidence: &mut I,
     b: usize,
-    size: usize,
-    rounds: u32,
+    plan: Plan,
     bytes: &mut [u8],
+    freed: &mut [u32],
     room: &[u32],
     marks: &mut [u64],
     counts: &mut [u32],
@@ -206,22 +179,22 @@ fn settle<const K: usize, I: Incidence<K>, L: Ledger>(
     requires small { K ≤ 3 }
     requires fits { length edges.now.edges ≤ 67108864 }
     requires edges { AreEdges K edges.now.vertices edges.now.edges }
-    requires early { rounds < length edges.now.edges }
-    requires room { IsRoom edges.now size room.now counts.old marks.old }
-    requires positive { 0 < size }
+    requires early { plan.rounds < length edges.now.edges }
+    requires room { IsRoom edges.now plan.size room.now counts.old marks.old }
+    requires positive { 0 < plan.size }
     requires there { b < length counts.old }
-    requires state { (done : List ℕ) × InBlocks edges.now rounds size room.now counts.old (I.links incidence.old) marks.old bytes.old done }
-    ensures free { 2 * slice_index counts.new b < size }
+    requires state { (done : List ℕ) × InBlocks edges.now plan.rounds plan.size plan.blocks plan.each room.now counts.old (I.links incidence.old) marks.old bytes.old freed.old done }
+    ensures free { 2 * slice_index counts.new b < plan.size }
     ensures others { (k : ℕ) → k ≢ b → slice_index counts.new k ≡ slice_index counts.old k }
-    ensures state { (done : List ℕ) → InBlocks edges.now rounds size room.now counts.old (I.links incidence.old) marks.old bytes.old done → InBlocks edges.now rounds size room.now counts.new (I.links incidence.new) marks.new bytes.new done }
+    ensures state { (done : List ℕ) → InBlocks edges.now plan.rounds plan.size plan.blocks plan.each room.now counts.old (I.links incidence.old) marks.old bytes.old freed.old done → InBlocks edges.now plan.rounds plan.size plan.blocks plan.each room.now counts.new (I.links incidence.new) marks.new bytes.new freed.new done }
     ensures count { length (marked_of marks.new) ≡ length (marked_of marks.old) + result }
     ensures steps { steps.new + 3 * sum counts.new ≤ steps.old + 3 * sum counts.old }
 {
-    if (2 * counts[b] as usize) < size {
+    if (2 * counts[b] as usize) < plan.size {
         return 0;
     }
     empty_block(
-        edges, incidence, b, size, rounds, bytes, room, marks, counts, steps,
+        edges, incidence, b, plan, bytes, freed, room, marks, counts, steps,
     )
 }
 
@@ -231,9 +204,9 @@ fn wait<const K: usize, I: Incidence<K>, L: Ledger>(
     edges: &Edges<K>,
     incidence: &mut I,
     halves: &[Half],
-    size: usize,
-    rounds: u32,
+    plan: Plan,
     bytes: &mut [u8],
+    freed: &mut [u32],
     room: &mut [u32],
     marks: &mut [u64],
     counts: &mut [u32],
@@ -242,24 +215,24 @@ fn wait<const K: usize, I: Incidence<K>, L: Ledger>(
     requires small { K ≤ 3 }
     requires fits { length edges.now.edges ≤ 67108864 }
     requires edges { AreEdges K edges.now.vertices edges.now.edges }
-    requires early { rounds < length edges.now.edges }
-    requires room { IsRoom edges.now size room.old counts.old marks.old }
-    requires positive { 0 < size }
-    requires free { IsOpen size counts.old }
+    requires early { plan.rounds < length edges.now.edges }
+    requires room { IsRoom edges.now plan.size room.old counts.old marks.old }
+    requires positive { 0 < plan.size }
+    requires free { IsOpen plan.size counts.old }
     requires ends { All (IsEnd edges.now.edges) halves.now }
-    requires others { (q : ℕ) → has (map (λ h. h.place) halves.now) q ≡ true → IsOtherPlace edges.now.edges rounds q }
+    requires others { (q : ℕ) → has (map (λ h. h.place) halves.now) q ≡ true → IsOtherPlace edges.now.edges plan.rounds q }
     requires apart { AreApart (map (λ h. h.place) halves.now) }
-    requires state { (done : List ℕ) × ((q : ℕ) → has (map (λ h. h.place) halves.now) q ≡ true → has done q ≡ false) × InBlocks edges.now rounds size room.old counts.old (I.links incidence.old) marks.old bytes.old done }
-    ensures free { IsOpen size counts.new }
-    ensures state { (done : List ℕ) → ((q : ℕ) → has (map (λ h. h.place) halves.now) q ≡ true → has done q ≡ false) → InBlocks edges.now rounds size room.old counts.old (I.links incidence.old) marks.old bytes.old done → InBlocks edges.now rounds size room.new counts.new (I.links incidence.new) marks.new bytes.new (done ++ map (λ h. h.place) halves.now) }
+    requires state { (done : List ℕ) × ((q : ℕ) → has (map (λ h. h.place) halves.now) q ≡ true → has done q ≡ false) × InBlocks edges.now plan.rounds plan.size plan.blocks plan.each room.old counts.old (I.links incidence.old) marks.old bytes.old freed.old done }
+    ensures free { IsOpen plan.size counts.new }
+    ensures state { (done : List ℕ) → ((q : ℕ) → has (map (λ h. h.place) halves.now) q ≡ true → has done q ≡ false) → InBlocks edges.now plan.rounds plan.size plan.blocks plan.each room.old counts.old (I.links incidence.old) marks.old bytes.old freed.old done → InBlocks edges.now plan.rounds plan.size plan.blocks plan.each room.new counts.new (I.links incidence.new) marks.new bytes.new freed.new (done ++ map (λ h. h.place) halves.now) }
     ensures count { length (marked_of marks.new) ≡ length (marked_of marks.old) + result }
     ensures steps { steps.new + 3 * sum counts.new ≤ steps.old + 3 * (sum counts.old + length halves.now) }
 {
     let mut count = 0;
     for half in halves {
-        let b = put(*half, size, room, counts);
+        let b = put(*half, plan.size, room, counts);
         count += settle(
-            edges, incidence, b, size, rounds, bytes, room, marks, counts, steps,
+            edges, incidence, b, plan, bytes, freed, room, marks, counts, steps,
         );
     }
     count
@@ -269,9 +242,9 @@ fn wait<const K: usize, I: Incidence<K>, L: Ledger>(
 fn empty_all<const K: usize, I: Incidence<K>, L: Ledger>(
     edges: &Edges<K>,
     incidence: &mut I,
-    size: usize,
-    rounds: u32,
+    plan: Plan,
     bytes: &mut [u8],
+    freed: &mut [u32],
     room: &[u32],
     marks: &mut [u64],
     counts: &mut [u32],
@@ -280,11 +253,11 @@ fn empty_all<const K: usize, I: Incidence<K>, L: Ledger>(
     requires small { K ≤ 3 }
     requires fits { length edges.now.edges ≤ 67108864 }
     requires edges { AreEdges K edges.now.vertices edges.now.edges }
-    requires early { rounds < length edges.now.edges }
-    requires room { IsRoom edges.now size room.now counts.old marks.old }
-    requires state { (done : List ℕ) × InBlocks edges.now rounds size room.now counts.old (I.links incidence.old) marks.old bytes.old done }
+    requires early { plan.rounds < length edges.now.edges }
+    requires room { IsRoom edges.now plan.size room.now counts.old marks.old }
+    requires state { (done : List ℕ) × InBlocks edges.now plan.rounds plan.size plan.blocks plan.each room.now counts.old (I.links incidence.old) marks.old bytes.old freed.old done }
     ensures none { AreEmpty counts.new }
-    ensures state { (done : List ℕ) → InBlocks edges.now rounds size room.now counts.old (I.links incidence.old) marks.old bytes.old done → InBlocks edges.now rounds size room.now counts.new (I.links incidence.new) marks.new bytes.new done }
+    ensures state { (done : List ℕ) → InBlocks edges.now plan.rounds plan.size plan.blocks plan.each room.now counts.old (I.links incidence.old) marks.old bytes.old freed.old done → InBlocks edges.now plan.rounds plan.size plan.blocks plan.each room.now counts.new (I.links incidence.new) marks.new bytes.new freed.new done }
     ensures count { length (marked_of marks.new) ≡ length (marked_of marks.old) + result }
     ensures steps { steps.new + 3 * sum counts.new ≤ steps.old + 3 * sum counts.old }
 {
@@ -292,7 +265,7 @@ fn empty_all<const K: usize, I: Incidence<K>, L: Ledger>(
     let mut b = 0;
     'each: while b < counts.len() {
         count += empty_block(
-            edges, incidence, b, size, rounds, bytes, room, marks, counts, steps,
+            edges, incidence, b, plan, bytes, freed, room, marks, counts, steps,
         );
         b += 1;
     }
@@ -304,9 +277,9 @@ fn wait_round<const K: usize, I: Incidence<K>, L: Ledger>(
     edges: &Edges<K>,
     incidence: &mut I,
     round: &[u32],
-    size: usize,
-    rounds: u32,
+    plan: Plan,
     bytes: &mut [u8],
+    freed: &mut [u32],
     room: &mut [u32],
     marks: &mut [u64],
     counts: &mut [u32],
@@ -315,13 +288,13 @@ fn wait_round<const K: usize, I: Incidence<K>, L: Ledger>(
     requires small { K ≤ 3 }
     requires fits { length edges.now.edges ≤ 67108864 }
     requires edges { AreEdges K edges.now.vertices edges.now.edges }
-    requires round { round.now ≡ removed_after edges.now.edges rounds }
-    requires early { rounds < length edges.now.edges }
-    requires room { IsRoom edges.now size room.old counts.old marks.old }
-    requires positive { 0 < size }
-    requires free { IsOpen size counts.old }
-    requires state { InBlocks edges.now rounds size room.old counts.old (I.links incidence.old) marks.old bytes.old [] }
-    ensures state { InBlocks edges.now rounds size room.new counts.new (I.links incidence.new) marks.new bytes.new (other_places edges.now.edges round.now) }
+    requires round { round.now ≡ removed_after edges.now.edges plan.rounds }
+    requires early { plan.rounds < length edges.now.edges }
+    requires room { IsRoom edges.now plan.size room.old counts.old marks.old }
+    requires positive { 0 < plan.size }
+    requires free { IsOpen plan.size counts.old }
+    requires state { InBlocks edges.now plan.rounds plan.size plan.blocks plan.each room.old counts.old (I.links incidence.old) marks.old bytes.old freed.old [] }
+    ensures state { InBlocks edges.now plan.rounds plan.size plan.blocks plan.each room.new counts.new (I.links incidence.new) marks.new bytes.new freed.new (other_places edges.now.edges round.now) }
     ensures count { length (marked_of marks.new) ≡ length (marked_of marks.old) + result }
     ensures steps { steps.new + 3 * sum counts.new ≤ steps.old + 3 * (sum counts.old + K * length round.now) }
 {
@@ -345,11 +318,72 @@ fn wait_round<const K: usize, I: Incidence<K>, L: Ledger>(
         );
         let now = &halves[..others];
         count += wait(
-            edges, incidence, now, size, rounds, bytes, room, marks, counts, steps,
+            edges, incidence, now, plan, bytes, freed, room, marks, counts, steps,
         );
         at += many;
     }
     count
+}
+
+/// Removes the half-edges of a round but for those of its pivots, takes and marks the edges of the next one, and says how many they are. Nothing
+/// waits, before and after.
+fn unlink_marked<const K: usize, I: Incidence<K>, L: Ledger>(
+    edges: &Edges<K>,
+    incidence: &mut I,
+    round: &[u32],
+    plan: Plan,
+    bytes: &mut [u8],
+    freed: &mut [u32],
+    room: &mut [u32],
+    marks: &mut [u64],
+    counts: &mut [u32],
+    steps: &mut Steps<L>,
+) -> usize
+    requires small { K ≤ 3 }
+    requires fits { length edges.now.edges ≤ 67108864 }
+    requires edges { AreEdges K edges.now.vertices edges.now.edges }
+    requires round { round.now ≡ removed_after edges.now.edges plan.rounds }
+    requires early { plan.rounds < length edges.now.edges }
+    requires room { IsRoom edges.now plan.size room.old counts.old marks.old }
+    requires positive { 0 < plan.size }
+    requires empty { AreEmpty counts.old }
+    requires marks { IsUnmarked (length edges.now.edges) marks.old }
+    requires state { InTaking edges.now plan.rounds plan.blocks plan.each [] (I.links incidence.old) marks.old bytes.old freed.old }
+    ensures state { InRound edges.now plan.rounds (other_places edges.now.edges round.now) (I.links incidence.new) (marked_of marks.new) bytes.new }
+    ensures count { length (marked_of marks.new) ≡ result }
+    ensures empty { AreEmpty counts.new }
+    ensures steps { steps.new ≤ steps.old + 3 * (K * length round.now) }
+{
+    let before = wait_round(
+        edges, incidence, round, plan, bytes, freed, room, marks, counts, steps,
+    );
+    let last = empty_all(
+        edges, incidence, plan, bytes, freed, room, marks, counts, steps,
+    );
+    before + last + freed::take_all(plan, bytes, freed, marks)
+}
+
+/// How a round by blocks uses its room: `long` numbers for the half-edges of so many blocks of vertices, and `space` for the places of so many edges.
+fn plan_round(rounds: u32, edges: u32, counts: usize, long: usize, space: usize) -> Plan
+    requires some { 0 < edges }
+    requires fits { edges ≤ 67108864 }
+    requires counts { 0 < counts }
+    requires long { long ≤ 67109056 }
+    requires space { 1024 ≤ space }
+    ensures rounds { result.rounds ≡ rounds }
+    ensures size { result.size ≡ 2 * (long / 2 / counts) }
+    ensures edges { edges ≤ 131072 * result.blocks }
+    ensures some { 0 < result.each }
+    ensures short { result.each ≤ 16384 }
+    ensures within { result.blocks + result.blocks * result.each ≤ space }
+{
+    let blocks = edges.div_ceil(EDGES) as usize;
+    Plan {
+        rounds,
+        size: 2 * (long / 2 / counts),
+        blocks,
+        each: FREED.min(space / blocks - 1),
+    }
 }
 
 /// Removes the half-edges of a round but for those of its pivots, takes the edges of the next one, lists them by rising number, and says how
@@ -375,6 +409,7 @@ pub(crate) fn unlink_by_blocks<const K: usize, I: Incidence<K>, L: Ledger>(
     requires few { length list.old ≤ 67109056 }
     requires some { 0 < length counts.old }
     requires pairs { 128 * length counts.old ≤ length list.old }
+    requires space { 8192 ≤ length list.old }
     requires blocks { edges.now.vertices ≤ 65536 * length counts.old }
     requires empty { AreEmpty counts.old }
     requires marks { IsUnmarked (length edges.now.edges) marks.old }
@@ -386,14 +421,13 @@ pub(crate) fn unlink_by_blocks<const K: usize, I: Incidence<K>, L: Ledger>(
     ensures marks { IsUnmarked (length edges.now.edges) marks.new }
     ensures steps { steps.new ≤ steps.old + 3 * (K * length round.now) }
 {
-    let size = 2 * (list.len() / 2 / counts.len());
-    let before = wait_round(
-        edges, incidence, round, size, rounds, bytes, list, marks, counts, steps,
+    let long = list.len() - list.len() / 8;
+    let (room, freed) = list.split_at_mut(long);
+    let plan = plan_round(rounds, edges.len(), counts.len(), room.len(), freed.len());
+    freed::clear(plan.blocks, freed);
+    let count = unlink_marked(
+        edges, incidence, round, plan, bytes, freed, room, marks, counts, steps,
     );
-    let last = empty_all(
-        edges, incidence, size, rounds, bytes, list, marks, counts, steps,
-    );
-    let count = before + last;
     list_marked(marks, &mut list[..count]);
     count
 }

@@ -3,6 +3,7 @@
 
 mod blocks;
 mod chunk;
+mod freed;
 pub mod laws;
 mod marks;
 pub mod peeled;

@@ -1,7 +1,6 @@
 use Rattle.std.proofs.Common.{◌≡◌, ◌≤◌, ◌+◌, ◌-◌, ◌*◌, ◌/◌, ◌++◌, ℕ, List, length, map, take}
 use Rattle.cm_graph.specs.Graph.{removed_all}
-use Rattle.cm_peel.specs.AtRound.{InRound}
-use Rattle.cm_peel.specs.Waiting.{halves_in, marked_of}
+use Rattle.cm_peel.specs.Waiting.{InTaking, halves_in, marked_of}
 use Rattle.cm_peel.proofs.Incident.{place_in}
 use Rattle.cm_peel.proofs.blocks.empty.Given as goal
 
@@ -9,12 +8,11 @@ abbrev pub invariant-parts : goal.invariant-parts
 invariant-parts g l = record {
   halves : length l.halves ≡ 256;
   places : length l.places ≡ 256;
-  known : length l.known ≡ 256;
   even : l.at ≡ 2 * (l.at / 2);
   high : l.at ≤ length l.pairs;
   room : length l.marks ≡ length l.fn.marks;
   links : g.I.Incidence.links l.incidence ≡ removed_all (g.I.Incidence.links l.fn.incidence) (take (l.at / 2) (halves_in l.pairs));
-  state : (gone : List ℕ) → InRound l.edges l.rounds gone (g.I.Incidence.links l.fn.incidence) (marked_of l.fn.marks) l.fn.bytes → InRound l.edges l.rounds (gone ++ map place_in (take (l.at / 2) (halves_in l.pairs))) (g.I.Incidence.links l.incidence) (marked_of l.marks) l.bytes;
+  state : (gone : List ℕ) → InTaking l.edges l.plan.rounds l.plan.blocks l.plan.each gone (g.I.Incidence.links l.fn.incidence) l.fn.marks l.fn.bytes l.fn.freed → InTaking l.edges l.plan.rounds l.plan.blocks l.plan.each (gone ++ map place_in (take (l.at / 2) (halves_in l.pairs))) (g.I.Incidence.links l.incidence) l.marks l.bytes l.freed;
   count : length (marked_of l.marks) ≡ length (marked_of l.fn.marks) + l.count;
   steps : l.steps ≤ l.fn.steps + 3 * (l.at / 2);
 }

@@ -1,11 +1,10 @@
-use Rattle.std.proofs.Common.{◌≡◌, ◌∙◌, ℕ, suc, List, ◌+◌, ◌*◌, ◌<◌, length, get_or, set, sum, ap, inl, inr, arith, rules, get_or-set_other}
+use Rattle.std.proofs.Common.{◌≡◌, ◌∙◌, ℕ, List, ◌+◌, ◌*◌, ◌<◌, length, get_or, set, sum, ap, inl, inr, arith, rules, get_or-set_other}
 use Rattle.std.proofs.lemmas.Bool.{cases_lt}
 use Rattle.std.proofs.lemmas.List.{get_or-set_same}
 use Rattle.std.proofs.lemmas.List.Sums.{sum_by-set}
 use Rattle.cm_graph.specs.Graph.{Graph}
 use Rattle.cm_peel.specs.Waiting.{IsRoom}
-use Rattle.cm_peel.specs.RoundLaws.{length-order}
-use Rattle.cm_peel.proofs.InRound.{next_few}
+use Rattle.cm_peel.proofs.Settling.{marked_few}
 use Rattle.cm_peel.proofs.blocks.empty_all.Goals as goal
 
 pub empty_block-count-requires : goal.empty_block-count-requires
@@ -13,7 +12,7 @@ empty_block-count-requires g c =
     let inv = c.each.invariant in
     let graph : Graph = c.args.edges.now in
     let st = c.requires.state in
-    let fits : IsRoom graph c.args.size c.args.room.now c.each.counts c.each.marks = record { even = c.requires.room.even; within = omega (arith, c.requires.room.within, ap (λ n. n * c.args.size) inv.counts); few = c.requires.room.few; blocks = omega (arith, c.requires.room.blocks, inv.counts); all_marks = omega (arith, c.requires.room.all_marks, inv.marks) } in
+    let fits : IsRoom graph c.args.plan.size c.args.room.now c.each.counts c.each.marks = record { even = c.requires.room.even; within = omega (arith, c.requires.room.within, ap (λ n. n * c.args.plan.size) inv.counts); few = c.requires.room.few; blocks = omega (arith, c.requires.room.blocks, inv.counts); all_marks = omega (arith, c.requires.room.all_marks, inv.marks) } in
     (search rules, (c.requires.small, (c.requires.fits, (c.requires.edges, (c.requires.early, (fits, (omega (arith, c.each-test.true), (st.0, inv.state st.0 st.1))))))))
 
 pub overflow_add-count : goal.overflow_add-count
@@ -22,7 +21,7 @@ overflow_add-count g c =
     let graph : Graph = c.args.edges.now in
     let st = c.requires.state in
     let r = c.empty_block-count.ensures.state _ (inv.state st.0 st.1) in
-    let small : c.each.count + c.empty_block-count.result < 67108865 = omega (arith, next_few graph c.args.rounds _ _ _ _ r.round, c.empty_block-count.ensures.count, inv.count, length-order graph.edges (suc c.args.rounds), c.requires.fits) in
+    let small : c.each.count + c.empty_block-count.result < 67108865 = omega (arith, marked_few c.empty_block-count.new.marks, r.round.leads.few_marks, c.empty_block-count.ensures.count, inv.count) in
     search rules
 
 -- one more block is empty

@@ -8,7 +8,7 @@ invariant-each g l = record {
   marks : length l.marks ≡ length l.fn.marks;
   high : l.b ≤ length l.counts;
   none : (k : ℕ) → k < l.b → get_or l.counts k 0 ≡ 0;
-  state : (done : List ℕ) → InBlocks l.edges l.rounds l.size l.room l.fn.counts (g.I.Incidence.links l.fn.incidence) l.fn.marks l.fn.bytes done → InBlocks l.edges l.rounds l.size l.room l.counts (g.I.Incidence.links l.incidence) l.marks l.bytes done;
+  state : (done : List ℕ) → InBlocks l.edges l.plan.rounds l.plan.size l.plan.blocks l.plan.each l.room l.fn.counts (g.I.Incidence.links l.fn.incidence) l.fn.marks l.fn.bytes l.fn.freed done → InBlocks l.edges l.plan.rounds l.plan.size l.plan.blocks l.plan.each l.room l.counts (g.I.Incidence.links l.incidence) l.marks l.bytes l.freed done;
   count : length (marked_of l.marks) ≡ length (marked_of l.fn.marks) + l.count;
   steps : l.steps + 3 * sum l.counts ≤ l.fn.steps + 3 * sum l.fn.counts;
 }

@@ -1,48 +1,60 @@
-use Rattle.std.proofs.Common.{◌≡◌, ◌∙◌, ℕ, suc, ◌+◌, ◌*◌, ◌<◌, ◌≤◌, List, ◌++◌, length, take, drop, sym, subst, arith, rules, nat_cmp}
+use Rattle.std.proofs.Common.{◌≡◌, ◌∙◌, ℕ, suc, ◌+◌, ◌*◌, ◌/◌, ◌<◌, ◌≤◌, List, [], ◌++◌, length, get_or, take, drop, sym, ap, subst, arith, rules, nat_cmp, length-append}
 use Rattle.std.specs.List.Sorted.{IsSorted}
 use Rattle.std.proofs.lemmas.List.{length-take-le}
-use Rattle.cm_graph.specs.Graph.{Graph}
+use Rattle.cm_spec.specs.Rounds.{left_after, removed_after}
+use Rattle.cm_graph.specs.Graph.{Graph, Links}
 use Rattle.cm_peel.specs.AtRound.{InRound, other_places}
-use Rattle.cm_peel.specs.Marks.{is_marked}
-use Rattle.cm_peel.specs.RoundLaws.{length-order}
-use Rattle.cm_peel.specs.Waiting.{marked_of}
-use Rattle.cm_peel.proofs.ByBlocks.{all_counted, blocks_begun, blocks_ended, counted_within, part_some, room_of_parts, sum_none}
+use Rattle.cm_peel.specs.Marks.{IsUnmarked, is_marked}
+use Rattle.cm_peel.specs.Waiting.{IsRoom, InTaking, marked_of}
+use Rattle.cm_peel.proofs.ByBlocks.{part_some, room_of_parts, taking_begun}
 use Rattle.cm_peel.proofs.InRound.{next_few}
 use Rattle.cm_peel.proofs.Listing.{kept_sorted}
 use Rattle.cm_peel.proofs.Pieces.{front_written}
+use Rattle.cm_peel.proofs.Settling.{leads_begun}
 use Rattle.cm_peel.proofs.blocks.unlink_by_blocks.Goals as goal
 
-pub wait_round-before-requires : goal.wait_round-before-requires
-wait_round-before-requires g c =
-    let room = room_of_parts c.args.edges.now c.args.list.now c.args.counts.now c.args.marks.now c.requires.few c.requires.blocks c.requires.marks in
-    let some = part_some (length c.args.list.now) (length c.args.counts.now) c.requires.some c.requires.pairs in
-    (search rules, (c.requires.small, (c.requires.fits, (c.requires.edges, (c.requires.round, (c.requires.early, (room, (some, ((λ b m. omega (arith, c.requires.empty b m, some)), blocks_begun _ _ _ _ _ _ _ _ c.requires.state c.requires.empty c.requires.marks.clear)))))))))
+-- before the first place waits
+ready : (graph : Graph) (t t' blocks each : ℕ) (l : Links) (marks bytes freed : List ℕ) → t' ≡ t → InRound graph t [] l [] bytes → IsUnmarked (length graph.edges) marks → blocks + blocks * each ≤ length freed → length freed ≤ 67109056 → each ≤ 16384 → 0 < each → length graph.edges ≤ 131072 * blocks → ((b : ℕ) → b < blocks → get_or freed b 0 ≡ 0) → InTaking graph t' blocks each [] l marks bytes freed
+ready graph t t' blocks each l marks bytes freed same r u within few short some all none =
+    taking_begun graph t' blocks each l marks bytes freed (subst (λ (n : ℕ). InRound graph n [] l [] bytes) (sym same) r) (leads_begun t' blocks each marks bytes freed within few short (omega (arith, all, r.bytes_long)) (omega (arith, u.room, r.bytes_long)) u.fits u.clear none) none some
 
-pub overflow_add-count : goal.overflow_add-count
-overflow_add-count g c =
+fits_for : (graph : Graph) (size : ℕ) (list counts marks : List ℕ) → size ≡ 2 * (length list / 2 / length counts) → length list ≤ 67109056 → graph.vertices ≤ 65536 * length counts → IsUnmarked (length graph.edges) marks → IsRoom graph size list counts marks
+fits_for graph size list counts marks is few blocks u = subst (λ (n : ℕ). IsRoom graph n list counts marks) (sym is) (room_of_parts graph list counts marks few blocks u)
+
+pub unlink_marked-count-requires : goal.unlink_marked-count-requires
+unlink_marked-count-requires g c =
     let graph : Graph = c.args.edges.now in
-    let r = blocks_ended _ _ _ _ _ _ _ _ _ (c.empty_all-last.ensures.state _ c.wait_round-before.ensures.state) c.empty_all-last.ensures.none in
-    let many = all_counted c.args.marks.now c.wait_round-before.new.marks c.empty_all-last.new.marks c.wait_round-before.result c.empty_all-last.result c.requires.marks.clear c.wait_round-before.ensures.count c.empty_all-last.ensures.count in
-    let small : c.wait_round-before.result + c.empty_all-last.result < 67108865 = omega (arith, next_few graph c.args.rounds _ _ _ _ r, many, length-order graph.edges (suc c.args.rounds), c.requires.fits) in
-    search rules
+    let p = c.plan_round-plan.ensures in
+    let split = c.split_at_mut-room.ensures in
+    let front : List ℕ = c.split_at_mut-room.result.0.now in
+    let counts : List ℕ = c.args.counts.now in
+    let few : length front ≤ 67109056 = omega (arith, split.front_len, c.requires.few) in
+    let fits = fits_for graph c.plan_round-plan.result.size front counts c.args.marks.now p.size few c.requires.blocks c.requires.marks in
+    let some : 0 < c.plan_round-plan.result.size = omega (arith, p.size, part_some (length front) (length counts) c.requires.some (omega (arith, split.front_len, c.requires.pairs))) in
+    let state = ready graph c.args.rounds c.plan_round-plan.result.rounds c.plan_round-plan.result.blocks c.plan_round-plan.result.each (g.I.Incidence.links c.args.incidence.now) c.args.marks.now c.args.bytes.now c.clear.new.freed p.rounds c.requires.state c.requires.marks (omega (arith, p.within, c.clear.auto.freed)) (omega (arith, split.back_len, c.clear.auto.freed, c.requires.few)) p.short p.some (omega (arith, p.edges, c.len.ensures.count)) c.clear.ensures.none in
+    (search rules, (c.requires.small, (c.requires.fits, (c.requires.edges, (c.requires.round ∙ ap (removed_after graph.edges) (sym p.rounds), (omega (arith, c.requires.early, p.rounds), (fits, (some, (c.requires.empty, (c.requires.marks, state))))))))))
+
+-- the marked edges fit into the list
+few_for : (graph : Graph) (t t' count : ℕ) (gone : List ℕ) (l : Links) (marks bytes old room freed : List ℕ) → t' ≡ t → InRound graph t' gone l (marked_of marks) bytes → length (marked_of marks) ≡ count → length (left_after graph.edges (suc t)) ≤ length old → length room + length freed ≡ length old → count ≤ length (room ++ freed)
+few_for graph t t' count gone l marks bytes old room freed same r many fits long = omega (arith, next_few graph t' gone l (marked_of marks) bytes r, many, fits, long, length-append room freed, ap (λ n. length (left_after graph.edges (suc n))) same)
 
 pub slice_bounds-list_marked-end : goal.slice_bounds-list_marked-end
 slice_bounds-list_marked-end g c =
-    let r = blocks_ended _ _ _ _ _ _ _ _ _ (c.empty_all-last.ensures.state _ c.wait_round-before.ensures.state) c.empty_all-last.ensures.none in
-    let many = all_counted c.args.marks.now c.wait_round-before.new.marks c.empty_all-last.new.marks c.wait_round-before.result c.empty_all-last.result c.requires.marks.clear c.wait_round-before.ensures.count c.empty_all-last.ensures.count in
-    counted_within c.args.edges.now c.args.rounds _ _ _ c.empty_all-last.new.marks c.empty_all-last.new.bytes c.args.list.now c.wait_round-before.new.room r many c.requires.room c.wait_round-before.auto.room
+    let split = c.split_at_mut-room.ensures in
+    let long : length c.unlink_marked-count.new.room + length c.unlink_marked-count.new.freed ≡ length c.args.list.now = omega (arith, c.unlink_marked-count.auto.room, c.unlink_marked-count.auto.freed, c.clear.auto.freed, split.front_len, split.back_len) in
+    few_for c.args.edges.now c.args.rounds _ _ _ _ c.unlink_marked-count.new.marks c.unlink_marked-count.new.bytes c.args.list.now _ _ c.plan_round-plan.ensures.rounds c.unlink_marked-count.ensures.state c.unlink_marked-count.ensures.count c.requires.room long
 
 pub slice_bounds-list_marked-end-2 : goal.slice_bounds-list_marked-end-2
 slice_bounds-list_marked-end-2 g c =
-    let r = blocks_ended _ _ _ _ _ _ _ _ _ (c.empty_all-last.ensures.state _ c.wait_round-before.ensures.state) c.empty_all-last.ensures.none in
-    let many = all_counted c.args.marks.now c.wait_round-before.new.marks c.empty_all-last.new.marks c.wait_round-before.result c.empty_all-last.result c.requires.marks.clear c.wait_round-before.ensures.count c.empty_all-last.ensures.count in
-    sym (length-take-le _ c.wait_round-before.new.room (counted_within c.args.edges.now c.args.rounds _ _ _ c.empty_all-last.new.marks c.empty_all-last.new.bytes c.args.list.now c.wait_round-before.new.room r many c.requires.room c.wait_round-before.auto.room))
+    let split = c.split_at_mut-room.ensures in
+    let long : length c.unlink_marked-count.new.room + length c.unlink_marked-count.new.freed ≡ length c.args.list.now = omega (arith, c.unlink_marked-count.auto.room, c.unlink_marked-count.auto.freed, c.clear.auto.freed, split.front_len, split.back_len) in
+    sym (length-take-le _ (c.unlink_marked-count.new.room ++ c.unlink_marked-count.new.freed) (few_for c.args.edges.now c.args.rounds _ _ _ _ c.unlink_marked-count.new.marks c.unlink_marked-count.new.bytes c.args.list.now _ _ c.plan_round-plan.ensures.rounds c.unlink_marked-count.ensures.state c.unlink_marked-count.ensures.count c.requires.room long))
 
 pub list_marked-requires-clause-room : goal.list_marked-requires-clause-room
 list_marked-requires-clause-room g c =
-    let r = blocks_ended _ _ _ _ _ _ _ _ _ (c.empty_all-last.ensures.state _ c.wait_round-before.ensures.state) c.empty_all-last.ensures.none in
-    let many = all_counted c.args.marks.now c.wait_round-before.new.marks c.empty_all-last.new.marks c.wait_round-before.result c.empty_all-last.result c.requires.marks.clear c.wait_round-before.ensures.count c.empty_all-last.ensures.count in
-    length-take-le _ c.wait_round-before.new.room (counted_within c.args.edges.now c.args.rounds _ _ _ c.empty_all-last.new.marks c.empty_all-last.new.bytes c.args.list.now c.wait_round-before.new.room r many c.requires.room c.wait_round-before.auto.room) ∙ sym many
+    let split = c.split_at_mut-room.ensures in
+    let long : length c.unlink_marked-count.new.room + length c.unlink_marked-count.new.freed ≡ length c.args.list.now = omega (arith, c.unlink_marked-count.auto.room, c.unlink_marked-count.auto.freed, c.clear.auto.freed, split.front_len, split.back_len) in
+    length-take-le _ (c.unlink_marked-count.new.room ++ c.unlink_marked-count.new.freed) (few_for c.args.edges.now c.args.rounds _ _ _ _ c.unlink_marked-count.new.marks c.unlink_marked-count.new.bytes c.args.list.now _ _ c.plan_round-plan.ensures.rounds c.unlink_marked-count.ensures.state c.unlink_marked-count.ensures.count c.requires.room long) ∙ sym c.unlink_marked-count.ensures.count
 
 -- the list once the marked edges are written into it
 list_is : (list new kept : List ℕ) (count : ℕ) → count ≤ length list → length new ≡ length (take count list) → new ≡ kept → take count (new ++ drop count list) ≡ kept
@@ -50,17 +62,17 @@ list_is list new kept count within long is = front_written new list count (long 
 
 pub returns-clause-state : goal.returns-clause-state
 returns-clause-state g c =
-    let r = blocks_ended _ _ _ _ _ _ _ _ _ (c.empty_all-last.ensures.state _ c.wait_round-before.ensures.state) c.empty_all-last.ensures.none in
-    let many = all_counted c.args.marks.now c.wait_round-before.new.marks c.empty_all-last.new.marks c.wait_round-before.result c.empty_all-last.result c.requires.marks.clear c.wait_round-before.ensures.count c.empty_all-last.ensures.count in
-    let list = list_is c.wait_round-before.new.room c.list_marked.new.list (marked_of c.empty_all-last.new.marks) _ (counted_within c.args.edges.now c.args.rounds _ _ _ c.empty_all-last.new.marks c.empty_all-last.new.bytes c.args.list.now c.wait_round-before.new.room r many c.requires.room c.wait_round-before.auto.room) c.list_marked.auto.list c.list_marked.ensures.list in
-    subst (λ (xs : List ℕ). InRound c.args.edges.now c.args.rounds (other_places c.args.edges.now.edges c.args.round.now) (g.I.Incidence.links c.empty_all-last.new.incidence) xs c.empty_all-last.new.bytes) (sym list) r
+    let split = c.split_at_mut-room.ensures in
+    let graph : Graph = c.args.edges.now in
+    let long : length c.unlink_marked-count.new.room + length c.unlink_marked-count.new.freed ≡ length c.args.list.now = omega (arith, c.unlink_marked-count.auto.room, c.unlink_marked-count.auto.freed, c.clear.auto.freed, split.front_len, split.back_len) in
+    let few = few_for graph c.args.rounds _ _ _ _ c.unlink_marked-count.new.marks c.unlink_marked-count.new.bytes c.args.list.now _ _ c.plan_round-plan.ensures.rounds c.unlink_marked-count.ensures.state c.unlink_marked-count.ensures.count c.requires.room long in
+    let list = list_is (c.unlink_marked-count.new.room ++ c.unlink_marked-count.new.freed) c.list_marked.new.list (marked_of c.unlink_marked-count.new.marks) _ few c.list_marked.auto.list c.list_marked.ensures.list in
+    subst (λ (xs : List ℕ). InRound graph c.args.rounds (other_places graph.edges c.args.round.now) (g.I.Incidence.links c.unlink_marked-count.new.incidence) xs c.unlink_marked-count.new.bytes) (sym list) (subst (λ (n : ℕ). InRound graph n (other_places graph.edges c.args.round.now) (g.I.Incidence.links c.unlink_marked-count.new.incidence) (marked_of c.unlink_marked-count.new.marks) c.unlink_marked-count.new.bytes) c.plan_round-plan.ensures.rounds c.unlink_marked-count.ensures.state)
 
 pub returns-clause-sorted : goal.returns-clause-sorted
 returns-clause-sorted g c =
-    let r = blocks_ended _ _ _ _ _ _ _ _ _ (c.empty_all-last.ensures.state _ c.wait_round-before.ensures.state) c.empty_all-last.ensures.none in
-    let many = all_counted c.args.marks.now c.wait_round-before.new.marks c.empty_all-last.new.marks c.wait_round-before.result c.empty_all-last.result c.requires.marks.clear c.wait_round-before.ensures.count c.empty_all-last.ensures.count in
-    let list = list_is c.wait_round-before.new.room c.list_marked.new.list (marked_of c.empty_all-last.new.marks) _ (counted_within c.args.edges.now c.args.rounds _ _ _ c.empty_all-last.new.marks c.empty_all-last.new.bytes c.args.list.now c.wait_round-before.new.room r many c.requires.room c.wait_round-before.auto.room) c.list_marked.auto.list c.list_marked.ensures.list in
-    subst (λ (xs : List ℕ). IsSorted nat_cmp xs) (sym list) (kept_sorted (is_marked c.empty_all-last.new.marks) (64 * length c.empty_all-last.new.marks))
-
-pub returns-clause-steps : goal.returns-clause-steps
-returns-clause-steps g c = omega (arith, c.empty_all-last.ensures.steps, c.wait_round-before.ensures.steps, sum_none c.args.counts.now c.requires.empty)
+    let split = c.split_at_mut-room.ensures in
+    let long : length c.unlink_marked-count.new.room + length c.unlink_marked-count.new.freed ≡ length c.args.list.now = omega (arith, c.unlink_marked-count.auto.room, c.unlink_marked-count.auto.freed, c.clear.auto.freed, split.front_len, split.back_len) in
+    let few = few_for c.args.edges.now c.args.rounds _ _ _ _ c.unlink_marked-count.new.marks c.unlink_marked-count.new.bytes c.args.list.now _ _ c.plan_round-plan.ensures.rounds c.unlink_marked-count.ensures.state c.unlink_marked-count.ensures.count c.requires.room long in
+    let list = list_is (c.unlink_marked-count.new.room ++ c.unlink_marked-count.new.freed) c.list_marked.new.list (marked_of c.unlink_marked-count.new.marks) _ few c.list_marked.auto.list c.list_marked.ensures.list in
+    subst (λ (xs : List ℕ). IsSorted nat_cmp xs) (sym list) (kept_sorted (is_marked c.unlink_marked-count.new.marks) (64 * length c.unlink_marked-count.new.marks))

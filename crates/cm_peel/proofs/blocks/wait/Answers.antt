@@ -1,4 +1,4 @@
-use Rattle.std.proofs.Common.{◌≡◌, ◌≢◌, ◌∙◌, ℕ, suc, true, false, List, [], ◌++◌, ◌%◌, ◌+◌, ◌*◌, ◌/◌, ◌<◌, length, get_or, set, map, sum, take, refl, sym, ap, subst, inl, inr, arith, rules, get_or-set_other}
+use Rattle.std.proofs.Common.{◌≡◌, ◌≢◌, ◌∙◌, ℕ, true, false, List, [], ◌++◌, ◌%◌, ◌+◌, ◌*◌, ◌/◌, ◌<◌, length, get_or, set, map, sum, take, refl, sym, ap, subst, inl, inr, arith, rules, get_or-set_other}
 use Rattle.std.specs.List.{All}
 use Rattle.std.proofs.lemmas.List.Sums.{sum_by-set}
 use Rattle.std.proofs.lemmas.Bool.{cases_eq}
@@ -8,9 +8,8 @@ use Rattle.cm_spec.specs.Graph.{AreEdges}
 use Rattle.cm_graph.specs.declared.incidence.Half.{Half}
 use Rattle.cm_graph.specs.Graph.{Graph, Links}
 use Rattle.cm_peel.specs.Waiting.{InBlocks, IsEnd, IsOpen, IsRoom}
-use Rattle.cm_peel.specs.RoundLaws.{length-order}
 use Rattle.cm_peel.proofs.Incident.{place_in}
-use Rattle.cm_peel.proofs.InRound.{next_few}
+use Rattle.cm_peel.proofs.Settling.{marked_few}
 use Rattle.cm_peel.proofs.Waits.{room_kept, wait_one}
 use Rattle.cm_peel.proofs.blocks.wait.Goals as goal
 
@@ -20,18 +19,30 @@ there_for k graph size room counts marks halves i b h at is are fits ends low =
     let end : IsEnd graph.edges h = subst (IsEnd graph.edges) is (ends i h low) in
     omega (arith, at, (are (h.place / 4) [] end.0).1.0 (h.place % 4) 0 end.1, end.2, fits.blocks)
 
+pub put-b-requires-clause-free : goal.put-b-requires-clause-free
+put-b-requires-clause-free g c =
+    let inv = c.loop-half.invariant in
+    let graph : Graph = c.args.edges.now in
+    let size : ℕ = c.args.plan.size in
+    let halves : List Half = c.args.halves.now in
+    let fits : IsRoom graph size c.loop-half.room c.loop-half.counts c.loop-half.marks = room_kept graph size c.args.room.now c.args.counts.now c.args.marks.now c.loop-half.room c.loop-half.counts c.loop-half.marks c.requires.room inv.room inv.counts inv.marks in
+    let i : ℕ = c.loop-half.half-index in
+    let h : Half = get_or halves i (record { vertex = 0; place = 0 }) in
+    let below = there_for g.row.K graph size c.loop-half.room c.loop-half.counts c.loop-half.marks halves i (h.vertex / 65536) h refl (get_or_default halves i _ _ c.loop-half-test.true) c.requires.edges fits c.requires.ends c.loop-half-test.true in
+    omega (arith, inv.free (h.vertex / 65536) below, c.requires.room.even)
+
 pub settle-count-requires : goal.settle-count-requires
 settle-count-requires g c =
     let inv = c.loop-half.invariant in
     let graph : Graph = c.args.edges.now in
-    let t : ℕ = c.args.rounds in
-    let size : ℕ = c.args.size in
+    let t : ℕ = c.args.plan.rounds in
+    let size : ℕ = c.args.plan.size in
     let halves : List Half = c.args.halves.now in
     let fits : IsRoom graph size c.loop-half.room c.loop-half.counts c.loop-half.marks = room_kept graph size c.args.room.now c.args.counts.now c.args.marks.now c.loop-half.room c.loop-half.counts c.loop-half.marks c.requires.room inv.room inv.counts inv.marks in
     let l : Links = g.I.Incidence.links c.loop-half.incidence in
     let i : ℕ = c.loop-half.half-index in
-    let one : (done : List ℕ) → ((q : ℕ) → has (map place_in halves) q ≡ true → has done q ≡ false) → InBlocks graph t size c.args.room.now c.args.counts.now (g.I.Incidence.links c.args.incidence.now) c.args.marks.now c.args.bytes.now done → InBlocks graph t size c.put-b.new.room c.put-b.new.counts l c.loop-half.marks c.loop-half.bytes (done ++ map place_in (take (i + 1) halves)) = (λ done fresh r.
-    rw (c.put-b.ensures.room, c.put-b.ensures.counts) (wait_one g.row.K graph t size c.loop-half.room c.loop-half.counts l c.loop-half.marks c.loop-half.bytes done halves i _ c.requires.edges fits inv.free c.requires.ends c.requires.others c.requires.apart fresh c.loop-half-test.true (get_or_default halves i _ _ c.loop-half-test.true) (inv.state done fresh r))) in
+    let one : (done : List ℕ) → ((q : ℕ) → has (map place_in halves) q ≡ true → has done q ≡ false) → InBlocks graph t size c.args.plan.blocks c.args.plan.each c.args.room.now c.args.counts.now (g.I.Incidence.links c.args.incidence.now) c.args.marks.now c.args.bytes.now c.args.freed.now done → InBlocks graph t size c.args.plan.blocks c.args.plan.each c.put-b.new.room c.put-b.new.counts l c.loop-half.marks c.loop-half.bytes c.loop-half.freed (done ++ map place_in (take (i + 1) halves)) = (λ done fresh r.
+    rw (c.put-b.ensures.room, c.put-b.ensures.counts) (wait_one g.row.K graph t size c.args.plan.blocks c.args.plan.each c.loop-half.room c.loop-half.counts l c.loop-half.marks c.loop-half.bytes c.loop-half.freed done halves i _ c.requires.edges fits inv.free c.requires.ends c.requires.others c.requires.apart fresh c.loop-half-test.true (get_or_default halves i _ _ c.loop-half-test.true) (inv.state done fresh r))) in
     let after : IsRoom graph size c.put-b.new.room c.put-b.new.counts c.loop-half.marks = room_kept graph size c.loop-half.room c.loop-half.counts c.loop-half.marks c.put-b.new.room c.put-b.new.counts c.loop-half.marks fits c.put-b.auto.room c.put-b.auto.counts refl in
     let st = c.requires.state in
     (search rules, (c.requires.small, (c.requires.fits, (c.requires.edges, (c.requires.early, (after, (c.requires.positive, (there_for g.row.K graph size c.loop-half.room c.put-b.new.counts c.loop-half.marks halves i _ _ c.put-b.ensures.block (get_or_default halves i _ _ c.loop-half-test.true) c.requires.edges (room_kept graph size c.loop-half.room c.loop-half.counts c.loop-half.marks c.loop-half.room c.put-b.new.counts c.loop-half.marks fits refl c.put-b.auto.counts refl) c.requires.ends c.loop-half-test.true, (st.0 ++ map place_in (take (i + 1) halves), one st.0 st.1 st.2)))))))))
@@ -40,18 +51,18 @@ pub overflow_add-count : goal.overflow_add-count
 overflow_add-count g c =
     let inv = c.loop-half.invariant in
     let graph : Graph = c.args.edges.now in
-    let t : ℕ = c.args.rounds in
-    let size : ℕ = c.args.size in
+    let t : ℕ = c.args.plan.rounds in
+    let size : ℕ = c.args.plan.size in
     let halves : List Half = c.args.halves.now in
     let fits : IsRoom graph size c.loop-half.room c.loop-half.counts c.loop-half.marks = room_kept graph size c.args.room.now c.args.counts.now c.args.marks.now c.loop-half.room c.loop-half.counts c.loop-half.marks c.requires.room inv.room inv.counts inv.marks in
     let l : Links = g.I.Incidence.links c.loop-half.incidence in
     let i : ℕ = c.loop-half.half-index in
-    let one : (done : List ℕ) → ((q : ℕ) → has (map place_in halves) q ≡ true → has done q ≡ false) → InBlocks graph t size c.args.room.now c.args.counts.now (g.I.Incidence.links c.args.incidence.now) c.args.marks.now c.args.bytes.now done → InBlocks graph t size c.put-b.new.room c.put-b.new.counts l c.loop-half.marks c.loop-half.bytes (done ++ map place_in (take (i + 1) halves)) = (λ done fresh r.
-    rw (c.put-b.ensures.room, c.put-b.ensures.counts) (wait_one g.row.K graph t size c.loop-half.room c.loop-half.counts l c.loop-half.marks c.loop-half.bytes done halves i _ c.requires.edges fits inv.free c.requires.ends c.requires.others c.requires.apart fresh c.loop-half-test.true (get_or_default halves i _ _ c.loop-half-test.true) (inv.state done fresh r))) in
+    let one : (done : List ℕ) → ((q : ℕ) → has (map place_in halves) q ≡ true → has done q ≡ false) → InBlocks graph t size c.args.plan.blocks c.args.plan.each c.args.room.now c.args.counts.now (g.I.Incidence.links c.args.incidence.now) c.args.marks.now c.args.bytes.now c.args.freed.now done → InBlocks graph t size c.args.plan.blocks c.args.plan.each c.put-b.new.room c.put-b.new.counts l c.loop-half.marks c.loop-half.bytes c.loop-half.freed (done ++ map place_in (take (i + 1) halves)) = (λ done fresh r.
+    rw (c.put-b.ensures.room, c.put-b.ensures.counts) (wait_one g.row.K graph t size c.args.plan.blocks c.args.plan.each c.loop-half.room c.loop-half.counts l c.loop-half.marks c.loop-half.bytes c.loop-half.freed done halves i _ c.requires.edges fits inv.free c.requires.ends c.requires.others c.requires.apart fresh c.loop-half-test.true (get_or_default halves i _ _ c.loop-half-test.true) (inv.state done fresh r))) in
     let after : IsRoom graph size c.put-b.new.room c.put-b.new.counts c.loop-half.marks = room_kept graph size c.loop-half.room c.loop-half.counts c.loop-half.marks c.put-b.new.room c.put-b.new.counts c.loop-half.marks fits c.put-b.auto.room c.put-b.auto.counts refl in
     let st = c.requires.state in
     let r = c.settle-count.ensures.state _ (one st.0 st.1 st.2) in
-    let small : c.loop-half.count + c.settle-count.result < 67108865 = omega (arith, next_few graph t _ _ _ _ r.round, c.settle-count.ensures.count, inv.count, length-order graph.edges (suc t), c.requires.fits) in
+    let small : c.loop-half.count + c.settle-count.result < 67108865 = omega (arith, marked_few c.settle-count.new.marks, r.round.leads.few_marks, c.settle-count.ensures.count, inv.count) in
     search rules
 
 -- the sum of the counts after one more
@@ -69,14 +80,14 @@ pub loop-half-preserved : goal.loop-half-preserved
 loop-half-preserved g c =
     let inv = c.loop-half.invariant in
     let graph : Graph = c.args.edges.now in
-    let t : ℕ = c.args.rounds in
-    let size : ℕ = c.args.size in
+    let t : ℕ = c.args.plan.rounds in
+    let size : ℕ = c.args.plan.size in
     let halves : List Half = c.args.halves.now in
     let fits : IsRoom graph size c.loop-half.room c.loop-half.counts c.loop-half.marks = room_kept graph size c.args.room.now c.args.counts.now c.args.marks.now c.loop-half.room c.loop-half.counts c.loop-half.marks c.requires.room inv.room inv.counts inv.marks in
     let l : Links = g.I.Incidence.links c.loop-half.incidence in
     let i : ℕ = c.loop-half.half-index in
-    let one : (done : List ℕ) → ((q : ℕ) → has (map place_in halves) q ≡ true → has done q ≡ false) → InBlocks graph t size c.args.room.now c.args.counts.now (g.I.Incidence.links c.args.incidence.now) c.args.marks.now c.args.bytes.now done → InBlocks graph t size c.put-b.new.room c.put-b.new.counts l c.loop-half.marks c.loop-half.bytes (done ++ map place_in (take (i + 1) halves)) = (λ done fresh r.
-    rw (c.put-b.ensures.room, c.put-b.ensures.counts) (wait_one g.row.K graph t size c.loop-half.room c.loop-half.counts l c.loop-half.marks c.loop-half.bytes done halves i _ c.requires.edges fits inv.free c.requires.ends c.requires.others c.requires.apart fresh c.loop-half-test.true (get_or_default halves i _ _ c.loop-half-test.true) (inv.state done fresh r))) in
+    let one : (done : List ℕ) → ((q : ℕ) → has (map place_in halves) q ≡ true → has done q ≡ false) → InBlocks graph t size c.args.plan.blocks c.args.plan.each c.args.room.now c.args.counts.now (g.I.Incidence.links c.args.incidence.now) c.args.marks.now c.args.bytes.now c.args.freed.now done → InBlocks graph t size c.args.plan.blocks c.args.plan.each c.put-b.new.room c.put-b.new.counts l c.loop-half.marks c.loop-half.bytes c.loop-half.freed (done ++ map place_in (take (i + 1) halves)) = (λ done fresh r.
+    rw (c.put-b.ensures.room, c.put-b.ensures.counts) (wait_one g.row.K graph t size c.args.plan.blocks c.args.plan.each c.loop-half.room c.loop-half.counts l c.loop-half.marks c.loop-half.bytes c.loop-half.freed done halves i _ c.requires.edges fits inv.free c.requires.ends c.requires.others c.requires.apart fresh c.loop-half-test.true (get_or_default halves i _ _ c.loop-half-test.true) (inv.state done fresh r))) in
     let after : IsRoom graph size c.put-b.new.room c.put-b.new.counts c.loop-half.marks = room_kept graph size c.loop-half.room c.loop-half.counts c.loop-half.marks c.put-b.new.room c.put-b.new.counts c.loop-half.marks fits c.put-b.auto.room c.put-b.auto.counts refl in
     let there = there_for g.row.K graph size c.loop-half.room c.loop-half.counts c.loop-half.marks halves i _ _ c.put-b.ensures.block (get_or_default halves i _ _ c.loop-half-test.true) c.requires.edges fits c.requires.ends c.loop-half-test.true in
     let put : c.put-b.new.counts ≡ set c.loop-half.counts c.put-b.result (get_or c.loop-half.counts c.put-b.result 0 + 1) = rw c.put-b.ensures.block c.put-b.ensures.counts in

@@ -9,8 +9,8 @@ invariant-loop-half g l = record {
   room : length l.room ≡ length l.fn.room;
   counts : length l.counts ≡ length l.fn.counts;
   marks : length l.marks ≡ length l.fn.marks;
-  free : IsOpen l.size l.counts;
-  state : (done : List ℕ) → ((q : ℕ) → has (map place_in l.halves) q ≡ true → has done q ≡ false) → InBlocks l.edges l.rounds l.size l.fn.room l.fn.counts (g.I.Incidence.links l.fn.incidence) l.fn.marks l.fn.bytes done → InBlocks l.edges l.rounds l.size l.room l.counts (g.I.Incidence.links l.incidence) l.marks l.bytes (done ++ map place_in (take l.half-index l.halves));
+  free : IsOpen l.plan.size l.counts;
+  state : (done : List ℕ) → ((q : ℕ) → has (map place_in l.halves) q ≡ true → has done q ≡ false) → InBlocks l.edges l.plan.rounds l.plan.size l.plan.blocks l.plan.each l.fn.room l.fn.counts (g.I.Incidence.links l.fn.incidence) l.fn.marks l.fn.bytes l.fn.freed done → InBlocks l.edges l.plan.rounds l.plan.size l.plan.blocks l.plan.each l.room l.counts (g.I.Incidence.links l.incidence) l.marks l.bytes l.freed (done ++ map place_in (take l.half-index l.halves));
   count : length (marked_of l.marks) ≡ length (marked_of l.fn.marks) + l.count;
   steps : l.steps + 3 * sum l.counts ≤ l.fn.steps + 3 * (sum l.fn.counts + l.half-index);
 }

@@ -1,4 +1,4 @@
-use Rattle.std.proofs.Common.{◌≡◌, ◌∙◌, ℕ, suc, ◌+◌, ◌*◌, ◌<◌, ◌≤◌, List, length, take, drop, sum, sym, ap, subst, arith, rules, length-drop}
+use Rattle.std.proofs.Common.{◌≡◌, ◌∙◌, ℕ, ◌+◌, ◌*◌, ◌<◌, ◌≤◌, List, length, take, drop, sum, sym, ap, subst, arith, rules, length-drop}
 use Rattle.std.specs.List.{All}
 use Rattle.std.proofs.Math.Seq.{take-length}
 use Rattle.std.proofs.Math.ListN.{length-take}
@@ -9,10 +9,9 @@ use Rattle.cm_spec.specs.Rounds.{removed_after}
 use Rattle.cm_graph.specs.declared.incidence.Half.{Half}
 use Rattle.cm_graph.specs.Graph.{Graph}
 use Rattle.cm_peel.specs.AtRound.{other_places}
-use Rattle.cm_peel.specs.RoundLaws.{length-order}
 use Rattle.cm_peel.specs.Waiting.{InBlocks, IsRoom}
 use Rattle.cm_peel.proofs.ByBlocks.{are_next}
-use Rattle.cm_peel.proofs.InRound.{next_few}
+use Rattle.cm_peel.proofs.Settling.{marked_few}
 use Rattle.cm_peel.proofs.NextRound.{round_places}
 use Rattle.cm_peel.proofs.Pieces.{length_written}
 use Rattle.cm_peel.proofs.Unlinking.{chunk_is, gone_before}
@@ -23,14 +22,14 @@ pub list_halves-others-requires : goal.list_halves-others-requires
 list_halves-others-requires g c =
     let inv = c.chunks.invariant in
     let graph : Graph = c.args.edges.now in
-    let round : List ℕ = removed_after graph.edges c.args.rounds in
+    let round : List ℕ = removed_after graph.edges c.args.plan.rounds in
     let n : ℕ = c.min-many.result in
     let d : ℕ = c.chunks.at in
     let few : d + n ≤ length round = omega (arith, c.min-many.ensures, inv.high, ap length c.requires.round) in
     let small : n ≤ 64 = omega (arith, c.min-many.ensures) in
-    let is = chunk_is graph c.args.rounds d n c.args.round.now c.requires.round in
+    let is = chunk_is graph c.args.plan.rounds d n c.args.round.now c.requires.round in
     let long : length (take n (drop d round)) ≡ n = length-take-le n (drop d round) (omega (arith, length-drop d round)) in
-    let places : All (λ e. e < length graph.edges) (take n (drop d round)) = All-take (λ e. e < length graph.edges) n (drop d round) (All-drop (λ e. e < length graph.edges) d round (round_places graph.edges c.args.rounds)) in
+    let places : All (λ e. e < length graph.edges) (take n (drop d round)) = All-take (λ e. e < length graph.edges) n (drop d round) (All-drop (λ e. e < length graph.edges) d round (round_places graph.edges c.args.plan.rounds)) in
     let many = ap length is ∙ long in
     let room : g.row.K * n ≤ 3 * 64 = omega (arith, mul-le-mul_left g.row.K small, c.requires.small) in
     let same = ap (λ j. g.row.K * j) many in (
@@ -43,7 +42,7 @@ list_halves-others-requires g c =
             c.requires.fits,
             (
               subst (λ (xs : List ℕ). All (λ e. e < length graph.edges) xs) (sym is) places,
-              (inv.state.round.bytes_long, (length-take-le n c.chunks.ends (omega (arith, inv.ends)) ∙ sym many, (omega (arith, many, inv.known), omega (arith, same, room, inv.halves)))),
+              (sym inv.state.round.leads.taken.bytes_long ∙ inv.state.round.round.bytes_long, (length-take-le n c.chunks.ends (omega (arith, inv.ends)) ∙ sym many, (omega (arith, many, inv.known), omega (arith, same, room, inv.halves)))),
             ),
           ),
         ),
@@ -54,27 +53,27 @@ pub wait-count-requires : goal.wait-count-requires
 wait-count-requires g c =
     let inv = c.chunks.invariant in
     let graph : Graph = c.args.edges.now in
-    let t : ℕ = c.args.rounds in
+    let t : ℕ = c.args.plan.rounds in
     let n : ℕ = c.min-many.result in
     let d : ℕ = c.chunks.at in
     let few : d + n ≤ length (removed_after graph.edges t) = omega (arith, c.min-many.ensures, inv.high, ap length c.requires.round) in
     let is = chunk_is graph t d n c.args.round.now c.requires.round in
-    let next = are_next g.row.K graph t d n _ _ _ _ _ _ c.requires.small c.requires.edges inv.state.round few is c.list_halves-others.ensures.halves in
-    let fits : IsRoom graph c.args.size c.chunks.room c.chunks.counts c.chunks.marks = room_kept graph c.args.size c.args.room.now c.args.counts.now c.args.marks.now c.chunks.room c.chunks.counts c.chunks.marks c.requires.room inv.room inv.counts inv.marks in
+    let next = are_next g.row.K graph t _ _ d n _ _ _ _ _ _ _ c.requires.small c.requires.edges inv.state.round few is c.list_halves-others.ensures.halves in
+    let fits : IsRoom graph c.args.plan.size c.chunks.room c.chunks.counts c.chunks.marks = room_kept graph c.args.plan.size c.args.room.now c.args.counts.now c.args.marks.now c.chunks.room c.chunks.counts c.chunks.marks c.requires.room inv.room inv.counts inv.marks in
     (search rules, (c.requires.small, (c.requires.fits, (c.requires.edges, (c.requires.early, (fits, (c.requires.positive, (inv.free, (next.ends, (next.others, (next.apart, (gone_before graph t d, next.fresh, inv.state))))))))))))
 
 pub overflow_add-count : goal.overflow_add-count
 overflow_add-count g c =
     let inv = c.chunks.invariant in
     let graph : Graph = c.args.edges.now in
-    let t : ℕ = c.args.rounds in
+    let t : ℕ = c.args.plan.rounds in
     let n : ℕ = c.min-many.result in
     let d : ℕ = c.chunks.at in
     let few : d + n ≤ length (removed_after graph.edges t) = omega (arith, c.min-many.ensures, inv.high, ap length c.requires.round) in
     let is = chunk_is graph t d n c.args.round.now c.requires.round in
-    let next = are_next g.row.K graph t d n _ _ _ _ _ _ c.requires.small c.requires.edges inv.state.round few is c.list_halves-others.ensures.halves in
+    let next = are_next g.row.K graph t _ _ d n _ _ _ _ _ _ _ c.requires.small c.requires.edges inv.state.round few is c.list_halves-others.ensures.halves in
     let r = c.wait-count.ensures.state (gone_before graph t d) next.fresh inv.state in
-    let small : c.chunks.count + c.wait-count.result < 67108865 = omega (arith, next_few graph t _ _ _ _ r.round, c.wait-count.ensures.count, inv.count, length-order graph.edges (suc t), c.requires.fits) in
+    let small : c.chunks.count + c.wait-count.result < 67108865 = omega (arith, marked_few c.wait-count.new.marks, r.round.leads.few_marks, c.wait-count.ensures.count, inv.count) in
     search rules
 
 -- the steps of a chunk
@@ -90,14 +89,14 @@ pub chunks-preserved : goal.chunks-preserved
 chunks-preserved g c =
     let inv = c.chunks.invariant in
     let graph : Graph = c.args.edges.now in
-    let t : ℕ = c.args.rounds in
+    let t : ℕ = c.args.plan.rounds in
     let round : List ℕ = removed_after graph.edges t in
     let n : ℕ = c.min-many.result in
     let d : ℕ = c.chunks.at in
     let few : d + n ≤ length round = omega (arith, c.min-many.ensures, inv.high, ap length c.requires.round) in
     let small : n ≤ 64 = omega (arith, c.min-many.ensures) in
     let is = chunk_is graph t d n c.args.round.now c.requires.round in
-    let next = are_next g.row.K graph t d n _ _ _ _ _ _ c.requires.small c.requires.edges inv.state.round few is c.list_halves-others.ensures.halves in
+    let next = are_next g.row.K graph t _ _ d n _ _ _ _ _ _ _ c.requires.small c.requires.edges inv.state.round few is c.list_halves-others.ensures.halves in
     let long = ap length is ∙ length-take-le n (drop d round) (omega (arith, length-drop d round)) in
     record {
       high = omega (arith, c.min-many.ensures, inv.high);
@@ -108,7 +107,7 @@ chunks-preserved g c =
       counts = c.wait-count.auto.counts ∙ inv.counts;
       marks = c.wait-count.auto.marks ∙ inv.marks;
       free = c.wait-count.ensures.free;
-      state = subst (InBlocks graph t c.args.size c.wait-count.new.room c.wait-count.new.counts (g.I.Incidence.links c.wait-count.new.incidence) c.wait-count.new.marks c.wait-count.new.bytes) next.more (c.wait-count.ensures.state (gone_before graph t d) next.fresh inv.state);
+      state = subst (InBlocks graph t c.args.plan.size c.args.plan.blocks c.args.plan.each c.wait-count.new.room c.wait-count.new.counts (g.I.Incidence.links c.wait-count.new.incidence) c.wait-count.new.marks c.wait-count.new.bytes c.wait-count.new.freed) next.more (c.wait-count.ensures.state (gone_before graph t d) next.fresh inv.state);
       count = omega (arith, c.wait-count.ensures.count, inv.count);
       steps = chunk_steps g.row.K c.args.steps.now c.chunks.steps c.wait-count.new.steps (sum c.args.counts.now) (sum c.chunks.counts) (sum c.wait-count.new.counts) d n _ _ inv.steps c.wait-count.ensures.steps (others_few c.list_halves-others.result _ c.list_halves-others.new.halves c.list_halves-others.ensures.few) long;
     }
@@ -117,9 +116,9 @@ pub returns-clause-state : goal.returns-clause-state
 returns-clause-state g c =
     let inv = c.chunks.invariant in
     let graph : Graph = c.args.edges.now in
-    let round : List ℕ = removed_after graph.edges c.args.rounds in
+    let round : List ℕ = removed_after graph.edges c.args.plan.rounds in
     let all : c.chunks.at ≡ length round = omega (arith, c.chunks-test.false, inv.high, ap length c.requires.round) in
-    subst (InBlocks graph c.args.rounds c.args.size c.chunks.room c.chunks.counts (g.I.Incidence.links c.chunks.incidence) c.chunks.marks c.chunks.bytes) (ap (gone_before graph c.args.rounds) all ∙ (ap (other_places graph.edges) (take-length round) ∙ ap (other_places graph.edges) (sym c.requires.round))) inv.state
+    subst (InBlocks graph c.args.plan.rounds c.args.plan.size c.args.plan.blocks c.args.plan.each c.chunks.room c.chunks.counts (g.I.Incidence.links c.chunks.incidence) c.chunks.marks c.chunks.bytes c.chunks.freed) (ap (gone_before graph c.args.plan.rounds) all ∙ (ap (other_places graph.edges) (take-length round) ∙ ap (other_places graph.edges) (sym c.requires.round))) inv.state
 
 pub returns-clause-steps : goal.returns-clause-steps
 returns-clause-steps g c =

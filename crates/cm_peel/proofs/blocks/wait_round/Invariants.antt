@@ -12,8 +12,8 @@ invariant-chunks g l = record {
   room : length l.room ≡ length l.fn.room;
   counts : length l.counts ≡ length l.fn.counts;
   marks : length l.marks ≡ length l.fn.marks;
-  free : IsOpen l.size l.counts;
-  state : InBlocks l.edges l.rounds l.size l.room l.counts (g.I.Incidence.links l.incidence) l.marks l.bytes (gone_before l.edges l.rounds l.at);
+  free : IsOpen l.plan.size l.counts;
+  state : InBlocks l.edges l.plan.rounds l.plan.size l.plan.blocks l.plan.each l.room l.counts (g.I.Incidence.links l.incidence) l.marks l.bytes l.freed (gone_before l.edges l.plan.rounds l.at);
   count : length (marked_of l.marks) ≡ length (marked_of l.fn.marks) + l.count;
   steps : l.steps + 3 * sum l.counts ≤ l.fn.steps + 3 * (sum l.fn.counts + g.row.K * l.at);
 }

@@ -1,6 +1,6 @@
 use Rattle.std.proofs.Common.{◌≡◌, ◌≤◌, length, take}
 use Rattle.cm_peel.specs.Waiting.{AreMarked}
-use Rattle.cm_peel.proofs.blocks.mark_listed.Given as goal
+use Rattle.cm_peel.proofs.freed.mark_listed.Given as goal
 
 abbrev pub invariant-loop-i : goal.invariant-loop-i
 invariant-loop-i l = record {

@@ -7,8 +7,8 @@ use Rattle.cm_peel.specs.AtRound.{AreTaken, tag_of}
 use Rattle.cm_peel.proofs.Chunks.{byte_small}
 use Rattle.cm_peel.proofs.Marked.{marked_step, counted}
 use Rattle.cm_peel.proofs.Taking.{taken_more}
-use Rattle.cm_peel.proofs.blocks.mark_listed.Goals as goal
-use Rattle.cm_peel.proofs.blocks.mark_listed.Goals.{then-known-i, else-known-i, then-old-ge-UNTAKEN, else-old-ge-UNTAKEN}
+use Rattle.cm_peel.proofs.freed.mark_listed.Goals as goal
+use Rattle.cm_peel.proofs.freed.mark_listed.Goals.{then-known-i, else-known-i, then-old-ge-UNTAKEN, else-old-ge-UNTAKEN}
 
 pub loop-i-preserved : goal.loop-i-preserved
 loop-i-preserved c =
