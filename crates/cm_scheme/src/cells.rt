@@ -41,11 +41,9 @@ fn complete(modulus: &Divisor, target: u32, sum: u64) -> u32
     ensures below { result < modulus.now }
 {
     let left = modulus.rem_wide(sum);
-    if target >= left {
-        target - left
-    } else {
-        target + (modulus.value() - left)
-    }
+    // A difference below zero wraps around, and is then the greater of the two. No branch depends on the cells.
+    let down = (target as u64).wrapping_sub(left as u64);
+    down.min(down.wrapping_add(modulus.value() as u64)) as u32
 }
 
 /// Gives the pivot's vertex its value.
