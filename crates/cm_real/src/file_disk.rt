@@ -13,6 +13,7 @@ use cm_outer::{Disk, DiskFault, Failed, Sink, Source, Spill};
 use std::alloc::{AllocError, Global};
 use std::fs::OpenFile;
 use std::io::{ErrorKind, Read, Seek, SeekFrom};
+use std::os::unix::fs::OpenOptionsExt;
 use std::path::Path;
 use std::rt::Files;
 use std::{fs, io};
@@ -216,6 +217,8 @@ impl<'a, R: Files> Disk for FileDisk<'a, R> {
         let _ = fs::remove_file(self.rt, path.as_str());
         let mut options = fs::OpenOptions::new();
         let _ = options.read(true).write(true).create_new(true);
+        // The keys in it are for no other user to read.
+        let _ = options.mode(0o600);
         match open_with(self.rt, &options, path.as_str()) {
             Ok(file) => Ok(FileSpill::new(file, path)),
             Err(_) => {
