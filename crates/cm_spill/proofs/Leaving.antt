@@ -1,14 +1,16 @@
 -- What is left of a run that is read.
-use Rattle.std.proofs.Common.{◌≡◌, ◌∙◌, ℕ, ◌+◌, ◌<◌, ◌≤◌, List, [], ◌∷◌, ◌++◌, length, get_or, take, drop, refl, ap, sym, subst, arith, append_assoc, length-append, inl, inr, Option, None, Some}
+use Rattle.std.proofs.Common.{◌≡◌, ◌∙◌, ℕ, ◌+◌, ◌<◌, ◌≤◌, List, [], ◌∷◌, ◌++◌, length, get_or, take, drop, refl, ap, sym, subst, arith, append_assoc, append-nil, length-append, inl, inr, Option, None, Some}
 use Rattle.std.specs.Prelude.{Err}
 use Rattle.std.specs.List.{flat_map}
+use Rattle.std.proofs.lemmas.Grind.{flat_map-append}
 use Rattle.std.proofs.lemmas.List.{drop-drop}
 use Rattle.std.proofs.lemmas.List.Elements.{All-head, All-tail}
 use Rattle.std.proofs.Math.Seq.{take-append_seam, drop-append_seam}
 use Rattle.byteorder.specs.Endian.{little_number}
-use Rattle.cm_spill.specs.Records.{Record, IsShort, encoded}
+use Rattle.cm_spill.specs.Records.{Record, EndsAt, IsRecords, IsShort, encoded}
 use Rattle.cm_spill.specs.Reading.{AreLeft, IsAhead, IsHeaderAt, IsBelow, IsHeaderOf, IsHeaderRead, IsNextOf, IsPassed, IsWithin, Finds, Peeks, Position, RunLeft}
 use Rattle.cm_spill.specs.Reads.{ArePassed, FindsRun}
+use Rattle.cm_spill.specs.Stores.{IsOfChecks, IsOfEnd}
 use Rattle.cm_spill.specs.declared.fault.SpillError.{SpillError}
 use Rattle.cm_spill.specs.declared.fault.SpillError.TheVariants as faults
 use Rattle.cm_spill.specs.declared.header.Header.{Header}
@@ -85,6 +87,10 @@ left_with x run header ahead records left is read = record {
   are = left.are;
   until = left.until;
   inside = left.inside;
+  before = left.before;
+  after = left.after;
+  all = left.all;
+  place = left.place;
 }
 
 -- the key of the next record
@@ -109,7 +115,27 @@ left_after x run r rs next ahead left moved is at =
       are = ap (λ (i : ℕ). drop i x) long ∙ sym (drop-drop (length (encoded r)) run.next x) ∙ ap (λ (b : List ℕ). drop (length (encoded r)) b) (next_bytes x run r rs left) ∙ drop-append_seam (encoded r) (flat_map encoded rs ++ left.rest);
       until = omega (arith, left.until, long, length-append (encoded r) (flat_map encoded rs));
       inside = left.inside;
+      before = left.before ++ r ∷ [];
+      after = left.after;
+      all = subst (IsRecords x) (sym (append_assoc left.before (r ∷ []) (rs ++ left.after))) left.all;
+      place = omega (arith, long, left.place, ap length (flat_map-append encoded left.before (r ∷ [])), length-append (flat_map encoded left.before) (flat_map encoded (r ∷ [])), ap length (append-nil (encoded r)));
     }
+
+-- a fault of the end of a record is one of the checks
+pub end_checked : (bucket least : ℕ) (fault : SpillError) → IsOfEnd fault → IsOfChecks bucket least fault
+end_checked bucket least faults.Memory of = tt
+end_checked bucket least faults.Failed of = tt
+end_checked bucket least (faults.Damaged offset expected found) of = inr (inr of)
+
+-- where the next record ends
+pub next_ends : (x : List ℕ) (run : RunLeft) (r : Record) (rs : List Record) (b line end : ℕ) (key : List ℕ) → AreLeft x run (r ∷ rs) → r.bucket ≡ b → line ≡ r.line → key ≡ r.key → end ≡ run.next + (10 + length key)
+    → EndsAt x (record { bucket = b; line = line; key = key }) end
+next_ends x run r rs b line end key left bucket is same moved =
+    let t : Record = record { bucket = b; line = line; key = key } in
+    let one : r ≡ t = ap (λ (n : ℕ). let t : Record = record { bucket = n; line = r.line; key = r.key } in t) bucket
+    ∙ ap (λ (n : ℕ). let t : Record = record { bucket = b; line = n; key = r.key } in t) (sym is)
+    ∙ ap (λ (k : List ℕ). let t : Record = record { bucket = b; line = line; key = k } in t) (sym same) in
+    (left.before, rs ++ left.after, subst (λ (t : Record). IsRecords x (left.before ++ t ∷ (rs ++ left.after))) one left.all, omega (arith, moved, left.place))
 
 -- a run with room to read ahead, of which nothing was read ahead yet
 abbrev pub reserved : RunLeft → ℕ → RunLeft

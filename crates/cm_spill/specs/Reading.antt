@@ -2,7 +2,7 @@
 use Rattle.std.specs.Prelude.{◌≡◌, ◌⊎◌, ◌<◌, ◌≤◌, ◌+◌, ◌++◌, ◌∷◌, [], ℕ, List, length, drop, All, Option, None, Some, Result, Ok, Err, Bool, true, false}
 use Rattle.std.specs.List.{flat_map}
 use Rattle.byteorder.specs.Endian.{little_number}
-use Rattle.cm_spill.specs.Records.{Record, IsShort, encoded}
+use Rattle.cm_spill.specs.Records.{Record, IsRecords, IsShort, encoded}
 use Rattle.cm_spill.specs.declared.header.Header.{Header}
 use Rattle.cm_spill.specs.declared.fault.SpillError.{SpillError}
 use Rattle.cm_spill.specs.declared.fault.SpillError.TheVariants as faults
@@ -53,7 +53,7 @@ abbrev pub IsHeaderRead : List Record → RunLeft → Option Header → Type 0
 IsHeaderRead records run None = run.ahead.at ≡ run.next
 IsHeaderRead records run (Some h) = (run.ahead.at ≡ run.next + 10) × IsHeaderOf records h
 
--- These records are left of a run.
+-- These records are left of a run, which stands between others.
 pub record AreLeft (bytes : List ℕ) (run : RunLeft) (records : List Record) : Type 0 where
   pub ahead : IsAhead bytes run.ahead
   pub header : IsHeaderRead records run run.header
@@ -62,6 +62,10 @@ pub record AreLeft (bytes : List ℕ) (run : RunLeft) (records : List Record) : 
   pub are : drop run.next bytes ≡ flat_map encoded records ++ rest
   pub until : run.next + length (flat_map encoded records) ≡ run.until
   pub inside : run.until ≤ length bytes
+  pub before : List Record
+  pub after : List Record
+  pub all : IsRecords bytes (before ++ (records ++ after))
+  pub place : run.next ≡ length (flat_map encoded before)
 
 -- what was read of the next record
 abbrev pub Peeks : List Record → Result (Option Header) SpillError → Type 0

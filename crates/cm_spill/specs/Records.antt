@@ -1,5 +1,5 @@
 -- Records of a spill: a key with its line, in a bucket.
-use Rattle.std.specs.Prelude.{◌≡◌, ◌<◌, ◌^◌, ◌+◌, ◌++◌, ℕ, List, Bool, length, eqb, All, filter}
+use Rattle.std.specs.Prelude.{◌≡◌, ◌<◌, ◌^◌, ◌+◌, ◌++◌, ◌∷◌, ℕ, List, Bool, length, eqb, All, filter}
 use Rattle.std.specs.List.{flat_map}
 use Rattle.std.specs.List.Sorted.{IsPermutation, IsNonDecreasingBy}
 use Rattle.byteorder.specs.Endian.{little_bytes}
@@ -27,6 +27,10 @@ pub record IsShort (r : Record) : Type 0 where
 pub record IsRecords (bytes : List ℕ) (records : List Record) : Type 0 where
   pub are : bytes ≡ flat_map encoded records
   pub short : All IsShort records
+
+-- The bytes are those of some records, and this one of them ends at an offset.
+abbrev pub EndsAt : List ℕ → Record → ℕ → Type 0
+EndsAt bytes r end = (before : List Record) × (after : List Record) × IsRecords bytes (before ++ r ∷ after) × (end ≡ length (flat_map encoded before) + size r)
 
 -- the test whether a record is of this bucket
 abbrev pub is_of : ℕ → Record → Bool

@@ -10,7 +10,7 @@ use Rattle.cm_spill.specs.declared.fault.SpillError.TheVariants as faults
 
 -- what the spill holds, where known, and its count of faults; how many bytes may wait; the records that wait, in the order in which
 -- they were put; the line put last, or 0; whether no call has failed; whether all was put; the bucket asked last, or 0; how many of its
--- records were given; whether it was found to have no more; the offset after the one given last, or 0
+-- records were given; the line of the last of them, or 0; whether it was found to have no more; the offset after that record, or 0
 pub record Store : Type 0 where
   pub known : Option (List ℕ)
   pub faults : ℕ
@@ -21,12 +21,13 @@ pub record Store : Type 0 where
   pub sealed : Bool
   pub bucket : ℕ
   pub given : ℕ
+  pub given_last : ℕ
   pub ended : Bool
   pub read_end : ℕ
 
 -- a store in which nothing was put
 abbrev pub new_store : Option (List ℕ) → ℕ → ℕ → Store
-new_store known faults bytes = record { known = known; faults = faults; bytes = bytes; waiting = []; last = 0; usable = true; sealed = false; bucket = 0; given = 0; ended = false; read_end = 0 }
+new_store known faults bytes = record { known = known; faults = faults; bytes = bytes; waiting = []; last = 0; usable = true; sealed = false; bucket = 0; given = 0; given_last = 0; ended = false; read_end = 0 }
 
 -- the bytes of the records that wait
 abbrev pub held_by : Store → ℕ
@@ -53,6 +54,10 @@ IsNextBucket store bucket = (bucket ≡ store.bucket) ⊎ ((bucket ≡ store.buc
 -- how many records of a bucket were given
 abbrev pub given_of : Store → ℕ → ℕ
 given_of store bucket = if eqb bucket store.bucket then store.given else 0
+
+-- the line of the last of them, or 0 if none was given
+abbrev pub given_last_of : Store → ℕ → ℕ
+given_last_of store bucket = if eqb bucket store.bucket then store.given_last else 0
 
 -- the offset after the record of a bucket that was given last
 abbrev pub read_end_of : Store → ℕ → ℕ
@@ -84,3 +89,15 @@ abbrev pub IsOfReading : SpillError → Type 0
 IsOfReading faults.Memory = ⊥
 IsOfReading faults.Failed = Unit {0}
 IsOfReading (faults.Damaged offset expected found) = (expected ≢ found)
+
+-- Where the spill is said to be damaged, a record at the offset doesn't end by the end of its run, which was expected: the end of the
+-- record was found, or that of the spill.
+abbrev pub IsOfEnd : SpillError → Type 0
+IsOfEnd (faults.Damaged offset expected found) = (offset ≤ expected) × (offset ≤ found) × (found ≤ offset + 65545)
+IsOfEnd e = Unit {0}
+
+-- Where the spill is said to be damaged, a record is of a bucket below the one asked for; or of a line below the least that may come; or
+-- it doesn't end by the end of its run.
+abbrev pub IsOfChecks : ℕ → ℕ → SpillError → Type 0
+IsOfChecks bucket least (faults.Damaged offset expected found) = ((expected ≡ bucket) × (found < bucket)) ⊎ (((expected ≡ least) × (found < least)) ⊎ IsOfEnd (faults.Damaged offset expected found))
+IsOfChecks bucket least e = Unit {0}

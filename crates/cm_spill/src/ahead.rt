@@ -120,7 +120,7 @@ impl Ahead {
         ensures told { P.told spill.new ≡ P.told spill.old }
         ensures room { self.new.room ≡ self.old.room }
         ensures at { IfOk result (λ header. IfSome header (λ _. self.new.at ≡ self.old.at + 10)) }
-        ensures end { IfOk result (λ header. IfNone header (self.new.at < self.old.at + 10)) }
+        ensures end { IfOk result (λ header. IfNone header ((self.old.at ≤ self.new.at) × (self.new.at < self.old.at + 10))) }
         ensures ahead { OnOk result (ForSome (P.told spill.old) (λ bytes. IsAhead bytes self.old → IsAhead bytes self.new)) }
         ensures header { IfOk result (λ header. IfSome header (λ h. ForSome (P.told spill.old) (λ bytes. IsAhead bytes self.old → IsHeaderAt (drop self.old.at bytes) h))) }
         ensures none { IfOk result (λ header. IfNone header (ForSome (P.told spill.old) (λ bytes. IsAhead bytes self.old → length (drop self.old.at bytes) < 10))) }

@@ -4,7 +4,7 @@ ghost use Rattle.std.specs.Option.{ForSome};
 ghost use Rattle.cm_spill.specs.Records.{Record};
 ghost use Rattle.cm_spill.specs.Reading.{AreLeft, Finds, HasHeader, IsLineOf, IsWithin, Peeks, RunLeft, Takes};
 ghost use Rattle.cm_spill.specs.declared.fault.SpillError.{SpillError};
-ghost use Rattle.cm_spill.specs.Stores.{HasSpillCause, IsOfReading};
+ghost use Rattle.cm_spill.specs.Stores.{HasSpillCause, IsOfChecks, IsOfEnd, IsOfReading};
 
 use crate::SpillError;
 use crate::ahead::Ahead;
@@ -75,6 +75,7 @@ impl Run {
         ensures within { OnOk result (IsWithin self.new self.new.header) }
         ensures left { ForSome (P.told spill.old) (λ bytes. (r : Record) (rs : List Record) → AreLeft bytes self.old (r ∷ rs) → MatchResult result (λ _. AreLeft bytes self.new (r ∷ rs)) (λ e. e ≡ SpillError.Failed)) }
         ensures fault { IfErr result IsOfReading }
+        ensures checks { IfErr result IsOfEnd }
         ensures cause { HasSpillCause (P.faults spill.old) (P.faults spill.new) result }
     {
         if self.end - self.next < HEADER as u64 {
@@ -118,6 +119,7 @@ impl Run {
         ensures left { OnOk result (ForSome (P.told spill.old) (λ bytes. (records : List Record) → AreLeft bytes self.old records → AreLeft bytes self.new records)) }
         ensures peeks { ForSome (P.told spill.old) (λ bytes. (records : List Record) → AreLeft bytes self.old records → Peeks records result) }
         ensures fault { IfErr result IsOfReading }
+        ensures checks { IfErr result IsOfEnd }
         ensures cause { HasSpillCause (P.faults spill.old) (P.faults spill.new) result }
     {
         if let Some(header) = self.header {
@@ -150,6 +152,7 @@ impl Run {
         ensures left { OnOk result (ForSome (P.told spill.old) (λ bytes. (records : List Record) → AreLeft bytes self.old records → AreLeft bytes self.new records)) }
         ensures finds { ForSome (P.told spill.old) (λ bytes. (records : List Record) → AreLeft bytes self.old records → Finds bucket least records result) }
         ensures fault { IfErr result IsOfReading }
+        ensures checks { IfErr result (IsOfChecks bucket least) }
         ensures cause { HasSpillCause (P.faults spill.old) (P.faults spill.new) result }
     {
         let header = match self.peek(spill) {
@@ -190,10 +193,12 @@ impl Run {
         ensures room { self.new.ahead.room ≡ self.old.ahead.room }
         ensures line { IfOk result (λ line. IsLineOf line self.old.header) }
         ensures small { IfOk result (λ line. line < 2 ^ 32) }
+        ensures next { OnOk result (self.new.next ≡ self.old.next + (10 + length key.new.items)) }
         ensures within { OnOk result (IsWithin self.new self.new.header) }
         ensures takes { ForSome (P.told spill.old) (λ bytes. (r : Record) (rs : List Record) → AreLeft bytes self.old (r ∷ rs) → Takes (r ∷ rs) rs key.new.items result) }
         ensures left { OnOk result (ForSome (P.told spill.old) (λ bytes. (r : Record) (rs : List Record) → AreLeft bytes self.old (r ∷ rs) → AreLeft bytes self.new rs)) }
         ensures fault { IfErr result IsOfReading }
+        ensures checks { IfErr result IsOfEnd }
         ensures cause { HasSpillCause (P.faults spill.old) (P.faults spill.new) result }
     {
         let header = match self.header {
