@@ -199,6 +199,13 @@ some_buckets m b some wide =
     let le : 1 ≤ (m + (b - 1)) / b = (le-div_iff_mul-le {k = b} {x = 1} {y = m + (b - 1)} wide).1 enough in
     omega arith
 
+pub some_keys : (m b j : ℕ) → 1 ≤ b → j < bucket_count m b → 1 ≤ m
+some_keys zero b j wide low =
+    let le : 1 ≤ (0 + (b - 1)) / b = omega (arith, low) in
+    let enough : 1 * b ≤ 0 + (b - 1) = (le-div_iff_mul-le {k = b} {x = 1} {y = 0 + (b - 1)} wide).0 le in
+    absurd (omega (arith, enough, wide))
+some_keys (suc m) b j wide low = omega arith
+
 pub few_buckets : (m b : ℕ) → 1 ≤ m → 1 ≤ b → bucket_count m b ≤ m
 few_buckets zero b some wide = absurd (omega arith)
 few_buckets (suc n) b some wide = div-le_of_le-mul b (omega (arith, mul-le-mul_left n wide))

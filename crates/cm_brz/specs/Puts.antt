@@ -68,3 +68,9 @@ abbrev pub HasTwoNumbers : StoreFault → Type 0
 HasTwoNumbers store_fault.Memory = Unit {0}
 HasTwoNumbers store_fault.Failed = Unit {0}
 HasTwoNumbers (store_fault.Damaged offset expected found) = expected ≢ found
+
+-- a bucket of which so many records were put gave another number of them; the last one given ends at this offset
+abbrev pub IsMiscount : ℕ → ℕ → ℕ → StoreFault → Type 0
+IsMiscount put given end store_fault.Memory = Unit {0}
+IsMiscount put given end store_fault.Failed = ⊥
+IsMiscount put given end (store_fault.Damaged offset expected found) = (offset ≡ end) × (expected ≡ put) × (found ≡ given) × (found ≢ put)

@@ -1,11 +1,6 @@
 -- Keys that wait for the build of their buckets.
 use Rattle.std.specs.Prelude.{◌≡◌, ℕ, ◌==◌, List, [], ◌∷◌, drop, filter, Option, None, Some}
-
--- a key with its bucket and its line
-pub record Record : Type 0 where
-  pub bucket : ℕ
-  pub line : ℕ
-  pub key : List ℕ
+pub use Rattle.cm_spill.specs.Records.{Record}
 
 -- the records of a bucket, in their order
 abbrev pub records_of : ℕ → List Record → List Record

@@ -3,6 +3,8 @@ use Rattle.std.specs.Prelude.{◌≡◌, ◌≢◌, ℕ, ◌≤◌, Result, Ok, 
 use Rattle.cm_brz.specs.declared.store.StoreFault.{StoreFault}
 use Rattle.cm_brz.specs.declared.store.StoreFault.TheVariants.{Memory, Failed, Damaged}
 use Rattle.cm_outer.specs.Causes.{Rose}
+use Rattle.cm_spill.specs.declared.fault.SpillError.{SpillError}
+use Rattle.cm_spill.specs.declared.fault.SpillError.TheVariants as spill
 
 -- The count never falls, and a call returns `Failed` exactly where it rose.
 abbrev pub HasStoreCause : {T : Type 0} → ℕ → ℕ → Result T StoreFault → Type 0
@@ -22,3 +24,9 @@ abbrev pub IsReadFault : StoreFault → Type 0
 IsReadFault Memory = ⊥
 IsReadFault Failed = Unit {0}
 IsReadFault (Damaged offset expected found) = expected ≢ found
+
+-- what a store over a spill refuses where its spill does
+abbrev pub IsFaultOf : SpillError → StoreFault → Type 0
+IsFaultOf spill.Memory fault = fault ≡ Memory
+IsFaultOf spill.Failed fault = fault ≡ Failed
+IsFaultOf (spill.Damaged offset expected found) fault = fault ≡ Damaged offset expected found

@@ -3,10 +3,11 @@ ghost use Rattle.std.specs.Prelude.{◌≡◌, ◌≢◌, ℕ, ◌+◌, ◌*◌,
 ghost use Rattle.cm_algorithm.specs.declared.algorithm.Algorithm.TheVariants as algorithm;
 ghost use Rattle.cm_brz.specs.BrzOf.{AreBuilt, PushesBucket, bucket_from};
 ghost use Rattle.cm_brz.specs.Fails.{FailsBucket, FailsBuckets, HasBuildingForm, HasSpillCause};
-ghost use Rattle.cm_brz.specs.Puts.{HasTwoNumbers, HaveSizes, keys_in_bucket};
+ghost use Rattle.cm_brz.specs.Puts.{HasTwoNumbers, HaveSizes, IsMiscount, keys_in_bucket};
 ghost use Rattle.cm_brz.specs.Records.{Record, records_of};
 ghost use Rattle.cm_brz.specs.Stores.{HasStoreCause, NotDamaged};
 ghost use Rattle.cm_brz.specs.declared.fault.BrzFault.TheVariants as brz_fault;
+ghost use Rattle.cm_brz.specs.declared.store.StoreFault.TheVariants as store_fault;
 ghost use Rattle.cm_buckets.specs.Functions.{bucket_cells, bucket_count, keys_in};
 ghost use Rattle.cm_buckets.specs.Pushing.{with_bucket};
 ghost use Rattle.cm_buckets.specs.declared.limits.TheConstants.{MAX_BUCKET};
@@ -31,6 +32,17 @@ use cm_witness::{Certificate, InBucket};
 use std::alloc::Global;
 use std::sync::ledger::Ledger;
 
+/// The damage of a store that gave another number of records of a bucket than were put.
+fn miscounted<B: Store>(store: &B, put: u32, found: u32) -> StoreFault
+    ensures damaged { result ≡ store_fault.Damaged (B.end store.now) put found }
+{
+    StoreFault::Damaged {
+        offset: store.read_end(),
+        expected: put as u64,
+        found: found as u64,
+    }
+}
+
 /// Reads the keys of a bucket from the store, where so many were put. The buffer is for its use.
 fn read_bucket<B: Store>(
     store: &mut B,
@@ -49,11 +61,15 @@ fn read_bucket<B: Store>(
     ensures asks { OnOk result (B.may_ask store.new (bucket + 1)) }
     ensures later { OnOk result ((j : ℕ) → bucket < j → (B.given store.new j ≡ 0) × (B.given_last store.new j ≡ 0)) }
     ensures cause { HasStoreCause (B.faults store.old) (B.faults store.new) result }
+    ensures known { B.known store.new ≡ B.known store.old }
     ensures size { OnOk result (length held.new.keys ≡ size) }
     ensures holds { (records : List Record) → B.holds store.old records → OnOk result (B.holds store.new records) }
     ensures keys { (records : List Record) → B.holds store.old records → OnOk result (held.new.keys ≡ keys_in_bucket records bucket) }
     ensures undamaged { (records : List Record) → B.holds store.old records → length (records_of bucket records) ≡ size → IfErr result NotDamaged }
     ensures fault { IfErr result HasTwoNumbers }
+
+    // If the store may still be used, all is well with its records except their number.
+    ensures miscounted { IfErr result (λ e. B.usable store.new ≡ true → IsMiscount size (B.given store.new bucket) (B.end store.new) e) }
 {
     held.clear();
     for count in 0..size {
@@ -63,20 +79,12 @@ fn read_bucket<B: Store>(
                 Err(_) => return Err(StoreFault::Memory),
             },
             None => {
-                return Err(StoreFault::Damaged {
-                    offset: store.read_end(),
-                    expected: size as u64,
-                    found: count as u64,
-                });
+                return Err(miscounted(store, size, count));
             }
         }
     }
     match store.next_of(bucket, key)? {
-        Some(_) => Err(StoreFault::Damaged {
-            offset: store.read_end(),
-            expected: size as u64,
-            found: size as u64 + 1,
-        }),
+        Some(_) => Err(miscounted(store, size, size + 1)),
         None => Ok(()),
     }
 }
@@ -216,6 +224,8 @@ pub(crate) fn build_buckets<B: Store, L: Ledger>(
     ensures same { OnOk result (parts.new ≡ record parts.old { buckets = parts.new.buckets }) }
     ensures count { OnOk result (length parts.new.buckets ≡ length sizes.now) }
     ensures cause { HasSpillCause (B.faults store.old) (B.faults store.new) result }
+    ensures known { B.known store.new ≡ B.known store.old }
+    ensures sealed { OnOk result (B.sealed store.new ≡ true) }
     ensures built { (records : List Record) → B.holds store.old records → OnOk result (B.holds store.new records × AreBuilt (keys_in_bucket records) c seeds.now parts.new.buckets) }
     ensures fault { (records : List Record) → B.holds store.old records → HaveSizes records sizes.now (length sizes.now) → IfErr result (FailsBuckets (keys_in_bucket records) (length sizes.now) c split seeds.now) }
     ensures form { IfErr result (HasBuildingForm seeds.now) }

@@ -40,6 +40,7 @@ fn put_next<P: KeyPass, B: Store>(
     requires last { B.put_last store.old ≡ P.last keys.old }
     ensures told { P.told keys.new ≡ P.told keys.old }
     ensures cause { HasPutCause (P.faults keys.old) (P.faults keys.new) (B.faults store.old) (B.faults store.new) result }
+    ensures known { B.known store.new ≡ B.known store.old }
     ensures counts { IfOk result (λ o. IfSome o (λ _. P.place keys.new ≡ P.place keys.old + 1)) }
     ensures below { IfOk result (λ o. IfSome o (λ j. j < split.now.buckets)) }
     ensures usable { OnOk result (P.usable keys.new ≡ true) }
@@ -96,6 +97,7 @@ fn put_each<P: KeyPass, B: Store>(
     ensures told { P.told keys.new ≡ P.told keys.old }
     ensures keys_cause { HasKeysCause (P.faults keys.old) (P.faults keys.new) result }
     ensures spill_cause { HasSpillCause (B.faults store.old) (B.faults store.new) result }
+    ensures known { B.known store.new ≡ B.known store.old }
     ensures store { OnOk result (B.usable store.new ≡ true) }
     ensures open { OnOk result (B.sealed store.new ≡ false) }
     ensures sizes { OnOk result (ForSome (P.told keys.old) (λ told. AreSizes put.new told.keys split.now.buckets split.now.seed)) }
@@ -146,6 +148,7 @@ fn put_keys<P: KeyPass, B: Store>(
     ensures told { P.told keys.new ≡ P.told keys.old }
     ensures keys_cause { HasKeysCause (P.faults keys.old) (P.faults keys.new) result }
     ensures spill_cause { HasSpillCause (B.faults store.old) (B.faults store.new) result }
+    ensures known { B.known store.new ≡ B.known store.old }
     ensures store { OnOk result (B.usable store.new ≡ true) }
     ensures open { OnOk result (B.sealed store.new ≡ false) }
     ensures put { B.holds store.old [] → OnOk result (AreAllPut (B.holds store.new) (P.told keys.old) sizes.now split.now.buckets split.now.seed) }
@@ -184,6 +187,7 @@ fn put_all<P: KeyPass, B: Store>(
     ensures told { P.told keys.new ≡ P.told keys.old }
     ensures keys_cause { HasKeysCause (P.faults keys.old) (P.faults keys.new) result }
     ensures spill_cause { HasSpillCause (B.faults store.old) (B.faults store.new) result }
+    ensures known { B.known store.new ≡ B.known store.old }
     ensures store { OnOk result (B.usable store.new ≡ true) }
     ensures sealed { OnOk result (B.sealed store.new ≡ true) }
     ensures asks { OnOk result (B.may_ask store.new 0) }
@@ -314,6 +318,8 @@ fn build_function<B: Store, L: Ledger>(
     ensures numbers { IfOk result (λ f. (f.keys ≡ m) × (f.ratio ≡ c) × (f.width ≡ b) × (f.split ≡ splitting.now.split.seed)) }
     ensures count { IfOk result (λ f. length f.buckets ≡ bucket_count m b) }
     ensures cause { HasSpillCause (B.faults store.old) (B.faults store.new) result }
+    ensures known { B.known store.new ≡ B.known store.old }
+    ensures sealed { OnOk result (B.sealed store.new ≡ true) }
     ensures built { (records : List Record) → B.holds store.old records → IfOk result (λ f. B.holds store.new records × AreBuilt (keys_in_bucket records) c seeds.now f.buckets) }
     ensures fault { (records : List Record) → B.holds store.old records → HaveSizes records splitting.now.sizes.items (bucket_count m b) → IfErr result (FailsBuckets (keys_in_bucket records) (bucket_count m b) c splitting.now.split.seed seeds.now) }
     ensures form { IfErr result (HasBuildingForm seeds.now) }
@@ -357,6 +363,8 @@ fn brz_counted<P: KeyPass, B: Store, L: Ledger>(
     ensures told { P.told keys.new ≡ P.told keys.old }
     ensures keys_cause { HasKeysCause (P.faults keys.old) (P.faults keys.new) result }
     ensures spill_cause { HasSpillCause (B.faults store.old) (B.faults store.new) result }
+    ensures known { B.known store.new ≡ B.known store.old }
+    ensures sealed { OnOk result (B.sealed store.new ≡ true) }
     ensures numbers { IfOk result (λ f. (f.ratio ≡ c) × (f.width ≡ b) × Contains seeds.now f.split) }
     ensures made { B.holds store.old [] → IfOk result (λ f. ForSome (P.told keys.old) (λ told. IsBrzOf told.keys c b seeds.now f)) }
     ensures put { B.holds store.old [] → IfOk result (λ f. ForSome (P.told keys.old) (λ told. B.holds store.new (records_under told.keys (length f.buckets) f.split))) }
@@ -406,6 +414,8 @@ pub(crate) fn brz_over<P: KeyPass, B: Store, L: Ledger>(
     ensures told { P.told keys.new ≡ P.told keys.old }
     ensures keys_cause { HasKeysCause (P.faults keys.old) (P.faults keys.new) result }
     ensures spill_cause { HasSpillCause (B.faults store.old) (B.faults store.new) result }
+    ensures known { B.known store.new ≡ B.known store.old }
+    ensures sealed { OnOk result (B.sealed store.new ≡ true) }
     ensures numbers { IfOk result (λ f. (f.ratio ≡ c) × (f.width ≡ b) × Contains seeds.now f.split) }
     ensures made { B.holds store.old [] → IfOk result (λ f. ForSome (P.told keys.old) (λ told. (told.fault ≡ None) × IsBrzOf told.keys c b seeds.now f)) }
     ensures put { B.holds store.old [] → IfOk result (λ f. ForSome (P.told keys.old) (λ told. B.holds store.new (records_under told.keys (length f.buckets) f.split))) }

@@ -1,9 +1,17 @@
 //! Laws of functions by BRZ.
-ghost use Rattle.std.specs.Prelude.{◌≡◌, ◌≤◌, ℕ, List, length};
+ghost use Rattle.std.specs.Prelude.{◌≡◌, ◌<◌, ◌≤◌, ℕ, List, length, None, Some, slice_index};
+ghost use Rattle.cm_algorithm.specs.declared.algorithm.Algorithm.TheVariants as algorithm;
 ghost use Rattle.cm_bdz.specs.Numbering.{AnswersApart};
-ghost use Rattle.cm_buckets.specs.Functions.{Brz, brz_answer, keys_in};
+ghost use Rattle.cm_buckets.specs.Functions.{Brz, brz_answer, bucket_count, keys_in};
 ghost use Rattle.cm_brz.specs.BrzOf.{IsBrzOf};
+ghost use Rattle.cm_brz.specs.Fails.{IsCoredBucket, IsOverfull};
+ghost use Rattle.cm_brz.specs.Found.{AllOverfull, brz_under, bucket_report, first_cored, first_overfull, overfull_report};
+ghost use Rattle.cm_brz.specs.Reports.{overfull_text};
+ghost use Rattle.cm_brz.specs.Split.{split_of};
 ghost use Rattle.cm_spec.specs.Rule.{IsRatio};
+ghost use Rattle.cm_witness.specs.Reports.{report_text};
+ghost use Rattle.cm_witness.specs.declared.certificate.Certificate.{Certificate};
+ghost use Rattle.cm_witness.specs.declared.certificate.Pair.{Pair};
 
 use cm_bdz::answers_apart;
 
@@ -15,3 +23,18 @@ pub fn numbers_apart()
 {
     answers_apart();
 }
+
+/// What a build gives or shows is what is computed from the keys alone: the function of the seed that splits them; the lowest bucket
+/// for which no seed works, with its report; or, if no seed splits the keys, the lowest overfull bucket under the first seed, with its
+/// report. Then each seed leaves an overfull bucket. A bucket of keys shows that there are some.
+pub fn verdicts()
+    ensures function { (keys : List (ℕ × List ℕ)) (c b : ℕ) (seeds : List ℕ) (f : Brz) → IsBrzOf keys c b seeds f → f ≡ brz_under keys c b f.split seeds }
+    ensures none { (keys : List (ℕ × List ℕ)) (c b : ℕ) (seeds : List ℕ) (f : Brz) → IsBrzOf keys c b seeds f → first_cored keys (bucket_count (length keys) b) c f.split seeds ≡ None }
+    ensures cored { (keys : List (ℕ × List ℕ)) (k c : ℕ) (seeds : List ℕ) (made : Certificate) → 0 < length seeds → (cored : IsCoredBucket keys k c seeds made) → first_cored keys k c cored.place.split seeds ≡ Some cored.place.bucket }
+    ensures cored_shown { (keys : List (ℕ × List ℕ)) (k c : ℕ) (seeds : List ℕ) (made : Certificate) → made.algorithm ≡ algorithm.Brz → made.seed ≡ slice_index seeds 0 → (cored : IsCoredBucket keys k c seeds made) →
+        report_text made.algorithm made.place made.seed made.edges.items made.equal.items ≡ bucket_report keys k c cored.place.split cored.place.bucket seeds }
+    ensures overfull { (keys : List (ℕ × List ℕ)) (k : ℕ) (seeds : List ℕ) (seed bucket count : ℕ) (equal : List Pair) → IsOverfull keys k seeds seed bucket count equal → first_overfull keys k seed ≡ Some bucket }
+    ensures overfull_shown { (keys : List (ℕ × List ℕ)) (k : ℕ) (seeds : List ℕ) (seed bucket count : ℕ) (equal : List Pair) → IsOverfull keys k seeds seed bucket count equal → overfull_text seed bucket count equal ≡ overfull_report keys k seeds }
+    ensures some { (m b j : ℕ) → 1 ≤ b → j < bucket_count m b → 1 ≤ m }
+    ensures all { (keys : List (ℕ × List ℕ)) (k : ℕ) (seeds : List ℕ) → split_of keys k seeds ≡ None → AllOverfull keys k seeds }
+{}

@@ -3,18 +3,19 @@
 
 mod bucket_keys;
 mod buckets;
+pub mod build;
 mod building;
+pub mod examples;
 mod fault;
-mod held;
-mod in_memory;
 mod laws;
 mod overfull;
 mod report;
+mod runs;
 mod split;
 mod store;
 
 pub use crate::fault::BrzFault;
-pub use crate::in_memory::brz_held;
-pub use crate::laws::numbers_apart;
+pub use crate::laws::{numbers_apart, verdicts};
 pub use crate::report::write_overfull;
 pub use cm_buckets::{Brz, BrzParts, MAX_BUCKET, MAX_WIDTH, MIN_WIDTH};
+pub use cm_spill::{MAX_BYTES, MIN_BYTES};

@@ -26,6 +26,9 @@ pub(crate) trait Store {
     /// These records were put, in this order, and the contents of what keeps them are known.
     ghost holds: { Self → List Record → Type 0 };
 
+    /// The contents of what keeps them are known.
+    ghost known: { Self → Bool };
+
     /// How often what keeps them has failed.
     ghost faults: { Self → ℕ };
 
@@ -58,6 +61,7 @@ pub(crate) trait Store {
         requires short { length key.now ≤ MAX_KEY_LEN }
         ensures holds { (records : List Record) → holds self.old records →
             OnOk result (holds self.new (records ++ record { bucket = bucket; line = line; key = key.now } ∷ [])) }
+        ensures known { known self.new ≡ known self.old }
         ensures last { OnOk result (put_last self.new ≡ line) }
         ensures open { OnOk result (sealed self.new ≡ false) }
         ensures usable { OnOk result (usable self.new ≡ true) }
@@ -70,6 +74,7 @@ pub(crate) trait Store {
         requires usable { IsTrue (usable self.old) }
         requires open { sealed self.old ≡ false }
         ensures holds { (records : List Record) → holds self.old records → OnOk result (holds self.new records) }
+        ensures known { known self.new ≡ known self.old }
         ensures sealed { OnOk result (sealed self.new ≡ true) }
         ensures first { OnOk result (may_ask self.new 0) }
         ensures none { OnOk result ((j : ℕ) → (given self.new j ≡ 0) × (given_last self.new j ≡ 0)) }
@@ -89,6 +94,7 @@ pub(crate) trait Store {
         ensures gives { (records : List Record) → holds self.old records →
             IfOk result (λ line. GivesRecord records bucket (given self.old bucket) key.new.items line (given self.new bucket)) }
         ensures undamaged { (records : List Record) → holds self.old records → IfErr result NotDamaged }
+        ensures known { known self.new ≡ known self.old }
 
         // Whatever the contents are, a key is one more, of a later line.
         ensures counts { IfOk result (λ line. given self.new bucket ≡ given self.old bucket + (if is_some line then 1 else 0)) }

@@ -19,6 +19,7 @@ loop-j-preserved g c =
       sealed_still = c.in_ok-read_bucket.ensures.sealed;
       asks = c.in_ok-read_bucket.ensures.asks;
       none = λ i later. c.in_ok-read_bucket.ensures.later i (omega (arith, later));
+      known_still = c.read_bucket.ensures.known ∙ before.known_still;
       still = c.in_ok-read_bucket.ensures.cause ∙ before.still;
       same = same_but_buckets c.args.parts.now c.loop-j.parts c.add_bucket.new.parts c.read_bucket.new.held.keys c.args.c c.args.seeds.now before.same pushed;
       count = omega (arith, one_bucket_more c.loop-j.parts c.add_bucket.new.parts c.read_bucket.new.held.keys c.args.c c.args.seeds.now pushed, before.count);

@@ -13,6 +13,7 @@ invariant-loop-j g l =
       sealed_still : B.sealed l.store ≡ true;
       asks : B.may_ask l.store l.j;
       none : (i : ℕ) → l.j ≤ i → (B.given l.store i ≡ 0) × (B.given_last l.store i ≡ 0);
+      known_still : B.known l.store ≡ B.known l.fn.store;
       still : B.faults l.store ≡ B.faults l.fn.store;
       same : l.parts ≡ record l.fn.parts { buckets = l.parts.buckets };
       count : length l.parts.buckets ≡ l.j;

@@ -11,6 +11,7 @@ invariant-loop-count g l =
       usable : B.usable l.store ≡ true;
       sealed_still : B.sealed l.store ≡ true;
       asks : B.may_ask l.store l.bucket;
+      known_still : B.known l.store ≡ B.known l.fn.store;
       still : B.faults l.store ≡ B.faults l.fn.store;
       given : B.given l.store l.bucket ≡ l.count;
       long : length l.held.keys ≡ l.count;

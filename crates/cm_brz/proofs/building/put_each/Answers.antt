@@ -26,6 +26,7 @@ loop-count-preserved g c =
       usable = search rules;
       open_still = search rules;
       last = search rules;
+      known_still = search rules;
       still = search rules;
       long = search rules;
       all = omega (arith, sum_one_more c.loop-count.put c.in-Some.bucket _ low refl, before.all);

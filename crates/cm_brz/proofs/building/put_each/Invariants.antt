@@ -16,6 +16,7 @@ invariant-loop-count g l =
       usable : B.usable l.store ≡ true;
       open_still : B.sealed l.store ≡ false;
       last : B.put_last l.store ≡ P.last l.keys;
+      known_still : B.known l.store ≡ B.known l.fn.store;
       still : B.faults l.store ≡ B.faults l.fn.store;
       long : length l.put ≡ l.split.buckets;
       all : sum l.put ≡ l.count;
