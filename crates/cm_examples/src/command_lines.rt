@@ -1,10 +1,10 @@
 ghost use Rattle.std.specs.Prelude.{IfOk};
 ghost use Rattle.std.specs.Option.{ForSome};
-ghost use Rattle.cm_words.specs.Limits.{IsBuild, IsJob};
+ghost use Rattle.cm_words.specs.Limits.{IsBuild, IsJob, IsTest};
 
 use crate::equal::{expect_equal, expect_equal_at, expect_text, expect_true};
 use cm_algorithm::Algorithm;
-use cm_words::{BuildJob, Job, UsageFault, read_words};
+use cm_words::{BuildJob, Job, TestJob, UsageFault, read_words};
 use std::alloc::{AllocError, Global};
 use std::test::Fail;
 
@@ -37,6 +37,15 @@ fn build_of(alloc: Global, line: &str) -> Result<Option<BuildJob>, UsageFault>
     }
 }
 
+fn test_of(alloc: Global, line: &str) -> Result<Option<TestJob>, UsageFault>
+    ensures within { IfOk result (λ found. ForSome found IsTest) }
+{
+    match job_of(alloc, line)? {
+        Job::Test(job) => Ok(Some(job)),
+        _other => Ok(None),
+    }
+}
+
 fn text_of(alloc: Global, fault: UsageFault) -> Result<String, AllocError> {
     format!(in alloc; "{fault}")
 }
@@ -58,9 +67,19 @@ fn refuses(rt: HostRuntime) -> Result<(), Fail> {
             "bad arguments; cmph -h shows the usage",
         ),
         (
-            "cmph -T 1",
-            UsageFault::Words,
-            "bad arguments; cmph -h shows the usage",
+            "cmph -T 0",
+            UsageFault::BadValue { letter: b'T' },
+            "bad value of -T",
+        ),
+        (
+            "cmph -T 16777217",
+            UsageFault::BadValue { letter: b'T' },
+            "bad value of -T",
+        ),
+        (
+            "cmph -T 1 -s x",
+            UsageFault::BadValue { letter: b's' },
+            "bad value of -s",
         ),
         (
             "cmph -g keys more",
@@ -78,7 +97,12 @@ fn refuses(rt: HostRuntime) -> Result<(), Fail> {
             "bad value of -b",
         ),
         (
-            "cmph -g -a brz keys",
+            "cmph -g -a brz -b 176 keys",
+            UsageFault::BadValue { letter: b'b' },
+            "bad value of -b",
+        ),
+        (
+            "cmph -g -a BRZ keys",
             UsageFault::BadValue { letter: b'a' },
             "bad value of -a",
         ),
@@ -129,6 +153,8 @@ fn has_defaults(rt: HostRuntime) -> Result<(), Fail> {
         ("cmph -g -b 11 keys", Algorithm::Chm, 2_090_000, 0),
         ("cmph -g -a bdz keys", Algorithm::Bdz, 1_230_000, 7),
         ("cmph -g -a bdz_ph keys", Algorithm::BdzPh, 1_230_000, 0),
+        ("cmph -g -a brz keys", Algorithm::Brz, 1_230_000, 128),
+        ("cmph -g -a brz -b 64 keys", Algorithm::Brz, 1_230_000, 64),
     ] {
         let Some(job) = build_of(rt.alloc(), line)? else {
             panic!(rt; "no build: {line}");
@@ -143,6 +169,35 @@ fn has_defaults(rt: HostRuntime) -> Result<(), Fail> {
         expect_text(&rt, job.function.as_str(), "keys.mph");
         expect_text(&rt, job.dir.as_str(), ".");
         expect_true(&rt, job.first.is_none() && !job.verbose);
+    }
+    Ok(())
+}
+
+#[test]
+fn reads_a_test(rt: HostRuntime) -> Result<(), Fail> {
+    for (line, keys, seed, count, buffer, dir) in [
+        ("cmph -T 1", 1, 1, 100, 1_048_576, "."),
+        ("cmph -T 16777216", 16_777_216, 1, 100, 1_048_576, "."),
+        ("cmph -b 3 -T 5 -g -a brz", 5, 1, 100, 1_048_576, "."),
+        (
+            "cmph -T5 -s 7 -r 9 -M 2 -d tmp keys",
+            5,
+            7,
+            9,
+            2_097_152,
+            "tmp",
+        ),
+    ] {
+        let Some(job) = test_of(rt.alloc(), line)? else {
+            panic!(rt; "no test: {line}");
+        };
+        expect_equal_at(
+            &rt,
+            &line,
+            &(job.keys, job.seed, job.count, job.buffer),
+            &(keys, seed, count, buffer),
+        );
+        expect_text(&rt, job.dir.as_str(), dir);
     }
     Ok(())
 }
@@ -163,5 +218,6 @@ fn reads_other_jobs(rt: HostRuntime) -> Result<(), Fail> {
         matches!(job_of(alloc, "cmph -s x -V -h"), Ok(Job::Help)),
     );
     expect_true(&rt, matches!(job_of(alloc, "cmph -V"), Ok(Job::Version)));
+    expect_true(&rt, matches!(job_of(alloc, "cmph -T 0 -h"), Ok(Job::Help)));
     Ok(())
 }

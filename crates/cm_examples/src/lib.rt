@@ -16,6 +16,8 @@ mod keys;
 #[cfg(test)]
 mod lookup2;
 #[cfg(test)]
+mod made;
+#[cfg(test)]
 mod memory;
 #[cfg(test)]
 mod names;

@@ -57,19 +57,14 @@ fn values_of_options(rt: HostRuntime) -> Result<(), Fail> {
     );
     expect_equal(&rt, &optional(None, b'x', 1, 9), &Ok(None));
     expect_equal(&rt, &algorithm(Some("bdz_ph")), &Ok(Algorithm::BdzPh));
+    expect_equal(&rt, &algorithm(Some("brz")), &Ok(Algorithm::Brz));
     expect_equal(
         &rt,
-        &algorithm(Some("brz")),
+        &algorithm(Some("BRZ")),
         &Err(BadValue { letter: b'a' }),
     );
-    expect_equal(&rt, &bits(None, true, Algorithm::Bdz), &Ok(7));
-    expect_equal(&rt, &bits(Some("11"), false, Algorithm::Bdz), &Ok(0));
-    expect_equal(
-        &rt,
-        &bits(Some("11"), true, Algorithm::Bdz),
-        &Err(BadValue { letter: b'b' }),
-    );
     expect_equal(&rt, &ratio(None, Algorithm::Chm), &Ok(2_090_000));
+    expect_equal(&rt, &ratio(None, Algorithm::Brz), &Ok(1_230_000));
     expect_equal(&rt, &ratio(Some("1.5"), Algorithm::Bdz), &Ok(1_500_000));
     expect_equal(&rt, &hash(Some("jenkins")), &Ok(()));
     expect_equal(&rt, &hash(Some("md5")), &Err(BadValue { letter: b'f' }));
@@ -77,5 +72,30 @@ fn values_of_options(rt: HostRuntime) -> Result<(), Fail> {
     expect_equal(&rt, &buffer(Some("1024")), &Ok(1_073_741_824));
     expect_equal(&rt, &count(Some("1001")), &Err(BadValue { letter: b'r' }));
     expect_equal(&rt, &seed(None), &Ok(1));
+    Ok(())
+}
+
+#[test]
+fn bits_by_algorithm(rt: HostRuntime) -> Result<(), Fail> {
+    let bad = Err(BadValue { letter: b'b' });
+    for (text, builds, algorithm, value) in [
+        (None, true, Algorithm::Bdz, Ok(7)),
+        (Some("11"), true, Algorithm::Bdz, bad),
+        (Some("11"), false, Algorithm::Bdz, Ok(0)),
+        (None, true, Algorithm::Brz, Ok(128)),
+        (Some("63"), true, Algorithm::Brz, bad),
+        (Some("64"), true, Algorithm::Brz, Ok(64)),
+        (Some("175"), true, Algorithm::Brz, Ok(175)),
+        (Some("176"), true, Algorithm::Brz, bad),
+        (Some("176"), false, Algorithm::Brz, Ok(0)),
+        (Some("4294967295"), true, Algorithm::BdzPh, Ok(0)),
+    ] {
+        expect_equal_at(
+            &rt,
+            &(text, builds, algorithm),
+            &bits(text, builds, algorithm),
+            &value,
+        );
+    }
     Ok(())
 }

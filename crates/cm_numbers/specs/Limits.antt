@@ -1,8 +1,7 @@
 -- The ranges of the options' values.
-use Rattle.std.specs.Prelude.{◌≢◌, ◌≤◌, ℕ, Option}
+use Rattle.std.specs.Prelude.{◌≤◌, ℕ, Option}
 use Rattle.std.specs.Option.{ForSome}
-use Rattle.cm_algorithm.specs.declared.algorithm.Algorithm.{Algorithm}
-use Rattle.cm_algorithm.specs.declared.algorithm.Algorithm.TheVariants.{Brz}
+use Rattle.cm_numbers.specs.declared.options.TheConstants.{MAX_TEST_KEYS, MAX_WIDTH, MIN_WIDTH}
 
 -- a number of lines, where it is given, is at least one
 abbrev pub IsFirst : Option ℕ → Type 0
@@ -16,6 +15,10 @@ IsRatio c = (1000000 ≤ c) × (c ≤ 10000000)
 abbrev pub IsSampling : ℕ → Type 0
 IsSampling b = (3 ≤ b) × (b ≤ 10)
 
+-- how many keys a bucket has on average
+abbrev pub IsWidth : ℕ → Type 0
+IsWidth b = (MIN_WIDTH ≤ b) × (b ≤ MAX_WIDTH)
+
 -- how many seeds are tried
 abbrev pub IsCount : ℕ → Type 0
 IsCount seeds = (1 ≤ seeds) × (seeds ≤ 1000)
@@ -24,12 +27,16 @@ IsCount seeds = (1 ≤ seeds) × (seeds ≤ 1000)
 abbrev pub IsBuffer : ℕ → Type 0
 IsBuffer bytes = (1048576 ≤ bytes) × (bytes ≤ 1073741824)
 
--- The ranges of a build's numbers: the ratio in millionths, the sampling of ranks where there is one, how many seeds, the
--- buffer in bytes, and the number of lines.
-pub record AreInRange (sampled : Type 0) (algorithm : Algorithm) (c b seeds bytes : ℕ) (lines : Option ℕ) : Type 0 where
-  pub offered : algorithm ≢ Brz
+-- how many generated keys a test has
+abbrev pub IsTestSize : ℕ → Type 0
+IsTestSize keys = (1 ≤ keys) × (keys ≤ MAX_TEST_KEYS)
+
+-- The ranges of a build's numbers: the ratio in millionths, the sampling of ranks where they are sampled, the average size of a
+-- bucket where the keys are split, how many seeds, the buffer in bytes, and the number of lines.
+pub record AreInRange (sampled split : Type 0) (c b seeds bytes : ℕ) (lines : Option ℕ) : Type 0 where
   pub ratio : IsRatio c
   pub sampling : sampled → IsSampling b
+  pub width : split → IsWidth b
   pub count : IsCount seeds
   pub buffer : IsBuffer bytes
   pub first : IsFirst lines

@@ -3,10 +3,10 @@ use Rattle.std.specs.Prelude.{ℕ, ◌*◌, Bool, true, List, [], ◌∷◌, cod
 use Rattle.std.specs.Str.{bytes_eq}
 use Rattle.cm_algorithm.specs.Names.{name_of}
 use Rattle.cm_algorithm.specs.declared.algorithm.Algorithm.{Algorithm}
-use Rattle.cm_algorithm.specs.declared.algorithm.Algorithm.TheVariants.{Chm, Bdz, BdzPh}
+use Rattle.cm_algorithm.specs.declared.algorithm.Algorithm.TheVariants.{Chm, Bdz, BdzPh, Brz}
 use Rattle.cm_numbers.specs.Digits.{millionths_of, whole_of}
 use Rattle.cm_numbers.specs.declared.fault.BadValue.{BadValue}
-use Rattle.cm_numbers.specs.declared.options.TheConstants.{MEGABYTE}
+use Rattle.cm_numbers.specs.declared.options.TheConstants.{MAX_TEST_KEYS, MAX_WIDTH, MEGABYTE, MIN_WIDTH}
 
 abbrev pub Text : Type 0
 Text = List ℕ
@@ -32,20 +32,23 @@ number_value letter least most = value_or letter (whole_of least most)
 abbrev pub optional_value : ℕ → ℕ → ℕ → Option Text → Checked (Option ℕ)
 optional_value letter least most = value_or letter (λ t. option_map (λ n. Some n) (whole_of least most t)) None
 
--- the algorithms that are offered
-abbrev pub offered : List Algorithm
-offered = Chm ∷ Bdz ∷ BdzPh ∷ []
+-- all algorithms
+abbrev pub algorithms : List Algorithm
+algorithms = Chm ∷ Bdz ∷ BdzPh ∷ Brz ∷ []
 
+-- the algorithm with this name
 abbrev pub named : Text → Option Algorithm
-named name = find (λ a. bytes_eq name (name_of a)) offered
+named name = find (λ a. bytes_eq name (name_of a)) algorithms
 
 -- -a
 abbrev pub algorithm_value : Option Text → Checked Algorithm
 algorithm_value = value_or 97 named Chm
 
--- -b: the sampling of ranks in a build by bdz; elsewhere any number, which counts for nothing
+-- -b: the sampling of ranks in a build by bdz, and the average size of a bucket in one by brz; elsewhere any number, which
+-- counts for nothing
 abbrev pub bits_value : Bool → Algorithm → Option Text → Checked ℕ
 bits_value true Bdz = number_value 98 3 10 7
+bits_value true Brz = number_value 98 MIN_WIDTH MAX_WIDTH 128
 bits_value _ _ = λ text. and_then (number_value 98 0 4294967295 0 text) (λ _. Ok 0)
 
 -- the ratio in millionths where -c isn't given
@@ -80,3 +83,7 @@ count_value = number_value 114 1 1000 100
 -- -s
 abbrev pub seed_value : Option Text → Checked ℕ
 seed_value = number_value 115 0 4294967295 1
+
+-- -T
+abbrev pub test_value : Option Text → Checked (Option ℕ)
+test_value = optional_value 84 1 MAX_TEST_KEYS

@@ -8,5 +8,6 @@ mod options;
 pub use fault::BadValue;
 pub use numbers::{millionths, whole};
 pub use options::{
-    MEGABYTE, algorithm, bits, buffer, count, first, hash, number, optional, ratio, seed,
+    MAX_TEST_KEYS, MAX_WIDTH, MEGABYTE, MIN_WIDTH, algorithm, bits, buffer, count, first, hash,
+    number, optional, ratio, seed, test,
 };

@@ -1,15 +1,24 @@
 //! What the values of the options stand for. None of these takes memory.
-ghost use Rattle.std.specs.Prelude.{◌≡◌, ◌≢◌, ◌≤◌, IfOk, IfSome, max, min, option_map, true};
+ghost use Rattle.std.specs.Prelude.{◌≡◌, ◌≤◌, IfOk, IsNone, max, min, option_map, true};
 ghost use Rattle.std.specs.Option.{ForSome};
 ghost use Rattle.cm_algorithm.specs.declared.algorithm.Algorithm.TheVariants.{Bdz, Brz};
-ghost use Rattle.cm_numbers.specs.Limits.{IsBuffer, IsCount, IsFirst, IsRatio, IsSampling};
-ghost use Rattle.cm_numbers.specs.Options.{algorithm_value, bits_value, buffer_value, count_value, first_value, hash_value, named, number_value, optional_value, ratio_value, seed_value};
+ghost use Rattle.cm_numbers.specs.Limits.{IsBuffer, IsCount, IsFirst, IsRatio, IsSampling, IsTestSize, IsWidth};
+ghost use Rattle.cm_numbers.specs.Options.{algorithm_value, bits_value, buffer_value, count_value, first_value, hash_value, number_value, optional_value, ratio_value, seed_value, test_value};
 
 use crate::{BadValue, millionths, whole};
 use cm_algorithm::Algorithm;
 
 /// The bytes of a megabyte.
 pub const MEGABYTE: u32 = 1_048_576;
+
+/// The least number of keys that a bucket of BRZ may have on average.
+pub const MIN_WIDTH: u32 = 64;
+
+/// The greatest number of keys that a bucket of BRZ may have on average.
+pub const MAX_WIDTH: u32 = 175;
+
+/// The greatest number of generated keys that a test may have.
+pub const MAX_TEST_KEYS: u32 = 16_777_216;
 
 /// The whole number of an option, from `least` to `most`, or `missing` if it isn't given.
 pub fn number(
@@ -47,37 +56,26 @@ pub fn optional(
     }
 }
 
-/// The algorithm with this name, if it is offered.
-fn algorithm_named(name: &str) -> Option<Algorithm>
-    ensures value { result ≡ named name.now }
-    ensures offered { IfSome result (λ algorithm. algorithm ≢ Brz) }
-{
-    let algorithm = Algorithm::from_name(name)?;
-    match algorithm {
-        Algorithm::Chm | Algorithm::Bdz | Algorithm::BdzPh => Some(algorithm),
-        Algorithm::Brz => None,
-    }
-}
-
-/// `-a`: the algorithm, any but BRZ; CHM if it isn't given.
+/// `-a`: the algorithm with this name; CHM if it isn't given.
 pub fn algorithm(text: Option<&str>) -> Result<Algorithm, BadValue>
     ensures value { result ≡ algorithm_value (option_map (λ s. s.now) text.entry) }
-    ensures offered { IfOk result (λ algorithm. algorithm ≢ Brz) }
 {
     match text {
-        Some(text) => algorithm_named(text).ok_or(BadValue { letter: b'a' }),
+        Some(text) => Algorithm::from_name(text).ok_or(BadValue { letter: b'a' }),
         None => Ok(Algorithm::Chm),
     }
 }
 
-/// `-b`: in a build by BDZ the sampling of ranks, from 3 to 10, and 7 if it isn't given. Elsewhere it is any number, and the
-/// result is 0.
+/// `-b`: in a build by BDZ the sampling of ranks, from 3 to 10, and 7 if it isn't given; in one by BRZ the number of keys that a
+/// bucket has on average, from `MIN_WIDTH` to `MAX_WIDTH`, and 128 if it isn't given. Elsewhere it is any number, and the result is 0.
 pub fn bits(text: Option<&str>, builds: bool, algorithm: Algorithm) -> Result<u8, BadValue>
     ensures value { result ≡ bits_value builds algorithm (option_map (λ s. s.now) text.entry) }
-    ensures within { IfOk result (λ n. (builds ≡ true) × (algorithm ≡ Bdz) → IsSampling n) }
+    ensures sampling { IfOk result (λ n. (builds ≡ true) × (algorithm ≡ Bdz) → IsSampling n) }
+    ensures width { IfOk result (λ n. (builds ≡ true) × (algorithm ≡ Brz) → IsWidth n) }
 {
     match algorithm {
         Algorithm::Bdz if builds => Ok(number(text, b'b', 3, 10, 7)? as u8),
+        Algorithm::Brz if builds => Ok(number(text, b'b', MIN_WIDTH, MAX_WIDTH, 128)? as u8),
         _ => {
             number(text, b'b', 0, u32::MAX, 0)?;
             Ok(0)
@@ -139,4 +137,13 @@ pub fn seed(text: Option<&str>) -> Result<u32, BadValue>
     ensures value { result ≡ seed_value (option_map (λ s. s.now) text.entry) }
 {
     number(text, b's', 0, u32::MAX, 1)
+}
+
+/// `-T`: how many generated keys a test has, from 1 to `MAX_TEST_KEYS`, if it is given.
+pub fn test(text: Option<&str>) -> Result<Option<u32>, BadValue>
+    ensures value { result ≡ test_value (option_map (λ s. s.now) text.entry) }
+    ensures within { IfOk result (λ found. ForSome found IsTestSize) }
+    ensures missing { IfOk result (λ found. IsNone found → IsNone (option_map (λ s. s.now) text.entry)) }
+{
+    optional(text, b'T', 1, MAX_TEST_KEYS)
 }

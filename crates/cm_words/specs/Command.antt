@@ -64,6 +64,7 @@ build_options =
     value_rule (codes "buffer") 77 ∷  -- M
     value_rule (codes "count") 114 ∷  -- r
     value_rule (codes "seed") 115 ∷  -- s
+    value_rule (codes "test") 84 ∷  -- T
     []
 
 -- the whole command

@@ -4,6 +4,7 @@ use Rattle.clap.specs.Words.{Text}
 use Rattle.cm_algorithm.specs.declared.algorithm.Algorithm.TheVariants.{Chm}
 use Rattle.cm_words.specs.declared.jobs.BuildJob.{BuildJob}
 use Rattle.cm_words.specs.declared.jobs.QueryJob.{QueryJob}
+use Rattle.cm_words.specs.declared.jobs.TestJob.{TestJob}
 
 -- a byte more in front of the first word
 abbrev pub in_first : ℕ → List Text → List Text
@@ -39,3 +40,7 @@ plain_build = record {
   dir = codes ".";
   verbose = false;
 }
+
+-- the test of `cmph -T 5`
+abbrev pub plain_test : TestJob
+plain_test = record { keys = 5; seed = 1; count = 100; buffer = 1048576; dir = codes "." }

@@ -1,5 +1,5 @@
 -- What words mean: a job, or a fault.
-use Rattle.std.specs.Prelude.{◌++◌, Bool, true, false, List, [], ◌∷◌, codes, Option, Some, None, Ok, Err, if◌then◌else◌, unwrap_or}
+use Rattle.std.specs.Prelude.{ℕ, ◌++◌, Bool, true, false, List, [], ◌∷◌, codes, Option, Some, None, Ok, Err, if◌then◌else◌, unwrap_or}
 use Rattle.clap.specs.Words.{Kinds, Row, Text, fault_of, first_of, matches_of}
 use Rattle.cm_words.specs.Command.{cmph_app}
 use Rattle.cm_numbers.specs.Options.{and_then}
@@ -7,8 +7,9 @@ use Rattle.cm_words.specs.Options.{Read, as_usage, is_counted, is_set, values_of
 use Rattle.cm_words.specs.declared.fault.UsageFault.TheVariants.{NoFile, Words}
 use Rattle.cm_words.specs.declared.jobs.BuildJob.{BuildJob}
 use Rattle.cm_words.specs.declared.jobs.QueryJob.{QueryJob}
+use Rattle.cm_words.specs.declared.jobs.TestJob.{TestJob}
 use Rattle.cm_words.specs.declared.jobs.Job.{Job}
-use Rattle.cm_words.specs.declared.jobs.Job.TheVariants.{Help, Version, Build, Query}
+use Rattle.cm_words.specs.declared.jobs.Job.TheVariants.{Help, Version, Build, Query, Test}
 use Rattle.cm_words.specs.declared.values.Values.{Values}
 
 -- the function file: the one that is named, or that of the keys file
@@ -40,17 +41,31 @@ query_of v keys rows = record {
   first = v.first;
 }
 
+abbrev pub test_of : ℕ → Values → List Row → TestJob
+test_of keys v rows = record {
+  keys = keys;
+  seed = v.seed;
+  count = v.count;
+  buffer = v.buffer;
+  dir = directory_of (first_of (codes "directory") rows);
+}
+
 -- a build or a query, where the keys file is named
 abbrev pub job_over : Option Text → Values → List Row → Read Job
 job_over None v rows = Err NoFile
 job_over (Some keys) v rows = if is_set (codes "generate") rows then Ok (Build (build_of v keys rows))
     else Ok (Query (query_of v keys rows))
 
+-- a test, where a number of keys is given, or else a build or a query
+abbrev pub job_by : Option ℕ → Values → List Row → Read Job
+job_by (Some keys) v rows = Ok (Test (test_of keys v rows))
+job_by None v rows = job_over (first_of (codes "keys") rows) v rows
+
 -- the job of the arguments that clap found
 abbrev pub job_of_rows : List Row → Read Job
 job_of_rows rows = if is_set (codes "help") rows then Ok Help
     else (if is_set (codes "version") rows then Ok Version
-    else and_then (as_usage (values_of rows)) (λ v. job_over (first_of (codes "keys") rows) v rows))
+    else and_then (as_usage (values_of rows)) (λ v. job_by v.test v rows))
 
 -- clap has a fault for the words
 abbrev pub is_refused : Kinds → Bool

@@ -59,7 +59,8 @@ fn with_build_options<'a>(alloc: Global, command: Command<'a>) -> Result<Command
     let command = with_option(alloc, command, "hash", 'f', ArgAction::Set)?;
     let command = with_option(alloc, command, "buffer", 'M', ArgAction::Set)?;
     let command = with_option(alloc, command, "count", 'r', ArgAction::Set)?;
-    with_option(alloc, command, "seed", 's', ArgAction::Set)
+    let command = with_option(alloc, command, "seed", 's', ArgAction::Set)?;
+    with_option(alloc, command, "test", 'T', ArgAction::Set)
 }
 
 fn with_file_options<'a>(alloc: Global, command: Command<'a>) -> Result<Command<'a>, AllocError>

@@ -2,12 +2,12 @@
 #![tactic(auto, unfolding(crate::specs::Meaning::job_of, crate::specs::Command::with_argument, clap::proofs::OnLiterals::clap_on_literals))]
 
 ghost use Rattle.std.specs.Prelude.{◌≡◌, ◌++◌, ◌∷◌, [], Ok, Err, Some, None, true, codes};
-ghost use Rattle.cm_algorithm.specs.declared.algorithm.Algorithm.TheVariants.{Bdz, BdzPh};
+ghost use Rattle.cm_algorithm.specs.declared.algorithm.Algorithm.TheVariants.{Bdz, BdzPh, Brz};
 ghost use Rattle.cm_numbers.specs.Digits.{millionths_of, whole_of};
-ghost use Rattle.cm_words.specs.Examples.{plain_build, plain_query, query_of_file, typed};
+ghost use Rattle.cm_words.specs.Examples.{plain_build, plain_query, plain_test, query_of_file, typed};
 ghost use Rattle.cm_words.specs.Meaning.{job_of};
 ghost use Rattle.cm_words.specs.declared.fault.UsageFault.TheVariants.{BadValue, NoFile, Words};
-ghost use Rattle.cm_words.specs.declared.jobs.Job.TheVariants.{Help, Version, Build, Query};
+ghost use Rattle.cm_words.specs.declared.jobs.Job.TheVariants.{Help, Version, Build, Query, Test};
 
 /// The program's name and files.
 pub fn files()
@@ -63,7 +63,6 @@ pub fn unknown()
     ensures capital { job_of (typed (codes "cmph -G keys")) ≡ Err Words }
     ensures small_letter { job_of (typed (codes "cmph -M 1 -v keys -V")) ≡ Ok Version }
     ensures in_bundle { job_of (typed (codes "cmph -gt keys")) ≡ Err Words }
-    ensures test { job_of (typed (codes "cmph -T 5")) ≡ Err Words }
     ensures upgrade { job_of (typed (codes "cmph -u keys")) ≡ Err Words }
     ensures hyphen_in_bundle { job_of (typed (codes "cmph -g-v keys")) ≡ Err Words }
     ensures equals { job_of (typed (codes "cmph -=")) ≡ Err Words }
@@ -166,13 +165,14 @@ pub fn ratios()
     ensures exact { millionths_of (codes "9.99") ≡ Some 9990000 }
 {}
 
-/// Algorithms, with the ratio and the sampling that are usual for them, and the hash function.
+/// Algorithms, with the ratio and the b that are usual for them, and the hash function.
 pub fn algorithms()
     ensures chm { job_of (typed (codes "cmph -g -a chm keys")) ≡ Ok (Build plain_build) }
     ensures bdz { job_of (typed (codes "cmph -g -a bdz keys")) ≡ Ok (Build (record plain_build { algorithm = Bdz; c = 1230000; b = 7 })) }
     ensures bdz_ph { job_of (typed (codes "cmph -g -a bdz_ph keys")) ≡ Ok (Build (record plain_build { algorithm = BdzPh; c = 1230000 })) }
     ensures bdz_with_ratio { job_of (typed (codes "cmph -g -a bdz -c 2 keys")) ≡ Ok (Build (record plain_build { algorithm = Bdz; c = 2000000; b = 7 })) }
-    ensures not_offered { job_of (typed (codes "cmph -g -a brz keys")) ≡ Err (BadValue 97) }
+    ensures brz { job_of (typed (codes "cmph -g -a brz keys")) ≡ Ok (Build (record plain_build { algorithm = Brz; c = 1230000; b = 128 })) }
+    ensures brz_with_spill { job_of (typed (codes "cmph -g -a brz -c 2 -M 2 -d tmp keys")) ≡ Ok (Build (record plain_build { algorithm = Brz; c = 2000000; b = 128; buffer = 2097152; dir = codes "tmp" })) }
     ensures capitals { job_of (typed (codes "cmph -g -a CHM keys")) ≡ Err (BadValue 97) }
     ensures longer { job_of (typed (codes "cmph -g -a chmx keys")) ≡ Err (BadValue 97) }
     ensures empty { job_of (typed (codes "cmph -g -a= keys")) ≡ Err (BadValue 97) }
@@ -196,6 +196,36 @@ pub fn sampling()
     ensures no_number { job_of (typed (codes "cmph -b x keys")) ≡ Err (BadValue 98) }
 {}
 
+/// How many keys a bucket has on average.
+pub fn widths()
+    ensures least { job_of (typed (codes "cmph -g -a brz -b 64 keys")) ≡ Ok (Build (record plain_build { algorithm = Brz; c = 1230000; b = 64 })) }
+    ensures most { job_of (typed (codes "cmph -g -a brz -b 175 keys")) ≡ Ok (Build (record plain_build { algorithm = Brz; c = 1230000; b = 175 })) }
+    ensures less { job_of (typed (codes "cmph -g -a brz -b 63 keys")) ≡ Err (BadValue 98) }
+    ensures more { job_of (typed (codes "cmph -g -a brz -b 176 keys")) ≡ Err (BadValue 98) }
+    ensures of_query { job_of (typed (codes "cmph -a brz -b 176 keys")) ≡ Ok (Query plain_query) }
+{}
+
+/// Tests, which need no keys file and come before a build.
+pub fn tests()
+    ensures alone { job_of (typed (codes "cmph -T 5")) ≡ Ok (Test plain_test) }
+    ensures least { job_of (typed (codes "cmph -T 1")) ≡ Ok (Test (record plain_test { keys = 1 })) }
+    ensures most { job_of (typed (codes "cmph -T 16777216")) ≡ Ok (Test (record plain_test { keys = 16777216 })) }
+    ensures less { job_of (typed (codes "cmph -T 0")) ≡ Err (BadValue 84) }
+    ensures more { job_of (typed (codes "cmph -T 16777217")) ≡ Err (BadValue 84) }
+    ensures no_number { job_of (typed (codes "cmph -T x")) ≡ Err (BadValue 84) }
+    ensures empty { job_of (typed (codes "cmph -T=")) ≡ Err (BadValue 84) }
+    ensures missing { job_of (typed (codes "cmph -T")) ≡ Err Words }
+    ensures repeated { job_of (typed (codes "cmph -T 5 -T 5")) ≡ Err Words }
+    ensures options { job_of (typed (codes "cmph -T 5 -s 7 -r 9 -M 2 -d tmp")) ≡ Ok (Test (record { keys = 5; seed = 7; count = 9; buffer = 2097152; dir = codes "tmp" })) }
+    ensures with_file { job_of (typed (codes "cmph -T 5 keys")) ≡ Ok (Test plain_test) }
+    ensures two_files { job_of (typed (codes "cmph -T 5 keys more")) ≡ Err Words }
+    ensures with_generate { job_of (typed (codes "cmph -g -T 5 -v -m f -k 1 keys")) ≡ Ok (Test plain_test) }
+    ensures sampling { job_of (typed (codes "cmph -T 5 -g -a bdz -b 11")) ≡ Ok (Test plain_test) }
+    ensures width { job_of (typed (codes "cmph -b 3 -T 5 -g -a brz")) ≡ Ok (Test plain_test) }
+    ensures no_width { job_of (typed (codes "cmph -T 5 -g -a brz -b x")) ≡ Err (BadValue 98) }
+    ensures width_before_test { job_of (typed (codes "cmph -T 0 -g -a brz -b 3")) ≡ Err (BadValue 84) }
+{}
+
 /// Words that mean more than one thing: the first of them in the order of the tests.
 pub fn orders()
     ensures help { job_of (typed (codes "cmph -h")) ≡ Ok Help }
@@ -213,7 +243,11 @@ pub fn orders()
     ensures first { job_of (typed (codes "cmph -s x -r x -M x -k x")) ≡ Err (BadValue 107) }
     ensures buffer { job_of (typed (codes "cmph -s x -r x -M x")) ≡ Err (BadValue 77) }
     ensures count { job_of (typed (codes "cmph -s x -r x")) ≡ Err (BadValue 114) }
-    ensures seed { job_of (typed (codes "cmph -s x")) ≡ Err (BadValue 115) }
+    ensures seed { job_of (typed (codes "cmph -T x -s x")) ≡ Err (BadValue 115) }
+    ensures test { job_of (typed (codes "cmph -T x")) ≡ Err (BadValue 84) }
+    ensures seed_of_test { job_of (typed (codes "cmph -T 5 -s x")) ≡ Err (BadValue 115) }
+    ensures help_and_test { job_of (typed (codes "cmph -T 0 -h")) ≡ Ok Help }
+    ensures version_and_test { job_of (typed (codes "cmph -T 5 -V")) ≡ Ok Version }
     ensures no_file { job_of (typed (codes "cmph -g -s 1")) ≡ Err NoFile }
 {}
 

@@ -11,11 +11,12 @@ pub struct BuildJob {
     pub function: Text,
     /// How many lines of the keys file are looked at, from 1 to 4,294,967,295, or all.
     pub first: Option<u32>,
-    /// The algorithm: any but BRZ.
+    /// The algorithm.
     pub algorithm: Algorithm,
     /// The ratio of vertices to keys in millionths, from 1,000,000 to 10,000,000.
     pub c: u32,
-    /// BDZ: each 2^b-th vertex has a sampled rank, with b from 3 to 10. For the other algorithms 0.
+    /// BDZ: each 2^b-th vertex has a sampled rank, with b from 3 to 10. BRZ: how many keys a bucket has on average, from 64
+    /// to 175. For the other algorithms 0.
     pub b: u8,
     /// The first seed that is tried.
     pub seed: u32,
@@ -40,6 +41,21 @@ pub struct QueryJob {
     pub first: Option<u32>,
 }
 
+/// A test: builds over generated keys by each algorithm.
+#[derive(Debug, Drop)]
+pub struct TestJob {
+    /// How many keys are generated, from 1 to 16,777,216.
+    pub keys: u32,
+    /// The first seed that is tried.
+    pub seed: u32,
+    /// How many seeds are tried at most, from 1 to 1,000.
+    pub count: u32,
+    /// The buffer of BRZ in bytes, from 1,048,576 to 1,073,741,824.
+    pub buffer: u32,
+    /// The directory of BRZ's spill file.
+    pub dir: Text,
+}
+
 /// What the words of a command line ask for.
 #[derive(Debug, Drop)]
 pub enum Job {
@@ -49,4 +65,5 @@ pub enum Job {
     Version,
     Build(BuildJob),
     Query(QueryJob),
+    Test(TestJob),
 }

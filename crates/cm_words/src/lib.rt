@@ -11,6 +11,6 @@ mod values;
 
 pub use cm_numbers::{millionths, whole};
 pub use fault::UsageFault;
-pub use jobs::{BuildJob, Job, QueryJob};
+pub use jobs::{BuildJob, Job, QueryJob, TestJob};
 pub use reading::read_words;
 pub use texts::Text;

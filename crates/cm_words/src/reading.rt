@@ -1,12 +1,13 @@
 //! The job of the words.
-ghost use Rattle.std.specs.Prelude.{◌≡◌, ◌⊎◌, Err, IfErr, IfOk, IsOk, Ok, map, option_map, string_bytes, true};
+ghost use Rattle.std.specs.Prelude.{◌≡◌, ◌⊎◌, Err, IfErr, IfOk, IsOk, Ok, false, map, option_map, string_bytes, true};
 ghost use Rattle.clap.specs.Words.{found_of, rows_of};
-ghost use Rattle.cm_words.specs.Limits.{AreValues, IsBuild, IsJob};
-ghost use Rattle.cm_words.specs.Meaning.{build_of, directory_of, function_of, job_of, job_of_rows, query_of};
+ghost use Rattle.cm_numbers.specs.Limits.{IsTestSize};
+ghost use Rattle.cm_words.specs.Limits.{AreValues, IsBuild, IsJob, IsTest};
+ghost use Rattle.cm_words.specs.Meaning.{build_of, directory_of, function_of, job_of, job_of_rows, query_of, test_of};
 
 use crate::arguments::command;
 use crate::values::{Values, all_values, counted, flag, text};
-use crate::{BuildJob, Job, QueryJob, Text, UsageFault};
+use crate::{BuildJob, Job, QueryJob, TestJob, Text, UsageFault};
 use clap::ArgMatches;
 use std::alloc::{AllocError, Global};
 
@@ -79,6 +80,26 @@ fn query_job(
     })
 }
 
+fn test_job(
+    alloc: Global,
+    matches: &ArgMatches<'_>,
+    values: Values,
+    keys: u32,
+) -> Result<TestJob, AllocError>
+    requires values { AreValues false values }
+    requires keys { IsTestSize keys }
+    ensures job { IfOk result (λ job. job ≡ test_of keys values (rows_of (found_of matches.now))) }
+    ensures within { IfOk result IsTest }
+{
+    Ok(TestJob {
+        keys,
+        seed: values.seed,
+        count: values.count,
+        buffer: values.buffer,
+        dir: directory(alloc, text(matches, "directory"))?,
+    })
+}
+
 /// The job of the arguments that clap found.
 fn job(alloc: Global, matches: &ArgMatches<'_>) -> Result<Job, UsageFault>
     ensures job { IfOk result (λ job. Ok job ≡ job_of_rows (rows_of (found_of matches.now))) }
@@ -96,6 +117,9 @@ fn job(alloc: Global, matches: &ArgMatches<'_>) -> Result<Job, UsageFault>
         return Ok(Job::Version);
     }
     let values = all_values(matches)?;
+    if let Some(keys) = values.test {
+        return Ok(Job::Test(test_job(alloc, matches, values, keys)?));
+    }
     let Some(keys) = text(matches, "keys") else {
         return Err(UsageFault::NoFile);
     };

@@ -1,12 +1,12 @@
 //! The values of the options.
-ghost use Rattle.std.specs.Prelude.{◌≡◌, IfOk, codes, option_map};
+ghost use Rattle.std.specs.Prelude.{◌≡◌, IfOk, IsNone, codes, option_map};
 ghost use Rattle.clap.specs.Words.{found_of, first_of, rows_of};
 ghost use Rattle.cm_words.specs.Limits.{AreValues};
-ghost use Rattle.cm_words.specs.Options.{is_counted, is_set, values_of};
+ghost use Rattle.cm_words.specs.Options.{is_build, is_counted, is_set, values_of};
 
 use clap::ArgMatches;
 use cm_algorithm::Algorithm;
-use cm_numbers::{BadValue, algorithm, bits, buffer, count, first, hash, ratio, seed};
+use cm_numbers::{BadValue, algorithm, bits, buffer, count, first, hash, ratio, seed, test};
 
 /// The values of the options that are tested.
 #[derive(Clone, Copy, Debug)]
@@ -20,6 +20,8 @@ pub struct Values {
     pub buffer: u32,
     pub count: u32,
     pub seed: u32,
+    /// How many keys a test generates, if it is one.
+    pub test: Option<u32>,
 }
 
 /// The text of an option or a file, where it is given.
@@ -46,13 +48,21 @@ pub fn counted(matches: &ArgMatches<'_>, id: &str) -> bool
     matches.get_count(id) > 0
 }
 
+/// Whether the job is a build: it generates a function file, and isn't a test.
+pub fn builds(matches: &ArgMatches<'_>) -> bool
+    ensures { result ≡ is_build (rows_of (found_of matches.now)) }
+{
+    flag(matches, "generate") && text(matches, "test").is_none()
+}
+
 /// The values of all options, or the first that is bad in the order of the letters.
 pub fn all_values(matches: &ArgMatches<'_>) -> Result<Values, BadValue>
     ensures values { result ≡ values_of (rows_of (found_of matches.now)) }
-    ensures within { IfOk result (AreValues (is_set (codes "generate") (rows_of (found_of matches.now)))) }
+    ensures within { IfOk result (AreValues (is_build (rows_of (found_of matches.now)))) }
+    ensures no_test { IfOk result (λ v. IsNone v.test → IsNone (first_of (codes "test") (rows_of (found_of matches.now)))) }
 {
     let algorithm = algorithm(text(matches, "algorithm"))?;
-    let bits = bits(text(matches, "bits"), flag(matches, "generate"), algorithm)?;
+    let bits = bits(text(matches, "bits"), builds(matches), algorithm)?;
     let ratio = ratio(text(matches, "ratio"), algorithm)?;
     hash(text(matches, "hash"))?;
     Ok(Values {
@@ -63,5 +73,6 @@ pub fn all_values(matches: &ArgMatches<'_>) -> Result<Values, BadValue>
         buffer: buffer(text(matches, "buffer"))?,
         count: count(text(matches, "count"))?,
         seed: seed(text(matches, "seed"))?,
+        test: test(text(matches, "test"))?,
     })
 }

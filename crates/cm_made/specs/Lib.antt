@@ -1,0 +1,3 @@
+pub mod Numbered
+pub mod Sources
+pub mod Texts
