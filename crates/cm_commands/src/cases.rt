@@ -1,7 +1,7 @@
 ghost use Rattle.std.specs.Prelude.{◌≡◌};
 
 use crate::equal::{expect_equal, expect_true};
-use cm_outer::{MemDisk, MemSink};
+use cm_outer::{DiskCall, MemDisk, MemSink};
 use cm_tool::run;
 use std::alloc::{AllocError, Global};
 use std::process::Abort;
@@ -32,7 +32,8 @@ const PLAIN: &[&str] = &["cmph", "-g", "keys"];
 
 const SEEDED: &[&str] = &["cmph", "-g", "-s", "0", "keys"];
 
-/// A command over a disk with these files, where a file, out and err have so much room, and what it answers, writes and leaves.
+/// A command over a disk with these files, where a file or a spill, out and err have so much room and such calls of the disk fail, and what
+/// it answers, writes and leaves.
 #[derive(Drop)]
 pub(crate) struct Case<'a> {
     pub words: &'a [&'a str],
@@ -41,6 +42,7 @@ pub(crate) struct Case<'a> {
     pub disk_room: usize,
     pub out_room: usize,
     pub err_room: usize,
+    pub fails: &'a [(DiskCall, u64)],
     pub status: u8,
     pub out: &'a [u8],
     pub err: &'a str,
@@ -64,6 +66,7 @@ impl<'a> Case<'a> {
             disk_room: AMPLE,
             out_room: AMPLE,
             err_room: AMPLE,
+            fails: &[],
             status,
             out,
             err,
@@ -118,6 +121,7 @@ impl<'a> Case<'a> {
         if let Some(bytes) = self.dump {
             disk.put("keys.mph", bytes)?;
         }
+        list_calls(&mut disk, self.fails)?;
         let mut out = MemSink::new(alloc, self.out_room, Vec::new(alloc))?;
         let mut err = MemSink::new(alloc, self.err_room, Vec::new(alloc))?;
         let status = run_words(alloc, self.words, &mut disk, &mut out, &mut err)?;
@@ -138,8 +142,16 @@ pub(crate) fn check_all(rt: &impl Abort, alloc: Global, cases: &[Case]) -> Resul
     Ok(())
 }
 
+/// Lists the calls of a disk that fail.
+fn list_calls(disk: &mut MemDisk, calls: &[(DiskCall, u64)]) -> Result<(), AllocError> {
+    for call in calls {
+        disk.fail(call.0, call.1)?;
+    }
+    Ok(())
+}
+
 /// Runs a command, and gives its status.
-fn run_words(
+pub(crate) fn run_words(
     alloc: Global,
     words: &[&str],
     disk: &mut MemDisk,
@@ -153,17 +165,30 @@ fn run_words(
     Ok(run(alloc, &owned, disk, out, err))
 }
 
-/// How many bytes the function file of these keys has, unless the build fails.
-fn built_len(alloc: Global, keys: &[u8]) -> Result<Option<usize>, AllocError> {
-    let mut disk = MemDisk::new(alloc, AMPLE);
+/// The function file that a build makes over a disk with so much room for a file or a spill, unless it fails.
+pub(crate) fn built_file(
+    alloc: Global,
+    words: &[&str],
+    keys: &[u8],
+    room: usize,
+) -> Result<Option<Vec<u8>>, AllocError> {
+    let mut disk = MemDisk::new(alloc, room);
     disk.put("keys", keys)?;
     let mut out = MemSink::new(alloc, AMPLE, Vec::new(alloc))?;
     let mut err = MemSink::new(alloc, AMPLE, Vec::new(alloc))?;
-    let status = run_words(alloc, PLAIN, &mut disk, &mut out, &mut err)?;
-    Ok(match disk.get("keys.mph") {
-        Some(bytes) if status == 0 => Some(bytes.len()),
-        _ => None,
-    })
+    let status = run_words(alloc, words, &mut disk, &mut out, &mut err)?;
+    match disk.get("keys.mph") {
+        Some(bytes) if status == 0 => Ok(Some(bytes.to_vec(alloc)?)),
+        _ => Ok(None),
+    }
+}
+
+/// How many bytes the function file of these keys has, unless the build fails.
+fn built_len(alloc: Global, keys: &[u8]) -> Result<Option<usize>, AllocError> {
+    match built_file(alloc, PLAIN, keys, AMPLE)? {
+        Some(file) => Ok(Some(file.len())),
+        None => Ok(None),
+    }
 }
 
 /// The first `len` bytes of a dump, or zeros after them, with some of them changed.

@@ -164,7 +164,7 @@ fn refused_words(rt: HostRuntime) -> Result<(), Fail> {
             "cmph: bad value of -b\n",
         ),
         (
-            &["cmph", "-g", "-a", "brz", "keys"],
+            &["cmph", "-g", "-a", "CHM", "keys"],
             "cmph: bad value of -a\n",
         ),
         (

@@ -2,6 +2,8 @@
 #![tactic(auto)]
 
 #[cfg(test)]
+mod brz;
+#[cfg(test)]
 mod builds;
 #[cfg(test)]
 mod cases;
@@ -17,3 +19,5 @@ mod queries;
 mod real_files;
 #[cfg(test)]
 mod reports;
+#[cfg(test)]
+mod tested;

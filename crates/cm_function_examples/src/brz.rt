@@ -1,16 +1,18 @@
-//! Functions by BRZ: builds with the keys in memory, dumps, and reports of refused builds.
-ghost use Rattle.std.specs.Prelude.{◌≡◌, ◌<◌, ◌≤◌, length};
+//! Functions by BRZ: builds through a spill in memory, dumps, and reports of refused builds.
+ghost use Rattle.std.specs.Prelude.{◌≡◌, ◌<◌, ◌≤◌, [], length};
+ghost use Rattle.cm_spill.specs.declared.runs.TheConstants.{MAX_BYTES, MIN_BYTES};
 
 use crate::dumps::{changed, fault_of, is_saved_again};
 use crate::equal::{expect_bytes, expect_equal, expect_equal_at, expect_true};
 use crate::listed::Listed;
-use cm_brz::{Brz, BrzFault, brz_held, write_overfull};
+use cm_brz::build::brz;
+use cm_brz::{BrzFault, MAX_WIDTH, MIN_BYTES, MIN_WIDTH, write_overfull};
 use cm_dump::{Func, LoadFault, save};
 use cm_graph::Steps;
 use cm_lookup2::words;
-use cm_outer::MemSink;
+use cm_outer::{MemSink, MemSpill, Spill};
 use cm_scheme::answer;
-use std::alloc::Global;
+use std::alloc::{AllocError, Global};
 use std::marker::Brand;
 use std::sync::ledger::{Blank, Ledger};
 use std::test::Fail;
@@ -42,31 +44,87 @@ const CHANGES: [(usize, usize, u8, LoadFault); 14] = [
     (32, 15, 2, LoadFault::BadField { at: 12 }),
 ];
 
+// What a command line takes as the average size of a bucket is what a build by BRZ takes.
+const _: () = prove!(cm_numbers::MIN_WIDTH == MIN_WIDTH as u32);
+
+const _: () = prove!(cm_numbers::MAX_WIDTH == MAX_WIDTH as u32);
+
 const EQUAL: &[u8] =
     b"core brz split 0 bucket 0 seed 0 edges 2\nedge 1 1 4 7\nedge 2 1 4 7\nequal 1 2\n";
 
-/// Builds with the ratio 1.23, the seed 0 alone and steps that nobody reads.
-fn build_by<L: Ledger>(alloc: Global, keys: &[&[u8]], b: u8, blank: Blank) -> Result<Brz, BrzFault>
+/// The seeds of every build here.
+const SEEDS: [u32; 8] = [0, 1, 2, 3, 4, 5, 6, 7];
+
+/// How many bytes the spill has room for.
+const ROOM: usize = 4_194_304;
+
+/// The records of the empty key and `a`: bucket, line, the key's length, and the key.
+const RECORDS_TWO: [u8; 21] = [
+    0, 0, 0, 0, 1, 0, 0, 0, 0, 0, 0, 0, 0, 0, 2, 0, 0, 0, 1, 0, b'a',
+];
+
+/// What a build makes, with the spill that it used.
+type Made = (Result<cm_brz::Brz, BrzFault>, MemSpill);
+
+/// Builds with the ratio 1.23, and with steps that nobody reads.
+fn build_by<L: Ledger>(
+    alloc: Global,
+    keys: &[&[u8]],
+    b: u8,
+    buffer: u32,
+    spill: MemSpill,
+    blank: Blank,
+) -> Made
     requires name { blank.name ≡ L.name }
     requires parts { blank.parts ≡ L.parts }
     requires some { 0 < blank.parts }
     requires width { (64 ≤ b) × (b ≤ 175) }
+    requires buffer { (MIN_BYTES ≤ buffer) × (buffer ≤ MAX_BYTES) }
+    requires empty { spill.appended.bytes ≡ [] }
 {
     let mut steps = Steps::<L>::new(blank);
     let mut pass = Listed::new(keys, None, 0);
-    brz_held(alloc, &mut pass, 1_230_000, b, &[0], &mut steps)
+    brz(
+        alloc, &mut pass, 1_230_000, b, &SEEDS, buffer, spill, &mut steps,
+    )
 }
 
-fn built(alloc: Global, keys: &[&[u8]], b: u8) -> Result<Brz, BrzFault>
+fn built(alloc: Global, keys: &[&[u8]], b: u8, buffer: u32) -> Result<Made, AllocError>
     requires width { (64 ≤ b) × (b ≤ 175) }
+    requires buffer { (MIN_BYTES ≤ buffer) × (buffer ≤ MAX_BYTES) }
 {
-    build_by::<Brand>(alloc, keys, b, Blank::new(1))
+    let spill = MemSpill::new(alloc, ROOM, Vec::new(alloc), Vec::new(alloc))?;
+    Ok(build_by::<Brand>(alloc, keys, b, buffer, spill, Blank::new(1)))
+}
+
+/// The dump of the function of keys, and how many bytes are in the spill.
+fn dumped(
+    alloc: Global,
+    keys: &[&[u8]],
+    buffer: u32,
+) -> Result<Option<(Vec<u8>, usize)>, AllocError>
+    requires buffer { (MIN_BYTES ≤ buffer) × (buffer ≤ MAX_BYTES) }
+{
+    let (made, mut spill) = built(alloc, keys, 64, buffer)?;
+    let Ok(function) = made else {
+        return Ok(None);
+    };
+    let mut out = MemSink::new(alloc, 128, Vec::new(alloc))?;
+    if save(&Func::Brz(function), &mut out).is_err() {
+        return Ok(None);
+    }
+    let mut bytes = vec![in alloc; 0; ROOM]?;
+    let Ok(spilled) = spill.read_at(0, &mut bytes) else {
+        return Ok(None);
+    };
+    Ok(Some((out.bytes().to_vec(alloc)?, spilled)))
 }
 
 #[test]
 fn a_bucket_of_two(rt: HostRuntime) -> Result<(), Fail> {
     let alloc = rt.alloc();
-    let Ok(function) = built(alloc, &[b"", b"a"], 128) else {
+    let (made, mut spill) = built(alloc, &[b"", b"a"], 128, MIN_BYTES)?;
+    let Ok(function) = made else {
         panic!(rt; "refused");
     };
     expect_equal(
@@ -85,6 +143,26 @@ fn a_bucket_of_two(rt: HostRuntime) -> Result<(), Fail> {
     let mut out = MemSink::new(alloc, 32, Vec::new(alloc))?;
     expect_true(&rt, save(&Func::Brz(function), &mut out).is_ok());
     expect_bytes(&rt, out.bytes(), &BRZ_TWO);
+    let mut records = [0; 32];
+    let Ok(n) = spill.read_at(0, &mut records) else {
+        panic!(rt; "a failed read");
+    };
+    expect_bytes(&rt, &records[..n], &RECORDS_TWO);
+    Ok(())
+}
+
+/// 66 keys of some 40,000 bytes, in two buckets: the smallest buffer has room for one of them, and that of a MiB for 26.
+#[test]
+fn any_buffer(rt: HostRuntime) -> Result<(), Fail> {
+    let alloc = rt.alloc();
+    let text = vec![in alloc; b'x'; 40_000]?;
+    let mut keys: Vec<&[u8]> = Vec::new(alloc);
+    for i in 0..66 {
+        keys.push(&text[i..])?;
+    }
+    let small = dumped(alloc, &keys, MIN_BYTES)?;
+    expect_true(&rt, small.is_some());
+    expect_equal(&rt, &dumped(alloc, &keys, 1_048_576)?, &small);
     Ok(())
 }
 
@@ -107,7 +185,8 @@ fn dumps_of_brz(rt: HostRuntime) -> Result<(), Fail> {
 #[test]
 fn equal_keys_in_a_bucket(rt: HostRuntime) -> Result<(), Fail> {
     let alloc = rt.alloc();
-    match built(alloc, &[b"", b""], 128) {
+    let (made, _) = built(alloc, &[b"", b""], 128, MIN_BYTES)?;
+    match made {
         Err(BrzFault::Cored(certificate)) => {
             let mut out = MemSink::new(alloc, 256, Vec::new(alloc))?;
             expect_true(&rt, certificate.write(&mut out).is_ok());
@@ -122,7 +201,8 @@ fn equal_keys_in_a_bucket(rt: HostRuntime) -> Result<(), Fail> {
 fn too_many_keys_in_a_bucket(rt: HostRuntime) -> Result<(), Fail> {
     let alloc = rt.alloc();
     let keys: [&[u8]; 256] = [b""; 256];
-    match built(alloc, &keys, 175) {
+    let (made, _) = built(alloc, &keys, 175, MIN_BYTES)?;
+    match made {
         Err(
             BrzFault::Overfull {
                 seed,
@@ -166,9 +246,7 @@ fn too_many_keys_in_a_bucket(rt: HostRuntime) -> Result<(), Fail> {
 
 #[test]
 fn no_keys(rt: HostRuntime) -> Result<(), Fail> {
-    expect_true(
-        &rt,
-        matches!(built(rt.alloc(), &[], 128), Err(BrzFault::NoKeys)),
-    );
+    let (made, _) = built(rt.alloc(), &[], 128, MIN_BYTES)?;
+    expect_true(&rt, matches!(made, Err(BrzFault::NoKeys)));
     Ok(())
 }

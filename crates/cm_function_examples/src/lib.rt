@@ -20,6 +20,10 @@ mod equal;
 #[cfg(test)]
 mod gathering;
 #[cfg(test)]
+mod generated;
+#[cfg(test)]
 mod listed;
 #[cfg(test)]
 mod queries;
+#[cfg(test)]
+mod spills;

@@ -1,6 +1,7 @@
 -- From the parts of a query to what it promises.
 use Rattle.std.proofs.Common.{◌≡◌, ◌≢◌, ◌∙◌, ◌⊎◌, ◌↔◌, ℕ, ◌+◌, ◌-◌, ◌≤◌, List, [], ◌∷◌, ◌++◌, length, take, Option, None, Some, Result, Ok, Err, inl, inr, refl, ap, sym, subst, arith, append-nil, Bool}
 use Rattle.std.specs.Option.{option_map}
+use Rattle.std.proofs.Math.Seq.{take-nil}
 use Rattle.std.proofs.lemmas.List.{take_all}
 use Rattle.cm_dump.specs.Functions.{answer_by}
 use Rattle.cm_dump.specs.Reading.{Fails}
@@ -21,14 +22,15 @@ use Rattle.cm_query.specs.Texts.{notes_of, text_of}
 use Rattle.cm_query.specs.declared.fault.QueryFault.{QueryFault}
 use Rattle.cm_query.specs.declared.fault.QueryFault.TheVariants as query_fault
 use Rattle.cm_query.specs.declared.tally.Tally.{Tally}
-use Rattle.cm_tool.specs.Asked.{AskedAll, EndsKeys, EndsQuery, IsBadDump, RefusesDump, Spells, keys_at, keys_or_none, stop_from_load, stop_from_query}
+use Rattle.cm_tool.specs.Asked.{AskedAll, AskedPart, EndsKeys, EndsQuery, IsBadDump, RefusesDump, Spells, keys_at, keys_or_none, stop_from_load, stop_from_query}
 use Rattle.cm_tool.specs.Ends.{Says, query_message_of, query_status_of}
 use Rattle.cm_words.specs.declared.jobs.QueryJob.{QueryJob}
 use Rattle.cm_words.specs.declared.jobs.Job.TheVariants.{Query}
 use Rattle.cm_tool.specs.Messages.{bad_dump}
 use Rattle.cm_tool.specs.Outcome as outcomes
 use Rattle.cm_tool.specs.Outcome.{Outcome, dump_outcome, fault_message, job_outcome, keys_in, loaded_outcome, noted_status, query_over, refusal}
-use Rattle.cm_tool.specs.Run.{IsCutShort, IsQueryMessage, Reaches}
+use Rattle.cm_tool.specs.Run.{IsCutShort, IsQueryMessage, LacksFile, Reaches}
+use Rattle.cm_tool.proofs.Outcomes.{none_some}
 use Rattle.cm_tool.specs.declared.stop.QueryStop.{QueryStop}
 use Rattle.cm_tool.specs.declared.stop.QueryStop.TheVariants.{Memory, NoFunction, BadDump, Read, Write, TooLong, TooMany}
 
@@ -150,6 +152,26 @@ query_stopped job files old new err err_new before now notes Write left ends say
 query_stopped job files old new err err_new before now notes (TooLong line) left ends says a b d same = stopped_at_line job files old new err err_new before now notes ends.0 (key_fault.TooLong line) left ends.1 ends.2 says same
 query_stopped job files old new err err_new before now notes TooMany left ends says a b d same = stopped_at_line job files old new err err_new before now notes ends.0 key_fault.TooMany left ends.1 ends.2 says same
 
+-- a query of a keys file that isn't there
+unread : (job : QueryJob) (files : Files) (f : Func) (file : Option (List ℕ)) (old new : Option (List ℕ)) (notes : List ℕ) (given : ℕ) → Spells files job.function f → file_at files job.keys ≡ file → AskedPart (answer_by f) (keys_at files job) old new notes given 0
+    → job_outcome files (Ok (Query job)) ≡ None → new ≡ old
+unread job files f None old new notes given spells is asked none =
+    let here : keys_at files job ≡ [] = ap (keys_or_none job.first) is in
+    let part = subst (λ (keys : List (ℕ × List ℕ)). AskedPart (answer_by f) keys old new notes given 0) here asked in
+    part.out ∙ ap (λ (keys : List (ℕ × List ℕ)). then_bytes old (text_of 10 (answer_by f) keys ++ [])) (take-nil given) ∙ sym (then_nothing old)
+unread job files f (Some bytes) old new notes given spells is asked none = absurd (none_some (sym none ∙ asked_outcome job files f bytes _ _ spells is refl refl))
+
+-- a query that stopped over files by which there is no outcome
+pub lacking : (job : QueryJob) (files : Files) (known left : Option Files) (old new : Option (List ℕ)) (notes : List ℕ) (stop : QueryStop) → EndsQuery files job old new notes (Err stop) → left ≡ known → job_outcome files (Ok (Query job)) ≡ None
+    → LacksFile (query_status_of stop) known left old new
+lacking job files known left old new notes Memory ends same none = record { status_is = inr refl; files_are = same; out = ends.0 }
+lacking job files known left old new notes NoFunction ends same none = record { status_is = inl refl; files_are = same; out = ends.0 }
+lacking job files known left old new notes (BadDump fault) ends same none = absurd (none_some (sym none ∙ bad_outcome job files fault ends.0))
+lacking job files known left old new notes Read ends same none = record { status_is = inl refl; files_are = same; out = unread job files ends.0 _ old new notes ends.2.0 ends.1 refl ends.2.1 none }
+lacking job files known left old new notes Write ends same none = absurd (none_some (sym none ∙ asked_outcome job files ends.0 ends.2.0 _ _ ends.1 ends.2.3 refl refl))
+lacking job files known left old new notes (TooLong line) ends same none = absurd (none_some (sym none ∙ asked_outcome job files ends.0 ends.2.bytes _ _ ends.1 ends.2.there refl refl))
+lacking job files known left old new notes TooMany ends same none = absurd (none_some (sym none ∙ asked_outcome job files ends.0 ends.2.bytes _ _ ends.1 ends.2.there refl refl))
+
 -- the message of a query that stopped goes with its status
 pub query_message_is : (job : QueryJob) (stop : QueryStop) → IsQueryMessage job (query_status_of stop) (query_message_of job stop)
 query_message_is job Memory = record { done = λ e. absurd (omega arith); noted = λ e. absurd (omega arith); dump = λ e. absurd (omega arith); read = λ e. absurd (omega arith); write = λ e. absurd (omega arith); memory = λ e. refl; keys = λ e. absurd (omega arith) }
@@ -164,14 +186,14 @@ query_message_is job TooMany = record { done = λ e. absurd (omega arith); noted
 pub answered_is : (job : QueryJob) (status : ℕ) → status ≤ 1 → IsQueryMessage job status []
 answered_is job status small = record { done = λ e. refl; noted = λ e. refl; dump = λ e. absurd (omega (arith, small, e)); read = λ e. absurd (omega (arith, small, e)); write = λ e. absurd (omega (arith, small, e)); memory = λ e. absurd (omega (arith, small, e)); keys = λ e. absurd (omega (arith, small, e)) }
 
--- a query that a fault or want of memory cut short
+-- a query that a fault cut short, or for which memory ran out
 pub cut_short : (job : QueryJob) (files : Files) (old new err err_new : Option (List ℕ)) (before now : ℕ) (notes : List ℕ) (stop : QueryStop) → EndsQuery files job old new notes (Err stop) → Says (notes ++ query_message_of job stop) err err_new before now
     → (query_status_of stop ≡ 4) ⊎ (query_status_of stop ≡ 5) ⊎ (query_status_of stop ≡ 6) → IsCutShort files (query_status_of stop) old new err err_new before now job
-cut_short job files old new err err_new before now notes Memory ends says either = record { notes = notes; text = query_message_of job Memory; message = query_message_is job Memory; says = says; answered = inl ends }
-cut_short job files old new err err_new before now notes NoFunction ends says either = record { notes = notes; text = query_message_of job NoFunction; message = query_message_is job NoFunction; says = says; answered = inl ends }
+cut_short job files old new err err_new before now notes Memory ends says either = record { notes = notes; text = query_message_of job Memory; says = says; read = λ e. absurd (omega arith); write = λ e. absurd (omega arith); memory = λ e. (ends, refl) }
+cut_short job files old new err err_new before now notes NoFunction ends says either = record { notes = notes; text = query_message_of job NoFunction; says = says; read = λ e. inl (ends, refl); write = λ e. absurd (omega arith); memory = λ e. absurd (omega arith) }
 cut_short job files old new err err_new before now notes (BadDump fault) ends says either = absurd (omega (arith, either))
-cut_short job files old new err err_new before now notes Read ends says either = record { notes = notes; text = query_message_of job Read; message = query_message_is job Read; says = says; answered = inr (ends.0, ends.2.0, 0, ends.1, ends.2.1) }
-cut_short job files old new err err_new before now notes Write ends says either = record { notes = notes; text = query_message_of job Write; message = query_message_is job Write; says = says; answered = inr (ends.0, ends.2.1, ends.2.2, ends.1, ends.2.4) }
+cut_short job files old new err err_new before now notes Read ends says either = record { notes = notes; text = query_message_of job Read; says = says; read = λ e. inr (ends.0, ends.2.0, ends.1, ends.2.1, refl); write = λ e. absurd (omega arith); memory = λ e. absurd (omega arith) }
+cut_short job files old new err err_new before now notes Write ends says either = record { notes = notes; text = query_message_of job Write; says = says; read = λ e. absurd (omega arith); write = λ e. (ends.0, ends.2.1, ends.2.2, ends.1, ends.2.4, refl); memory = λ e. absurd (omega arith) }
 cut_short job files old new err err_new before now notes (TooLong line) ends says either = absurd (omega (arith, either))
 cut_short job files old new err err_new before now notes TooMany ends says either = absurd (omega (arith, either))
 

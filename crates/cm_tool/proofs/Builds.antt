@@ -1,29 +1,48 @@
 -- From a build over a pass to the function of a keys file, or to why it was refused.
-use Rattle.std.proofs.Common.{◌≡◌, ◌∙◌, ℕ, ◌≤◌, List, [], length, take, Option, Some, Err, inl, refl, ap, arith}
+use Rattle.std.proofs.Common.{◌≡◌, ◌∙◌, ◌⊎◌, ℕ, ◌<◌, ◌≤◌, List, [], length, Option, None, Some, Result, Ok, Err, inl, inr, refl, ap, sym, subst, arith, is_some, true}
+use Rattle.std.specs.Prelude.{slice_index}
 use Rattle.std.specs.Option.{ForSome}
-use Rattle.cm_algo.specs.Fails.{FailsBuild, HasForm, HasNumbers, ShowsCore}
+use Rattle.cm_algo.specs.Fails.{FailsBuild, HasForm, ShowsCore}
 use Rattle.cm_algo.specs.declared.fault.BuildFault.{BuildFault}
 use Rattle.cm_algo.specs.declared.fault.BuildFault.TheVariants as build_fault
-use Rattle.cm_bdz.specs.Functions.{Bdz, BdzPh}
-use Rattle.cm_bdz.specs.Numbering.{bdz_under, bdz_ph_under}
-use Rattle.cm_dump.specs.declared.writer.Func.{Func}
-use Rattle.cm_dump.specs.declared.writer.Func.TheVariants as func
-use Rattle.cm_outer.specs.Files.{Files, file_at}
-use Rattle.cm_outer.specs.Passes.{Told}
-use Rattle.cm_outer.specs.Writing.{then_bytes}
-use Rattle.cm_outer.specs.declared.key_pass.KeyFault.TheVariants as key_fault
-use Rattle.cm_spec.specs.Bdz.{bdz_rule, bdz_ph_rule}
-use Rattle.cm_spec.specs.Built.{cells_under, chm_under}
-use Rattle.cm_spec.specs.Chm.{Chm, chm_rule}
-use Rattle.cm_tool.specs.Jobs.{first_tried, func_by, rule_by, seeds_tried}
-use Rattle.cm_tool.specs.Leaves.{GotReport, HasChanged, IsBuiltFrom, IsFuncOf, IsRefused, Leaves, LeavesCores, Refuses, StopsFor, text_of}
-use Rattle.cm_tool.specs.Outcome as outcomes
-use Rattle.cm_tool.specs.Outcome.{keys_in, report_of}
-use Rattle.cm_tool.specs.declared.stop.Stop.{Stop}
-use Rattle.cm_tool.specs.declared.stop.Stop.TheVariants.{Memory, Read, Write, WriteOut, Cored, Changed, NoKeys, TooLong, TooMany}
 use Rattle.cm_algorithm.specs.declared.algorithm.Algorithm.{Algorithm}
 use Rattle.cm_algorithm.specs.declared.algorithm.Algorithm.TheVariants as algorithms
+use Rattle.cm_bdz.specs.Functions.{Bdz, BdzPh}
+use Rattle.cm_bdz.specs.Numbering.{bdz_under, bdz_ph_under}
+use Rattle.cm_brz.specs.BrzOf.{IsBrzOf}
+use Rattle.cm_brz.specs.Fails.{FailsBrz, HasBrzForm, IsCoredBucket, IsDamage, IsOverfull}
+use Rattle.cm_brz.specs.Found.{AllOverfull, brz_under, bucket_report, first_cored, overfull_report}
+use Rattle.cm_brz.specs.Reports.{overfull_text}
+use Rattle.cm_brz.specs.Split.{split_of}
+use Rattle.cm_brz.specs.declared.fault.BrzFault.{BrzFault}
+use Rattle.cm_brz.specs.declared.fault.BrzFault.TheVariants as brz_fault
+use Rattle.cm_buckets.specs.Functions.{Brz, IsBrz, bucket_count}
+use Rattle.cm_dump.specs.declared.writer.Func.{Func}
+use Rattle.cm_dump.specs.declared.writer.Func.TheVariants as func
+use Rattle.cm_outer.specs.Files.{Files, file_at, with_file}
+use Rattle.cm_outer.specs.Passes.{Told}
+use Rattle.cm_outer.specs.declared.key_pass.KeyFault.TheVariants as key_fault
+use Rattle.cm_peel.specs.CoreLaws.{rest_is_core}
+use Rattle.cm_spec.specs.Bdz.{bdz_rule, bdz_ph_rule}
+use Rattle.cm_spec.specs.Built.{IsFirst, cells_under, chm_under, first_seed}
+use Rattle.cm_spec.specs.Chm.{Chm, chm_rule}
+use Rattle.cm_spec.specs.Rule.{Rule}
+use Rattle.cm_tool.specs.Faults.{FailsFunc, HasNone, HasStopForm, IsReasonBy, fault_from_brz, fault_from_build, reason_of, shown_core, shown_overfull, stop_for}
+use Rattle.cm_tool.specs.Jobs.{seeds_tried}
+use Rattle.cm_tool.specs.Leaves.{GotReport, IsBuiltFrom, IsFuncOf, IsRefused, Leaves, Refuses, Saves, StopsFor}
+use Rattle.cm_tool.specs.Outcome.{keys_in}
+use Rattle.cm_tool.specs.Seeds.{IsCoredUnder, IsMadeBy, NoneWorks, TakesFirst}
+use Rattle.cm_tool.specs.Verdict as verdicts
+use Rattle.cm_tool.specs.Verdict.{Shown, filled, seeded, split_into, verdict_by}
+use Rattle.cm_tool.specs.declared.fault.FuncFault.{FuncFault}
+use Rattle.cm_tool.specs.declared.fault.FuncFault.TheVariants as func_fault
+use Rattle.cm_tool.specs.declared.stop.Reason.{Reason}
+use Rattle.cm_tool.specs.declared.stop.Reason.TheVariants.{NoSeed, NoSeedFor, NoSplit}
+use Rattle.cm_tool.specs.declared.stop.Stop.{Stop}
+use Rattle.cm_tool.specs.declared.stop.Stop.TheVariants.{Memory, Read, Write, WriteOut, Refused, Changed, Spill, SpillDamaged, NoKeys, TooLong, TooMany}
+use Rattle.cm_witness.specs.Reports.{report_text}
 use Rattle.cm_witness.specs.declared.certificate.Certificate.{Certificate}
+use Rattle.cm_witness.specs.declared.certificate.Pair.{Pair}
 use Rattle.cm_words.specs.declared.jobs.BuildJob.{BuildJob}
 
 -- a function is known by its parts
@@ -49,51 +68,150 @@ bdz_ph_by_parts f keys c seed m r s cells =
     ∙ ap (λ (k : ℕ). let g : BdzPh = record { keys = length keys; ratio = c; seed = k; cells = f.cells } in g) s
     ∙ ap (λ (xs : List ℕ). let g : BdzPh = record { keys = length keys; ratio = c; seed = seed; cells = xs } in g) cells
 
--- a build gives the function of the told keys
-func_from : (algorithm : Algorithm) (b : ℕ) (told : Told) (c : ℕ) (seeds : List ℕ) (f : Func) (m seed : ℕ) (cells : List ℕ) → 1 ≤ m → m ≤ 16777216 → IsBuiltFrom (rule_by algorithm) told c seeds m seed cells
-    → f ≡ func_by algorithm b told.keys c seed → IsFuncOf algorithm b told c seeds f
-func_from algorithm b told c seeds f m seed cells some few built is = record {
+-- the verdict on keys that have no function
+abbrev shown_is : Reason → List ℕ → Result Func Shown
+shown_is reason report = Err (record { reason = reason; report = report })
+
+-- a build under one seed gives the function of the keys
+func_from : (algorithm : Algorithm) (r : Rule) (b : ℕ) (told : Told) (c : ℕ) (seeds : List ℕ) (f : Func) (m seed : ℕ) (cells : List ℕ) → 1 ≤ m → m ≤ 16777216 → IsBuiltFrom r told c seeds m seed cells
+    → verdict_by algorithm b told.keys c seeds ≡ Ok f → IsMadeBy algorithm b told.keys c seeds f → IsFuncOf algorithm b told c seeds f
+func_from algorithm r b told c seeds f m seed cells some few built verdict made = record {
   no_fault = built.no_fault;
   many = (omega (arith, some, built.many), omega (arith, few, built.many));
-  place = built.place;
-  seed = seed;
-  chosen = built.chosen;
-  first = built.first;
-  is = is;
+  verdict = verdict;
+  made = made;
 }
+
+takes_first : (r : Rule) (told : Told) (c : ℕ) (seeds : List ℕ) (m seed other : ℕ) (cells : List ℕ) → other ≡ seed → IsBuiltFrom r told c seeds m seed cells → TakesFirst r told.keys c seeds other
+takes_first r told c seeds m seed other cells is built = (built.place, subst (λ (s : ℕ). IsFirst r told.keys c seeds built.place s) (sym is) built.first)
 
 pub chm_from : (told : Told) (c b : ℕ) (seeds : List ℕ) (f : Chm) (m seed : ℕ) (cells : List ℕ) → 1 ≤ m → m ≤ 16777216 → IsBuiltFrom chm_rule told c seeds m seed cells
     → f.keys ≡ m → f.ratio ≡ c → f.seed ≡ seed → f.cells ≡ cells → IsFuncOf algorithms.Chm b told c seeds (func.Chm f)
 chm_from told c b seeds f m seed cells some few built keys_are ratio_is seed_is cells_are =
-    func_from algorithms.Chm b told c seeds (func.Chm f) m seed cells some few built (ap func.Chm (chm_by_parts f told.keys c seed (keys_are ∙ built.many) ratio_is seed_is (cells_are ∙ built.cells_are)))
+    let is : f ≡ chm_under told.keys c seed = chm_by_parts f told.keys c seed (keys_are ∙ built.many) ratio_is seed_is (cells_are ∙ built.cells_are) in
+    func_from algorithms.Chm chm_rule b told c seeds (func.Chm f) m seed cells some few built
+    (ap (seeded (λ (s : ℕ). func.Chm (chm_under told.keys c s)) (verdicts.report_by algorithms.Chm chm_rule told.keys c seeds)) built.chosen ∙ ap (λ (g : Chm). let v : Result Func Shown = Ok (func.Chm g) in v) (sym is))
+    (is ∙ ap (chm_under told.keys c) (sym seed_is), takes_first chm_rule told c seeds m seed f.seed cells seed_is built)
 
 pub bdz_from : (told : Told) (c b : ℕ) (seeds : List ℕ) (f : Bdz) (m seed : ℕ) (cells : List ℕ) → 1 ≤ m → m ≤ 16777216 → IsBuiltFrom bdz_rule told c seeds m seed cells
     → f.keys ≡ m → f.ratio ≡ c → f.seed ≡ seed → f.shift ≡ b → f.cells ≡ cells → IsFuncOf algorithms.Bdz b told c seeds (func.Bdz f)
 bdz_from told c b seeds f m seed cells some few built keys_are ratio_is seed_is shift_is cells_are =
-    func_from algorithms.Bdz b told c seeds (func.Bdz f) m seed cells some few built (ap func.Bdz (bdz_by_parts f told.keys c seed b (keys_are ∙ built.many) ratio_is seed_is shift_is (cells_are ∙ built.cells_are)))
+    let is : f ≡ bdz_under told.keys c seed b = bdz_by_parts f told.keys c seed b (keys_are ∙ built.many) ratio_is seed_is shift_is (cells_are ∙ built.cells_are) in
+    func_from algorithms.Bdz bdz_rule b told c seeds (func.Bdz f) m seed cells some few built
+    (ap (seeded (λ (s : ℕ). func.Bdz (bdz_under told.keys c s b)) (verdicts.report_by algorithms.Bdz bdz_rule told.keys c seeds)) built.chosen ∙ ap (λ (g : Bdz). let v : Result Func Shown = Ok (func.Bdz g) in v) (sym is))
+    (is ∙ ap (λ (s : ℕ). bdz_under told.keys c s b) (sym seed_is), takes_first bdz_rule told c seeds m seed f.seed cells seed_is built)
 
 pub bdz_ph_from : (told : Told) (c b : ℕ) (seeds : List ℕ) (f : BdzPh) (m seed : ℕ) (cells : List ℕ) → 1 ≤ m → m ≤ 16777216 → IsBuiltFrom bdz_ph_rule told c seeds m seed cells
     → f.keys ≡ m → f.ratio ≡ c → f.seed ≡ seed → f.cells ≡ cells → IsFuncOf algorithms.BdzPh b told c seeds (func.BdzPh f)
 bdz_ph_from told c b seeds f m seed cells some few built keys_are ratio_is seed_is cells_are =
-    func_from algorithms.BdzPh b told c seeds (func.BdzPh f) m seed cells some few built (ap func.BdzPh (bdz_ph_by_parts f told.keys c seed (keys_are ∙ built.many) ratio_is seed_is (cells_are ∙ built.cells_are)))
+    let is : f ≡ bdz_ph_under told.keys c seed = bdz_ph_by_parts f told.keys c seed (keys_are ∙ built.many) ratio_is seed_is (cells_are ∙ built.cells_are) in
+    func_from algorithms.BdzPh bdz_ph_rule b told c seeds (func.BdzPh f) m seed cells some few built
+    (ap (seeded (λ (s : ℕ). func.BdzPh (bdz_ph_under told.keys c s)) (verdicts.report_by algorithms.BdzPh bdz_ph_rule told.keys c seeds)) built.chosen ∙ ap (λ (g : BdzPh). let v : Result Func Shown = Ok (func.BdzPh g) in v) (sym is))
+    (is ∙ ap (bdz_ph_under told.keys c) (sym seed_is), takes_first bdz_ph_rule told c seeds m seed f.seed cells seed_is built)
 
--- the text of the certificate of a build is the report of its keys
-text_is : (job : BuildJob) (keys : List (ℕ × List ℕ)) (made : Certificate) → HasForm job.algorithm (first_tried job) (build_fault.Cored made) → ShowsCore (rule_by job.algorithm) keys job.c (first_tried job) made
-    → text_of made ≡ report_of job keys
-unfolding outcomes.report_of
-text_is job keys made form shows = rw (form.0, form.1, form.2, shows.edges, shows.equal) refl
+-- the certificate of a build under one seed shows what the keys have
+core_shown : (algorithm : Algorithm) (r : Rule) (keys : List (ℕ × List ℕ)) (c : ℕ) (seeds : List ℕ) (made : Certificate) → HasForm algorithm (slice_index seeds 0) (build_fault.Cored made) → ShowsCore r keys c (slice_index seeds 0) made
+    → shown_core made ≡ record { reason = NoSeed; report = verdicts.report_by algorithm r keys c seeds }
+unfolding verdicts.report_by
+core_shown algorithm r keys c seeds made form shows = rw (form.0, form.1, form.2, shows.edges, shows.equal) refl
 
--- out got the report of keys of which no seed gives a function
-reported : (job : BuildJob) (told : Told) (text : List ℕ) (old new : Option (List ℕ)) (stop : Stop) → LeavesCores job told → text ≡ report_of job told.keys → GotReport text old new stop → Refuses job told old new stop
-reported job told text old new Memory cores is got = absurd got
-reported job told text old new Read cores is got = absurd got
-reported job told text old new Write cores is got = absurd got
-reported job told text old new WriteOut cores is got = (cores, (got.0, got.1 ∙ ap (λ (t : List ℕ). then_bytes old (take got.0 t)) is))
-reported job told text old new Cored cores is got = (cores, got ∙ ap (then_bytes old) is)
-reported job told text old new (Changed first again) cores is got = absurd got
-reported job told text old new NoKeys cores is got = absurd got
-reported job told text old new (TooLong line) cores is got = absurd got
-reported job told text old new TooMany cores is got = absurd got
+-- why there is no function under one seed
+fails_by : (algorithm : Algorithm) (r : Rule) (function : ℕ → Func) (b : ℕ) (told : Told) (c : ℕ) (seeds : List ℕ) (fault : BuildFault)
+    → verdict_by algorithm b told.keys c seeds ≡ seeded function (verdicts.report_by algorithm r told.keys c seeds) (first_seed r told.keys c seeds) → (IsCoredUnder r told.keys c seeds → NoneWorks algorithm b told.keys c seeds)
+    → FailsBuild r told c seeds fault → HasForm algorithm (slice_index seeds 0) fault → FailsFunc algorithm b told c seeds (fault_from_build fault)
+fails_by algorithm r function b told c seeds build_fault.Memory verdict none fails form = tt
+fails_by algorithm r function b told c seeds build_fault.NoKeys verdict none fails form = (fails.1, fails.0)
+fails_by algorithm r function b told c seeds (build_fault.Cored made) verdict none fails form = record {
+  no_fault = fails.1;
+  some = fails.0;
+  verdict = verdict ∙ (ap (seeded function (verdicts.report_by algorithm r told.keys c seeds)) fails.2 ∙ ap (λ (s : Shown). let v : Result Func Shown = Err s in v) (sym (core_shown algorithm r told.keys c seeds made form fails.4)));
+  none = none (record { cored = fails.3; core = rest_is_core _ });
+}
+fails_by algorithm r function b told c seeds (build_fault.Key fault) verdict none fails form = fails
+fails_by algorithm r function b told c seeds (build_fault.Changed first again) verdict none fails form = absurd fails
+
+pub chm_fails : (b : ℕ) (told : Told) (c : ℕ) (seeds : List ℕ) (fault : BuildFault) → FailsBuild chm_rule told c seeds fault → HasForm algorithms.Chm (slice_index seeds 0) fault → FailsFunc algorithms.Chm b told c seeds (fault_from_build fault)
+chm_fails b told c seeds fault fails form = fails_by algorithms.Chm chm_rule (λ (s : ℕ). func.Chm (chm_under told.keys c s)) b told c seeds fault refl (λ under. under) fails form
+
+pub bdz_fails : (b : ℕ) (told : Told) (c : ℕ) (seeds : List ℕ) (fault : BuildFault) → FailsBuild bdz_rule told c seeds fault → HasForm algorithms.Bdz (slice_index seeds 0) fault → FailsFunc algorithms.Bdz b told c seeds (fault_from_build fault)
+bdz_fails b told c seeds fault fails form = fails_by algorithms.Bdz bdz_rule (λ (s : ℕ). func.Bdz (bdz_under told.keys c s b)) b told c seeds fault refl (λ under. under) fails form
+
+pub bdz_ph_fails : (b : ℕ) (told : Told) (c : ℕ) (seeds : List ℕ) (fault : BuildFault) → FailsBuild bdz_ph_rule told c seeds fault → HasForm algorithms.BdzPh (slice_index seeds 0) fault → FailsFunc algorithms.BdzPh b told c seeds (fault_from_build fault)
+bdz_ph_fails b told c seeds fault fails form = fails_by algorithms.BdzPh bdz_ph_rule (λ (s : ℕ). func.BdzPh (bdz_ph_under told.keys c s)) b told c seeds fault refl (λ under. under) fails form
+
+-- what the laws of BRZ say of keys
+pub record BrzLaws (keys : List (ℕ × List ℕ)) (k c : ℕ) (seeds : List ℕ) : Type 0 where
+  pub some : (j : ℕ) → j < k → 1 ≤ length keys
+  pub cored : (made : Certificate) → (cored : IsCoredBucket keys k c seeds made) → first_cored keys k c cored.place.split seeds ≡ Some cored.place.bucket
+  pub cored_shown : (made : Certificate) → made.algorithm ≡ algorithms.Brz → made.seed ≡ slice_index seeds 0 → (cored : IsCoredBucket keys k c seeds made)
+      → report_text made.algorithm made.place made.seed made.edges.items made.equal.items ≡ bucket_report keys k c cored.place.split cored.place.bucket seeds
+  pub overfull_shown : (seed bucket count : ℕ) (equal : List Pair) → IsOverfull keys k seeds seed bucket count equal → overfull_text seed bucket count equal ≡ overfull_report keys k seeds
+  pub all : split_of keys k seeds ≡ None → AllOverfull keys k seeds
+
+-- a build by BRZ gives the function of the keys
+pub brz_from : (told : Told) (c b : ℕ) (seeds : List ℕ) (f : Brz) → told.fault ≡ None → IsBrz f → IsBrzOf told.keys c b seeds f → f ≡ brz_under told.keys c b f.split seeds → first_cored told.keys (bucket_count (length told.keys) b) c f.split seeds ≡ None
+    → IsFuncOf algorithms.Brz b told c seeds (func.Brz f)
+brz_from told c b seeds f fine valid of is none = record {
+  no_fault = fine;
+  many = (omega (arith, valid.keys.0, of.many), omega (arith, valid.keys.1, of.many));
+  verdict = ap (split_into told.keys c b seeds) of.split ∙ (ap (filled told.keys c b seeds f.split) none ∙ ap (λ (g : Brz). let v : Result Func Shown = Ok (func.Brz g) in v) (sym is));
+  made = of;
+}
+
+-- the certificate of a bucket shows what the keys have
+core_of_bucket : (told : Told) (c b : ℕ) (seeds : List ℕ) (made : Certificate) → BrzLaws told.keys (bucket_count (length told.keys) b) c seeds → made.algorithm ≡ algorithms.Brz → made.seed ≡ slice_index seeds 0
+    → IsCoredBucket told.keys (bucket_count (length told.keys) b) c seeds made → verdict_by algorithms.Brz b told.keys c seeds ≡ Err (shown_core made)
+core_of_bucket told c b seeds made laws by seed cored =
+    let split : ℕ = cored.place.split in
+    let bucket : ℕ = cored.place.bucket in
+    let text : List ℕ = report_text made.algorithm made.place made.seed made.edges.items made.equal.items in
+    let shown : text ≡ bucket_report told.keys (bucket_count (length told.keys) b) c split bucket seeds = laws.cored_shown made by seed cored in
+    let reason : reason_of made.place ≡ NoSeedFor bucket = ap reason_of cored.cored.shown in
+    ap (split_into told.keys c b seeds) cored.chosen
+    ∙ (ap (filled told.keys c b seeds split) (laws.cored made cored)
+    ∙ (ap (shown_is (NoSeedFor bucket)) (sym shown) ∙ ap (λ (q : Reason). shown_is q text) (sym reason)))
+
+-- why there is no function by BRZ
+pub brz_fails : (told : Told) (c b : ℕ) (seeds : List ℕ) (fault : BrzFault) → BrzLaws told.keys (bucket_count (length told.keys) b) c seeds → FailsBrz told c b seeds fault → HasBrzForm seeds fault → (IsDamage fault → ⊥)
+    → FailsFunc algorithms.Brz b told c seeds (fault_from_brz fault)
+brz_fails told c b seeds brz_fault.Memory laws fails form undamaged = tt
+brz_fails told c b seeds brz_fault.NoKeys laws fails form undamaged = (fails.1, fails.0)
+brz_fails told c b seeds (brz_fault.Overfull seed bucket count equal) laws fails form undamaged = record {
+  no_fault = fails.0;
+  some = laws.some bucket fails.1.lowest.within;
+  verdict = ap (split_into told.keys c b seeds) fails.1.none ∙ ap (shown_is NoSplit) (sym (laws.overfull_shown seed bucket count equal.items fails.1));
+  none = inl (laws.all fails.1.none);
+}
+brz_fails told c b seeds (brz_fault.Cored made) laws fails form undamaged = record {
+  no_fault = fails.0;
+  some = laws.some fails.1.place.bucket fails.1.within;
+  verdict = core_of_bucket told c b seeds made laws form.0 form.1 fails.1;
+  none = inr (record {
+    split = fails.1.place.split;
+    bucket = fails.1.place.bucket;
+    chosen = fails.1.chosen;
+    lowest = laws.cored made fails.1;
+    under = record { cored = fails.1.cored.cored; core = rest_is_core _ };
+  });
+}
+brz_fails told c b seeds (brz_fault.Key fault) laws fails form undamaged = fails
+brz_fails told c b seeds (brz_fault.Changed first again) laws fails form undamaged = absurd fails
+brz_fails told c b seeds brz_fault.SpillFailed laws fails form undamaged = tt
+brz_fails told c b seeds (brz_fault.SpillDamaged offset expected found) laws fails form undamaged = absurd (undamaged tt)
+
+-- out got the report on keys that have no function
+reported : (job : BuildJob) (told : Told) (shown : Shown) (old new : Option (List ℕ)) (stop : Stop) → HasNone job.algorithm job.b told job.c (seeds_tried job) shown → GotReport shown old new stop → Refuses job told old new stop
+reported job told shown old new Memory none got = absurd got
+reported job told shown old new Read none got = absurd got
+reported job told shown old new Write none got = absurd got
+reported job told shown old new WriteOut none got = (shown, none, got)
+reported job told shown old new (Refused reason) none got = (shown, none, got)
+reported job told shown old new (Changed first again) none got = absurd got
+reported job told shown old new Spill none got = absurd got
+reported job told shown old new (SpillDamaged offset expected found) none got = absurd got
+reported job told shown old new NoKeys none got = absurd got
+reported job told shown old new (TooLong line) none got = absurd got
+reported job told shown old new TooMany none got = absurd got
 
 -- a refusal by the keys of a file that is there
 refused_by : (job : BuildJob) (files : Files) (bytes : List ℕ) (old new : Option (List ℕ)) (stop : Stop) → file_at files job.keys ≡ Some bytes → Refuses job (keys_in job.first bytes) old new stop → IsRefused job files old new stop
@@ -101,45 +219,52 @@ refused_by job files bytes old new Memory there refuses = tt
 refused_by job files bytes old new Read there refuses = tt
 refused_by job files bytes old new Write there refuses = (bytes, there, refuses)
 refused_by job files bytes old new WriteOut there refuses = (bytes, there, refuses)
-refused_by job files bytes old new Cored there refuses = (bytes, there, refuses)
+refused_by job files bytes old new (Refused reason) there refuses = (bytes, there, refuses)
 refused_by job files bytes old new (Changed first again) there refuses = (bytes, there, refuses)
+refused_by job files bytes old new Spill there refuses = (bytes, there, refuses)
+refused_by job files bytes old new (SpillDamaged offset expected found) there refuses = (bytes, there, refuses)
 refused_by job files bytes old new NoKeys there refuses = (bytes, there, refuses)
 refused_by job files bytes old new (TooLong line) there refuses = (bytes, there, refuses)
 refused_by job files bytes old new TooMany there refuses = (bytes, there, refuses)
 
-pub refused_from : (job : BuildJob) (files : Files) (bytes : List ℕ) (fault : BuildFault) (old new : Option (List ℕ)) (stop : Stop) → file_at files job.keys ≡ Some bytes
-    → FailsBuild (rule_by job.algorithm) (keys_in job.first bytes) job.c (seeds_tried job) fault → HasForm job.algorithm (first_tried job) fault → StopsFor fault old new stop → IsRefused job files old new stop
-refused_from job files bytes build_fault.Memory old new stop there fails form stops = rw stops.0 tt
-refused_from job files bytes build_fault.NoKeys old new stop there fails form stops = rw stops.0 (bytes, there, (fails.1, fails.0))
-refused_from job files bytes (build_fault.Cored made) old new stop there fails form stops =
-    let told = keys_in job.first bytes in
-    let cores : LeavesCores job told = record { no_fault = fails.1; some = fails.0; none = fails.2; cored = fails.3 } in
-    refused_by job files bytes old new stop there (reported job told _ old new stop cores (text_is job told.keys made form fails.4) stops)
-refused_from job files bytes (build_fault.Key key_fault.Read) old new stop there fails form stops = rw stops.0 tt
-refused_from job files bytes (build_fault.Key (key_fault.TooLong line)) old new stop there fails form stops = rw stops.0 (bytes, there, fails)
-refused_from job files bytes (build_fault.Key key_fault.TooMany) old new stop there fails form stops = rw stops.0 (bytes, there, fails)
-refused_from job files bytes (build_fault.Changed first again) old new stop there fails form stops = absurd fails
+pub refused_from : (job : BuildJob) (files : Files) (bytes : List ℕ) (fault : FuncFault) (old new : Option (List ℕ)) (stop : Stop) → file_at files job.keys ≡ Some bytes
+    → FailsFunc job.algorithm job.b (keys_in job.first bytes) job.c (seeds_tried job) fault → StopsFor fault old new stop → IsRefused job files old new stop
+refused_from job files bytes func_fault.Memory old new stop there fails stops = rw stops.0 tt
+refused_from job files bytes func_fault.NoKeys old new stop there fails stops = rw stops.0 (bytes, there, fails)
+refused_from job files bytes (func_fault.Cored made) old new stop there fails stops = refused_by job files bytes old new stop there (reported job (keys_in job.first bytes) (shown_core made) old new stop fails stops)
+refused_from job files bytes (func_fault.Overfull seed bucket count equal) old new stop there fails stops =
+    refused_by job files bytes old new stop there (reported job (keys_in job.first bytes) (shown_overfull seed bucket count equal.items) old new stop fails stops)
+refused_from job files bytes (func_fault.Key key_fault.Read) old new stop there fails stops = rw stops.0 tt
+refused_from job files bytes (func_fault.Key (key_fault.TooLong line)) old new stop there fails stops = rw stops.0 (bytes, there, fails)
+refused_from job files bytes (func_fault.Key key_fault.TooMany) old new stop there fails stops = rw stops.0 (bytes, there, fails)
+refused_from job files bytes (func_fault.Changed first again) old new stop there fails stops = absurd fails
+refused_from job files bytes func_fault.Spill old new stop there fails stops = rw stops.0 (bytes, there, tt)
+refused_from job files bytes (func_fault.SpillDamaged offset expected found) old new stop there fails stops = absurd fails
 
-no_change : (old new : Option (List ℕ)) (text : List ℕ) (stop : Stop) → GotReport text old new stop → HasChanged stop
-no_change old new text Memory got = tt
-no_change old new text Read got = tt
-no_change old new text Write got = tt
-no_change old new text WriteOut got = tt
-no_change old new text Cored got = tt
-no_change old new text (Changed first again) got = absurd got
-no_change old new text NoKeys got = tt
-no_change old new text (TooLong line) got = tt
-no_change old new text TooMany got = tt
+-- what a stop for a report has
+shown_form : (algorithm : Algorithm) (shown : Shown) (old new : Option (List ℕ)) (stop : Stop) → IsReasonBy algorithm shown.reason → GotReport shown old new stop → HasStopForm algorithm stop
+shown_form algorithm shown old new Memory reason got = tt
+shown_form algorithm shown old new Read reason got = tt
+shown_form algorithm shown old new Write reason got = tt
+shown_form algorithm shown old new WriteOut reason got = tt
+shown_form algorithm shown old new (Refused other) reason got = rw got.0 reason
+shown_form algorithm shown old new (Changed first again) reason got = absurd got
+shown_form algorithm shown old new Spill reason got = absurd got
+shown_form algorithm shown old new (SpillDamaged offset expected found) reason got = absurd got
+shown_form algorithm shown old new NoKeys reason got = tt
+shown_form algorithm shown old new (TooLong line) reason got = tt
+shown_form algorithm shown old new TooMany reason got = tt
 
--- what a build's refusal says of the keys that changed
-pub has_changed : (place : ℕ) (fault : BuildFault) (old new : Option (List ℕ)) (stop : Stop) → HasNumbers place fault → StopsFor fault old new stop → HasChanged stop
-has_changed place build_fault.Memory old new stop numbers stops = rw stops.0 tt
-has_changed place build_fault.NoKeys old new stop numbers stops = rw stops.0 tt
-has_changed place (build_fault.Cored made) old new stop numbers stops = no_change old new _ stop stops
-has_changed place (build_fault.Key key_fault.Read) old new stop numbers stops = rw stops.0 tt
-has_changed place (build_fault.Key (key_fault.TooLong line)) old new stop numbers stops = rw stops.0 tt
-has_changed place (build_fault.Key key_fault.TooMany) old new stop numbers stops = rw stops.0 tt
-has_changed place (build_fault.Changed first again) old new stop numbers stops = rw stops.0 (record { some = numbers.0; differs = numbers.1.differs; stops = numbers.1.stops })
+-- and what any stop has
+pub stop_form : (algorithm : Algorithm) (fault : FuncFault) (old new : Option (List ℕ)) (stop : Stop) → HasStopForm algorithm (stop_for fault) → StopsFor fault old new stop → HasStopForm algorithm stop
+stop_form algorithm func_fault.Memory old new stop form stops = rw stops.0 form
+stop_form algorithm func_fault.NoKeys old new stop form stops = rw stops.0 form
+stop_form algorithm (func_fault.Cored made) old new stop form stops = shown_form algorithm (shown_core made) old new stop form stops
+stop_form algorithm (func_fault.Overfull seed bucket count equal) old new stop form stops = shown_form algorithm (shown_overfull seed bucket count equal.items) old new stop form stops
+stop_form algorithm (func_fault.Key fault) old new stop form stops = rw stops.0 form
+stop_form algorithm (func_fault.Changed first again) old new stop form stops = rw stops.0 form
+stop_form algorithm func_fault.Spill old new stop form stops = rw stops.0 form
+stop_form algorithm (func_fault.SpillDamaged offset expected found) old new stop form stops = rw stops.0 form
 
 -- a build that was refused leaves the files as they were
 pub leaves_refused : (job : BuildJob) (old new : Option Files) (out_old out_new : Option (List ℕ)) (stop : Stop) → new ≡ old → ForSome old (λ files. IsRefused job files out_old out_new stop) → Leaves job old new out_old out_new (Err stop)
@@ -147,8 +272,15 @@ leaves_refused job old new out_old out_new Memory same refused = inl same
 leaves_refused job old new out_old out_new Read same refused = (same, refused)
 leaves_refused job old new out_old out_new Write same refused = ([], inl same, λ files is. absurd ((refused files is).2))
 leaves_refused job old new out_old out_new WriteOut same refused = (same, refused)
-leaves_refused job old new out_old out_new Cored same refused = (same, refused)
+leaves_refused job old new out_old out_new (Refused reason) same refused = (same, refused)
 leaves_refused job old new out_old out_new (Changed first again) same refused = (same, refused)
+leaves_refused job old new out_old out_new Spill same refused = (same, refused)
+leaves_refused job old new out_old out_new (SpillDamaged offset expected found) same refused = (same, refused)
 leaves_refused job old new out_old out_new NoKeys same refused = (same, refused)
 leaves_refused job old new out_old out_new (TooLong line) same refused = (same, refused)
 leaves_refused job old new out_old out_new TooMany same refused = (same, refused)
+
+-- and one with a function whose file can't be created for memory
+pub leaves_created : (job : BuildJob) (old new : Option Files) (out_old out_new : Option (List ℕ)) (dump : List ℕ) → (new ≡ old) ⊎ (new ≡ with_file job.function [] old) → ForSome old (λ files. Saves job files dump) → Leaves job old new out_old out_new (Err Memory)
+leaves_created job old new out_old out_new dump (inl same) saves = inl same
+leaves_created job old new out_old out_new dump (inr empty) saves = inr (dump, empty, saves)

@@ -2,3 +2,4 @@ mod Asks
 mod Builds
 mod Outcomes
 mod Words
+mod Tests

@@ -2,25 +2,26 @@
 use Rattle.std.proofs.Common.{◌≡◌, ◌≢◌, ◌∙◌, ◌⊎◌, ℕ, ◌<◌, List, [], ◌∷◌, length, Option, None, Some, Ok, Err, inl, inr, refl, ap, sym, subst, arith, Bool, cond}
 use Rattle.std.specs.Cmp.{eq_by_cmp_equiv}
 use Rattle.std.specs.Cmp.Lexicographic.{nat_list_cmp_total}
-use Rattle.std.specs.Option.{ForSome, option_map}
+use Rattle.std.specs.Option.{option_map}
 use Rattle.std.specs.FinMap as map
 use Rattle.cm_outer.specs.Files.{Files, file_at, with_file}
 use Rattle.cm_outer.specs.declared.key_pass.KeyFault.{KeyFault}
 use Rattle.cm_outer.specs.declared.key_pass.KeyFault.TheVariants as key_fault
 use Rattle.cm_outer.specs.WritingLaws.{then_nothing}
-use Rattle.cm_spec.specs.Built.{first_seed}
-use Rattle.cm_spec.specs.Core.{IsCore}
-use Rattle.cm_spec.specs.Rounds.{rest_of}
 use Rattle.cm_tool.specs.Ends.{Says, message_of, status_of}
-use Rattle.cm_tool.specs.Jobs.{first_graph, rule_by, seeds_tried}
-use Rattle.cm_tool.specs.Leaves.{HasChanged, IsOutCause, IsPart, KeepsOut, Leaves, LeavesCores, Saves}
-use Rattle.cm_tool.specs.Messages.{built_message, no_keys}
+use Rattle.cm_tool.specs.Faults.{HasNone, HasStopForm}
+use Rattle.cm_tool.specs.Jobs.{seeds_tried}
+use Rattle.cm_tool.specs.Leaves.{IsOutCause, IsPart, KeepsOut, Leaves, Saves}
+use Rattle.cm_tool.specs.Messages.{built_message, no_keys, reason_message}
 use Rattle.cm_tool.specs.Outcome as outcomes
-use Rattle.cm_tool.specs.Outcome.{Outcome, build_over, fault_message, job_outcome, keys_in, refusal, reporting, saving, with_seed}
-use Rattle.cm_tool.specs.Run.{IsBuildMessage, IsCored, Reaches, ReportedPart, SavedPart, TookFirst}
+use Rattle.cm_tool.specs.Outcome.{Outcome, build_over, built_or_refused, fault_message, job_outcome, keys_in, refusal, reporting, saving}
+use Rattle.cm_tool.specs.Run.{FailedSpill, IsBuildMessage, IsCored, IsEmptied, KeysSpilled, LacksFile, Reaches, ReportedPart, SavedPart, TookFirst}
 use Rattle.cm_tool.specs.declared.built.Summary.{Summary}
+use Rattle.cm_tool.specs.Spills.{HasSpilled}
+use Rattle.cm_tool.specs.Verdict.{Shown, verdict_of}
+use Rattle.cm_tool.specs.declared.stop.Reason.{Reason}
 use Rattle.cm_tool.specs.declared.stop.Stop.{Stop}
-use Rattle.cm_tool.specs.declared.stop.Stop.TheVariants.{Memory, Read, Write, WriteOut, Cored, Changed, NoKeys, TooLong, TooMany}
+use Rattle.cm_tool.specs.declared.stop.Stop.TheVariants.{Memory, Read, Write, WriteOut, Refused, Changed, Spill, SpillDamaged, NoKeys, TooLong, TooMany}
 use Rattle.cm_words.specs.declared.jobs.BuildJob.{BuildJob}
 use Rattle.cm_words.specs.declared.jobs.Job.TheVariants.{Build}
 
@@ -28,7 +29,7 @@ pub nothing_said : (known : Option (List ℕ)) (count : ℕ) → Says [] known k
 nothing_said known count = record { front = (0, then_nothing known); whole = λ _ _. then_nothing known }
 
 -- what keys that end with no fault, or with one, make of a build
-over_some : (job : BuildJob) (files : Files) (keys : List (ℕ × List ℕ)) (fault : Option KeyFault) → fault ≡ None → 0 < length keys → build_over job files keys fault ≡ with_seed job files keys (first_seed (rule_by job.algorithm) keys job.c (seeds_tried job))
+over_some : (job : BuildJob) (files : Files) (keys : List (ℕ × List ℕ)) (fault : Option KeyFault) → fault ≡ None → 0 < length keys → build_over job files keys fault ≡ built_or_refused job files (verdict_of job keys)
 over_some job files [] fault fine some = absurd (omega arith)
 over_some job files (key ∷ keys) fault fine some = rw fine refl
 
@@ -44,19 +45,19 @@ there : (job : BuildJob) (files : Files) (bytes : List ℕ) (o : Outcome) → fi
 unfolding outcomes.build_outcome
 there job files bytes o file is = ap (option_map (outcomes.build_outcome job files)) file ∙ ap Some is
 
-none_some : {o : Outcome} → None ≡ Some o → ⊥
+pub none_some : {o : Outcome} → None ≡ Some o → ⊥
 none_some e = absurd (cc)
 
 pub outcome_saving : (job : BuildJob) (files : Files) (dump : List ℕ) (saves : Saves job files dump) → job_outcome files (Ok (Build job)) ≡ Some (saving job files saves.f)
 outcome_saving job files dump saves =
     let keys = (keys_in job.first saves.bytes).keys in
-    there job files saves.bytes _ saves.there (over_some job files keys (keys_in job.first saves.bytes).fault saves.made.no_fault (omega (arith, saves.made.many.0)) ∙ ap (with_seed job files keys) saves.made.chosen ∙ ap (saving job files) (sym saves.made.is))
+    there job files saves.bytes _ saves.there (over_some job files keys (keys_in job.first saves.bytes).fault saves.made.no_fault (omega (arith, saves.made.many.0)) ∙ ap (built_or_refused job files) saves.made.verdict)
 
--- a report of the keys is the outcome
-pub outcome_reporting : (job : BuildJob) (files : Files) (bytes : List ℕ) → file_at files job.keys ≡ Some bytes → LeavesCores job (keys_in job.first bytes) → job_outcome files (Ok (Build job)) ≡ Some (reporting job files (keys_in job.first bytes).keys)
-outcome_reporting job files bytes file cores =
+-- a report on the keys is the outcome
+pub outcome_reporting : (job : BuildJob) (files : Files) (bytes : List ℕ) (shown : Shown) → file_at files job.keys ≡ Some bytes → HasNone job.algorithm job.b (keys_in job.first bytes) job.c (seeds_tried job) shown → job_outcome files (Ok (Build job)) ≡ Some (reporting files shown)
+outcome_reporting job files bytes shown file none =
     let keys = (keys_in job.first bytes).keys in
-    there job files bytes _ file (over_some job files keys (keys_in job.first bytes).fault cores.no_fault cores.some ∙ ap (with_seed job files keys) cores.none)
+    there job files bytes _ file (over_some job files keys (keys_in job.first bytes).fault none.no_fault none.some ∙ ap (built_or_refused job files) none.verdict)
 
 -- a build that stopped, with out as before
 quiet_end : (job : BuildJob) (files : Files) (new : Option Files) (status : ℕ) (text : List ℕ) (out out_new err err_new : Option (List ℕ)) (before now : ℕ) → job_outcome files (Ok (Build job)) ≡ Some (refusal status text files) → out_new ≡ out → Says text err err_new before now → new ≡ Some files
@@ -72,22 +73,26 @@ quiet_end job files new status text out out_new err err_new before now is same s
 
 -- a build that stopped
 pub stopped : (job : BuildJob) (old new : Option Files) (stop : Stop) (out out_new err err_new : Option (List ℕ)) (before now : ℕ) (files : Files) → Leaves job old new out out_new (Err stop) → KeepsOut out out_new stop
-    → Says (message_of job stop) err err_new before now → status_of stop ≢ 4 → status_of stop ≢ 5 → status_of stop ≢ 6 → old ≡ Some files → Reaches (job_outcome files (Ok (Build job))) (status_of stop) out out_new err err_new before now new
+    → Says (message_of job.keys job.function job.dir stop) err err_new before now → status_of stop ≢ 4 → status_of stop ≢ 5 → status_of stop ≢ 6 → old ≡ Some files → Reaches (job_outcome files (Ok (Build job))) (status_of stop) out out_new err err_new before now new
 stopped job old new Memory out out_new err err_new before now files leaves same says a b c is = absurd (c refl)
 stopped job old new Read out out_new err err_new before now files leaves same says a b c is = absurd (a refl)
 stopped job old new Write out out_new err err_new before now files leaves same says a b c is = absurd (b refl)
 stopped job old new WriteOut out out_new err err_new before now files leaves same says a b c is = absurd (b refl)
-stopped job old new Cored out out_new err err_new before now files leaves same says a b c is =
+stopped job old new (Refused reason) out out_new err err_new before now files leaves same says a b c is =
     let refused = leaves.1 files is in
+    let shown : Shown = refused.2.0 in
+    let got = refused.2.2 in
     record {
-      outcome = reporting job files (keys_in job.first refused.0).keys;
-      is = outcome_reporting job files refused.0 refused.1 refused.2.0;
+      outcome = reporting files shown;
+      is = outcome_reporting job files refused.0 shown refused.1 refused.2.1;
       status_is = refl;
-      out = refused.2.1;
-      err = says;
+      out = got.1;
+      err = subst (λ (r : Reason). Says (reason_message r) err err_new before now) got.0 says;
       files_are = leaves.0 ∙ is;
     }
 stopped job old new (Changed first again) out out_new err err_new before now files leaves same says a b c is = absurd ((leaves.1 files is).2)
+stopped job old new Spill out out_new err err_new before now files leaves same says a b c is = absurd (b refl)
+stopped job old new (SpillDamaged offset expected found) out out_new err err_new before now files leaves same says a b c is = absurd ((leaves.1 files is).2)
 stopped job old new NoKeys out out_new err err_new before now files leaves same says a b c is =
     let refused = leaves.1 files is in
     quiet_end job files new _ _ out out_new err err_new before now (there job files refused.0 _ refused.1 (over_none job files _ _ refused.2.0 refused.2.1)) same says (leaves.0 ∙ is)
@@ -102,17 +107,28 @@ stopped job old new TooMany out out_new err err_new before now files leaves same
 none_there : (job : BuildJob) (files : Files) (bytes : List ℕ) → file_at files job.keys ≡ Some bytes → job_outcome files (Ok (Build job)) ≡ None → ⊥
 none_there job files bytes file none = none_some (sym none ∙ there job files bytes _ file refl)
 
+-- what was saved is the outcome
+none_saved : (job : BuildJob) (files : Files) (dump : List ℕ) → Saves job files dump → job_outcome files (Ok (Build job)) ≡ None → ⊥
+none_saved job files dump saves none = none_some (sym none ∙ outcome_saving job files dump saves)
+
+-- a build for which memory ran out left no file empty, where there is no outcome
+kept : (job : BuildJob) (old new : Option Files) (out out_new : Option (List ℕ)) (files : Files) → Leaves job old new out out_new (Err Memory) → old ≡ Some files → job_outcome files (Ok (Build job)) ≡ None → new ≡ old
+kept job old new out out_new files (inl same) is none = same
+kept job old new out out_new files (inr left) is none = absurd (none_saved job files left.0 (left.2 files is) none)
+
 -- a build that stopped over files by which there is no outcome
-pub missing : (job : BuildJob) (old new : Option Files) (out out_new : Option (List ℕ)) (stop : Stop) (files : Files) → Leaves job old new out out_new (Err stop) → old ≡ Some files → job_outcome files (Ok (Build job)) ≡ None → (status_of stop ≡ 4) ⊎ (status_of stop ≡ 6)
-missing job old new out out_new Memory files leaves is none = inr refl
-missing job old new out out_new Read files leaves is none = inl refl
-missing job old new out out_new Write files leaves is none = let saves = leaves.2 files is in absurd (none_there job files saves.bytes saves.there none)
-missing job old new out out_new WriteOut files leaves is none = let refused = leaves.1 files is in absurd (none_there job files refused.0 refused.1 none)
-missing job old new out out_new Cored files leaves is none = let refused = leaves.1 files is in absurd (none_there job files refused.0 refused.1 none)
-missing job old new out out_new (Changed first again) files leaves is none = let refused = leaves.1 files is in absurd (none_there job files refused.0 refused.1 none)
-missing job old new out out_new NoKeys files leaves is none = let refused = leaves.1 files is in absurd (none_there job files refused.0 refused.1 none)
-missing job old new out out_new (TooLong line) files leaves is none = let refused = leaves.1 files is in absurd (none_there job files refused.0 refused.1 none)
-missing job old new out out_new TooMany files leaves is none = let refused = leaves.1 files is in absurd (none_there job files refused.0 refused.1 none)
+pub missing : (job : BuildJob) (old new : Option Files) (out out_new : Option (List ℕ)) (stop : Stop) (files : Files) → Leaves job old new out out_new (Err stop) → KeepsOut out out_new stop → old ≡ Some files → job_outcome files (Ok (Build job)) ≡ None → LacksFile (status_of stop) old new out out_new
+missing job old new out out_new Memory files leaves same is none = record { status_is = inr refl; files_are = kept job old new out out_new files leaves is none; out = same }
+missing job old new out out_new Read files leaves same is none = record { status_is = inl refl; files_are = leaves.0; out = same }
+missing job old new out out_new Write files leaves same is none = absurd (none_saved job files leaves.0 (leaves.2 files is) none)
+missing job old new out out_new WriteOut files leaves same is none = let refused = leaves.1 files is in absurd (none_there job files refused.0 refused.1 none)
+missing job old new out out_new (Refused reason) files leaves same is none = let refused = leaves.1 files is in absurd (none_there job files refused.0 refused.1 none)
+missing job old new out out_new (Changed first again) files leaves same is none = let refused = leaves.1 files is in absurd (none_there job files refused.0 refused.1 none)
+missing job old new out out_new Spill files leaves same is none = let refused = leaves.1 files is in absurd (none_there job files refused.0 refused.1 none)
+missing job old new out out_new (SpillDamaged offset expected found) files leaves same is none = let refused = leaves.1 files is in absurd (none_there job files refused.0 refused.1 none)
+missing job old new out out_new NoKeys files leaves same is none = let refused = leaves.1 files is in absurd (none_there job files refused.0 refused.1 none)
+missing job old new out out_new (TooLong line) files leaves same is none = let refused = leaves.1 files is in absurd (none_there job files refused.0 refused.1 none)
+missing job old new out out_new TooMany files leaves same is none = let refused = leaves.1 files is in absurd (none_there job files refused.0 refused.1 none)
 
 -- a build that came to its end
 pub finished : (job : BuildJob) (old new : Option Files) (s : Summary) (out out_new err err_new : Option (List ℕ)) (before now : ℕ) (files : Files) → Leaves job old new out out_new (Ok s) → out_new ≡ out → Says (built_message job s) err err_new before now → old ≡ Some files → Reaches (job_outcome files (Ok (Build job))) 0 out out_new err err_new before now new
@@ -127,43 +143,67 @@ finished job old new s out out_new err err_new before now files leaves same says
       files_are = leaves.1 ∙ ap (with_file job.function leaves.0) is ∙ ap (λ (dump : List ℕ). Some (map.insert files job.function dump)) saves.0.dump_is;
     }
 
+-- the spill of a build whose function was saved
+pub keys_spilled : (job : BuildJob) (files : Files) (bytes dump : List ℕ) (old new : Option (List ℕ)) (saves : Saves job files dump) → file_at files job.keys ≡ Some bytes → HasSpilled saves.f (keys_in job.first bytes).keys old new → KeysSpilled files old new job
+keys_spilled job files bytes dump old new saves there spilled = (bytes, saves.f, there, outcome_saving job files dump saves, spilled)
+
 pub took_first : (job : BuildJob) (old new : Option Files) (out out_new : Option (List ℕ)) (s : Summary) (files : Files) → Leaves job old new out out_new (Ok s) → old ≡ Some files → TookFirst files job
 took_first job old new out out_new s files leaves is =
     let saves = (leaves.2 files is).0 in
-    (saves.bytes, saves.made.place, saves.made.seed, saves.there, saves.made.first)
+    (saves.bytes, saves.f, saves.there, saves.made.made, outcome_saving job files leaves.0 saves)
 
-pub is_cored : (job : BuildJob) (old new : Option Files) (out out_new : Option (List ℕ)) (stop : Stop) (files : Files) → Leaves job old new out out_new (Err stop) → old ≡ Some files → status_of stop ≡ 1 → ((edges : List (List ℕ)) → IsCore edges (rest_of edges)) → IsCored files job
-is_cored job old new out out_new Memory files leaves is one law = absurd (omega arith)
-is_cored job old new out out_new Read files leaves is one law = absurd (omega arith)
-is_cored job old new out out_new Write files leaves is one law = absurd (omega arith)
-is_cored job old new out out_new WriteOut files leaves is one law = absurd (omega arith)
-is_cored job old new out out_new Cored files leaves is one law =
+pub is_cored : (job : BuildJob) (old new : Option Files) (out out_new : Option (List ℕ)) (stop : Stop) (files : Files) → Leaves job old new out out_new (Err stop) → old ≡ Some files → status_of stop ≡ 1 → IsCored files job
+is_cored job old new out out_new Memory files leaves is one = absurd (omega arith)
+is_cored job old new out out_new Read files leaves is one = absurd (omega arith)
+is_cored job old new out out_new Write files leaves is one = absurd (omega arith)
+is_cored job old new out out_new WriteOut files leaves is one = absurd (omega arith)
+is_cored job old new out out_new (Refused reason) files leaves is one =
     let refused = leaves.1 files is in
-    record { bytes = refused.0; there = refused.1; cored = refused.2.0.cored; core = law (first_graph job (keys_in job.first refused.0).keys) }
-is_cored job old new out out_new (Changed first again) files leaves is one law = absurd (omega arith)
-is_cored job old new out out_new NoKeys files leaves is one law = absurd (omega arith)
-is_cored job old new out out_new (TooLong line) files leaves is one law = absurd (omega arith)
-is_cored job old new out out_new TooMany files leaves is one law = absurd (omega arith)
+    (refused.0, refused.1, refused.2.1.none)
+is_cored job old new out out_new (Changed first again) files leaves is one = absurd (omega arith)
+is_cored job old new out out_new Spill files leaves is one = absurd (omega arith)
+is_cored job old new out out_new (SpillDamaged offset expected found) files leaves is one = absurd (omega arith)
+is_cored job old new out out_new NoKeys files leaves is one = absurd (omega arith)
+is_cored job old new out out_new (TooLong line) files leaves is one = absurd (omega arith)
+is_cored job old new out out_new TooMany files leaves is one = absurd (omega arith)
 
 part_of : (job : BuildJob) (old new : Option Files) {dump text : List ℕ} → dump ≡ text → IsPart job dump old new → IsPart job text old new
 part_of job old new is part = subst (λ (bytes : List ℕ). IsPart job bytes old new) is part
 
 -- a build that could not write
-pub written_part : (job : BuildJob) (old new : Option Files) (out out_new : Option (List ℕ)) (stop : Stop) (files : Files) → Leaves job old new out out_new (Err stop) → KeepsOut out out_new stop → old ≡ Some files → status_of stop ≡ 5
-    → SavedPart files old new out out_new job ⊎ ReportedPart files old new out out_new job
-written_part job old new out out_new Memory files leaves same is five = absurd (omega arith)
-written_part job old new out out_new Read files leaves same is five = absurd (omega arith)
-written_part job old new out out_new Write files leaves same is five =
+pub written_part : (job : BuildJob) (old new : Option Files) (out out_new : Option (List ℕ)) (stop : Stop) (files : Files) → Leaves job old new out out_new (Err stop) → KeepsOut out out_new stop → HasStopForm job.algorithm stop → old ≡ Some files → status_of stop ≡ 5
+    → SavedPart files old new out out_new job ⊎ ReportedPart files old new out out_new job ⊎ FailedSpill old new out out_new job
+written_part job old new out out_new Memory files leaves same form is five = absurd (omega arith)
+written_part job old new out out_new Read files leaves same form is five = absurd (omega arith)
+written_part job old new out out_new Write files leaves same form is five =
     let saves = leaves.2 files is in
     inl (saves.f, outcome_saving job files leaves.0 saves, part_of job old new saves.dump_is leaves.1, same)
-written_part job old new out out_new WriteOut files leaves same is five =
+written_part job old new out out_new WriteOut files leaves same form is five =
     let refused = leaves.1 files is in
-    inr ((keys_in job.first refused.0).keys, refused.2.1.0, outcome_reporting job files refused.0 refused.1 refused.2.0, refused.2.1.1, leaves.0)
-written_part job old new out out_new Cored files leaves same is five = absurd (omega arith)
-written_part job old new out out_new (Changed first again) files leaves same is five = absurd (omega arith)
-written_part job old new out out_new NoKeys files leaves same is five = absurd (omega arith)
-written_part job old new out out_new (TooLong line) files leaves same is five = absurd (omega arith)
-written_part job old new out out_new TooMany files leaves same is five = absurd (omega arith)
+    let got = refused.2.2 in
+    inr (inl (refused.2.0, got.0, outcome_reporting job files refused.0 refused.2.0 refused.1 refused.2.1, got.1, leaves.0))
+written_part job old new out out_new (Refused reason) files leaves same form is five = absurd (omega arith)
+written_part job old new out out_new (Changed first again) files leaves same form is five = absurd (omega arith)
+written_part job old new out out_new Spill files leaves same form is five = inr (inr (form, leaves.0, same))
+written_part job old new out out_new (SpillDamaged offset expected found) files leaves same form is five = absurd (omega arith)
+written_part job old new out out_new NoKeys files leaves same form is five = absurd (omega arith)
+written_part job old new out out_new (TooLong line) files leaves same form is five = absurd (omega arith)
+written_part job old new out out_new TooMany files leaves same form is five = absurd (omega arith)
+
+-- a build for which memory ran out
+pub emptied : (job : BuildJob) (old new : Option Files) (out out_new : Option (List ℕ)) (stop : Stop) → Leaves job old new out out_new (Err stop) → status_of stop ≡ 6 → (new ≡ old) ⊎ IsEmptied old new job
+emptied job old new out out_new Memory (inl same) six = inl same
+emptied job old new out out_new Memory (inr left) six = inr (left.1, λ files is. let saves = left.2 files is in (saves.f, outcome_saving job files left.0 saves))
+emptied job old new out out_new Read leaves six = absurd (omega arith)
+emptied job old new out out_new Write leaves six = absurd (omega arith)
+emptied job old new out out_new WriteOut leaves six = absurd (omega arith)
+emptied job old new out out_new (Refused reason) leaves six = absurd (omega arith)
+emptied job old new out out_new (Changed first again) leaves six = absurd (omega arith)
+emptied job old new out out_new Spill leaves six = absurd (omega arith)
+emptied job old new out out_new (SpillDamaged offset expected found) leaves six = absurd (omega arith)
+emptied job old new out out_new NoKeys leaves six = absurd (omega arith)
+emptied job old new out out_new (TooLong line) leaves six = absurd (omega arith)
+emptied job old new out out_new TooMany leaves six = absurd (omega arith)
 
 -- the file of a path that was written
 pub written_at : (files : Files) (path bytes : List ℕ) → file_at (map.insert files path bytes) path ≡ Some bytes
@@ -171,13 +211,16 @@ written_at files path bytes =
     map.get-insert nat_list_cmp_total files path bytes path ∙ ap (λ (b : Bool). cond b (Some bytes) (map.get files path)) ((eq_by_cmp_equiv nat_list_cmp_total).refl path)
 
 -- the message of a build that stopped goes with its status
-pub message_is : (job : BuildJob) (before now : ℕ) (stop : Stop) → HasChanged stop → IsOutCause before now stop → IsBuildMessage job before now (status_of stop) (message_of job stop)
+pub message_is : (job : BuildJob) (before now : ℕ) (stop : Stop) → HasStopForm job.algorithm stop → IsOutCause before now stop → IsBuildMessage job before now (status_of stop) (message_of job.keys job.function job.dir stop)
 message_is job before now Memory differ count = record { done = λ e. absurd (omega arith); cored = λ e. absurd (omega arith); read = λ e. absurd (omega arith); write = λ e. absurd (omega arith); memory = λ e. refl; changed = λ e. absurd (omega arith); keys = λ e. absurd (omega arith) }
 message_is job before now Read differ count = record { done = λ e. absurd (omega arith); cored = λ e. absurd (omega arith); read = λ e. refl; write = λ e. absurd (omega arith); memory = λ e. absurd (omega arith); changed = λ e. absurd (omega arith); keys = λ e. absurd (omega arith) }
 message_is job before now Write differ count = record { done = λ e. absurd (omega arith); cored = λ e. absurd (omega arith); read = λ e. absurd (omega arith); write = λ e. inl (count, refl); memory = λ e. absurd (omega arith); changed = λ e. absurd (omega arith); keys = λ e. absurd (omega arith) }
-message_is job before now WriteOut differ count = record { done = λ e. absurd (omega arith); cored = λ e. absurd (omega arith); read = λ e. absurd (omega arith); write = λ e. inr (count.1, refl); memory = λ e. absurd (omega arith); changed = λ e. absurd (omega arith); keys = λ e. absurd (omega arith) }
-message_is job before now Cored differ count = record { done = λ e. absurd (omega arith); cored = λ e. refl; read = λ e. absurd (omega arith); write = λ e. absurd (omega arith); memory = λ e. absurd (omega arith); changed = λ e. absurd (omega arith); keys = λ e. absurd (omega arith) }
-message_is job before now (Changed first again) differ count = record { done = λ e. absurd (omega arith); cored = λ e. absurd (omega arith); read = λ e. absurd (omega arith); write = λ e. absurd (omega arith); memory = λ e. absurd (omega arith); changed = λ e. (first, again, differ, refl); keys = λ e. absurd (omega arith) }
+message_is job before now WriteOut differ count = record { done = λ e. absurd (omega arith); cored = λ e. absurd (omega arith); read = λ e. absurd (omega arith); write = λ e. inr (inr (count.1, refl)); memory = λ e. absurd (omega arith); changed = λ e. absurd (omega arith); keys = λ e. absurd (omega arith) }
+message_is job before now (Refused reason) differ count = record { done = λ e. absurd (omega arith); cored = λ e. (reason, differ, refl); read = λ e. absurd (omega arith); write = λ e. absurd (omega arith); memory = λ e. absurd (omega arith); changed = λ e. absurd (omega arith); keys = λ e. absurd (omega arith) }
+message_is job before now (Changed first again) differ count = record { done = λ e. absurd (omega arith); cored = λ e. absurd (omega arith); read = λ e. absurd (omega arith); write = λ e. absurd (omega arith); memory = λ e. absurd (omega arith); changed = λ e. inl (first, again, differ, refl); keys = λ e. absurd (omega arith) }
+message_is job before now Spill differ count = record { done = λ e. absurd (omega arith); cored = λ e. absurd (omega arith); read = λ e. absurd (omega arith); write = λ e. inr (inl (count, differ, refl)); memory = λ e. absurd (omega arith); changed = λ e. absurd (omega arith); keys = λ e. absurd (omega arith) }
+message_is job before now (SpillDamaged offset expected found) differ count =
+    record { done = λ e. absurd (omega arith); cored = λ e. absurd (omega arith); read = λ e. absurd (omega arith); write = λ e. absurd (omega arith); memory = λ e. absurd (omega arith); changed = λ e. inr (offset, expected, found, differ.0, differ.1, refl); keys = λ e. absurd (omega arith) }
 message_is job before now NoKeys differ count = record { done = λ e. absurd (omega arith); cored = λ e. absurd (omega arith); read = λ e. absurd (omega arith); write = λ e. absurd (omega arith); memory = λ e. absurd (omega arith); changed = λ e. absurd (omega arith); keys = λ e. inl refl }
 message_is job before now (TooLong line) differ count = record { done = λ e. absurd (omega arith); cored = λ e. absurd (omega arith); read = λ e. absurd (omega arith); write = λ e. absurd (omega arith); memory = λ e. absurd (omega arith); changed = λ e. absurd (omega arith); keys = λ e. inr (inr (line, refl)) }
 message_is job before now TooMany differ count = record { done = λ e. absurd (omega arith); cored = λ e. absurd (omega arith); read = λ e. absurd (omega arith); write = λ e. absurd (omega arith); memory = λ e. absurd (omega arith); changed = λ e. absurd (omega arith); keys = λ e. inr (inl refl) }

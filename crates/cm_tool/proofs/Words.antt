@@ -1,6 +1,7 @@
 -- From what the words ask for to what the top call promises.
-use Rattle.std.proofs.Common.{◌≡◌, ◌≢◌, ◌∙◌, ◌⊎◌, ℕ, List, [], length, take, Option, Some, Result, Ok, Err, inl, inr, refl, ap, sym, subst, arith}
+use Rattle.std.proofs.Common.{◌≡◌, ◌≢◌, ◌∙◌, ◌⊎◌, ℕ, List, [], length, take, Option, None, Some, Result, Ok, Err, inl, inr, refl, ap, sym, subst, arith}
 use Rattle.std.proofs.lemmas.List.{take_all}
+use Rattle.cm_algorithm.specs.declared.algorithm.Algorithm.TheVariants.{Chm}
 use Rattle.cm_outer.specs.Files.{Files}
 use Rattle.cm_outer.specs.Writing.{Writes, then_bytes}
 use Rattle.cm_outer.specs.declared.fault.Failed.{Failed}
@@ -8,16 +9,19 @@ use Rattle.cm_outer.specs.WritingLaws.{then_nothing}
 use Rattle.cm_tool.specs.Ends.{Says, usage_status_of}
 use Rattle.cm_tool.specs.Messages.{out_of_memory, usage_message}
 use Rattle.cm_tool.specs.Outcome.{Outcome, job_outcome, printing, refusal}
-use Rattle.cm_tool.specs.Run.{ForQuery, IsCutShort, IsMessage, Reaches, UnlessQuery}
+use Rattle.cm_tool.specs.Run.{ForQuery, ForTest, IsCutShort, IsMessage, IsStatus, LacksFile, Reaches, UnlessQuery, UnlessTest}
+use Rattle.cm_tool.specs.TestEnds.{GotPrefix}
+use Rattle.cm_tool.specs.Tested.{test_outcome}
 use Rattle.cm_tool.specs.declared.stop.QueryStop.TheVariants as query_stop
 use Rattle.cm_tool.specs.declared.stop.Stop.TheVariants as stop
 use Rattle.cm_tool.proofs.Asks.{query_message_is}
-use Rattle.cm_tool.proofs.Outcomes.{message_is, nothing_said}
+use Rattle.cm_tool.proofs.Outcomes.{message_is, none_some, nothing_said}
+use Rattle.cm_tool.proofs.Tests.{got_nothing, test_message}
 use Rattle.cm_words.specs.Options.{Read as Reading}
 use Rattle.cm_words.specs.declared.fault.UsageFault.{UsageFault}
 use Rattle.cm_words.specs.declared.fault.UsageFault.TheVariants as usage
 use Rattle.cm_words.specs.declared.jobs.Job.{Job}
-use Rattle.cm_words.specs.declared.jobs.Job.TheVariants.{Help, Version, Build, Query}
+use Rattle.cm_words.specs.declared.jobs.Job.TheVariants.{Help, Version, Build, Query, Test}
 
 -- what holds holds unless a query is asked for
 pub unless_query : {P : Type 0} (asked : Reading Job) → P → UnlessQuery asked P
@@ -26,6 +30,25 @@ unless_query (Ok Help) p = p
 unless_query (Ok Version) p = p
 unless_query (Ok (Build job)) p = p
 unless_query (Ok (Query job)) p = tt
+unless_query (Ok (Test job)) p = p
+
+-- and unless a test is
+pub unless_test : {P : Type 0} (asked : Reading Job) → P → UnlessTest asked P
+unless_test (Err fault) p = p
+unless_test (Ok Help) p = p
+unless_test (Ok Version) p = p
+unless_test (Ok (Build job)) p = p
+unless_test (Ok (Query job)) p = p
+unless_test (Ok (Test job)) p = tt
+
+-- out got nothing of a test that had not begun
+pub early_tested : (asked : Reading Job) (files : Files) (old : Option (List ℕ)) → ForTest asked (λ job. GotPrefix (test_outcome job files).out old old)
+early_tested (Err fault) files old = tt
+early_tested (Ok Help) files old = tt
+early_tested (Ok Version) files old = tt
+early_tested (Ok (Build job)) files old = tt
+early_tested (Ok (Query job)) files old = tt
+early_tested (Ok (Test job)) files old = got_nothing (test_outcome job files).out old old refl
 
 -- want of memory before the job is known
 early_cut : (asked : Reading Job) (files : Files) (out err err_new : Option (List ℕ)) (before now : ℕ) → Says out_of_memory err err_new before now → ForQuery asked (IsCutShort files 6 out out err err_new before now)
@@ -33,7 +56,8 @@ early_cut (Err fault) files out err err_new before now says = tt
 early_cut (Ok Help) files out err err_new before now says = tt
 early_cut (Ok Version) files out err err_new before now says = tt
 early_cut (Ok (Build job)) files out err err_new before now says = tt
-early_cut (Ok (Query job)) files out err err_new before now says = record { notes = []; text = out_of_memory; message = query_message_is job query_stop.Memory; says = says; answered = inl (refl, refl) }
+early_cut (Ok (Query job)) files out err err_new before now says = record { notes = []; text = out_of_memory; says = says; read = λ e. absurd (omega arith); write = λ e. absurd (omega arith); memory = λ e. ((refl, refl), refl) }
+early_cut (Ok (Test job)) files out err err_new before now says = tt
 
 early_message : (asked : Reading Job) (out now : ℕ) → now ≡ out → IsMessage asked out now 6 out_of_memory
 early_message (Err fault) out now same = record { refused = λ e. absurd (omega arith); memory = λ e. refl }
@@ -41,6 +65,7 @@ early_message (Ok Help) out now same = record { done = λ e. absurd (omega arith
 early_message (Ok Version) out now same = record { done = λ e. absurd (omega arith); write = λ e. absurd (omega arith); memory = λ e. refl }
 early_message (Ok (Build job)) out now same = message_is job out now stop.Memory tt same
 early_message (Ok (Query job)) out now same = query_message_is job query_stop.Memory
+early_message (Ok (Test job)) out now same = test_message job Chm out now stop.Memory tt same
 
 -- out has a front of a text that was written, whole or in part
 pub front_of : (r : Result (Unit {0}) Failed) (old new : Option (List ℕ)) (text : List ℕ) → Writes old new text r → (n : ℕ) × (new ≡ then_bytes old (take n text))
@@ -107,3 +132,40 @@ usage_said asked usage.Memory out now same either = early_message asked out now 
 usage_said asked usage.Words out now same either = message_for asked usage.Words out now (faulty asked usage.Words (λ e. omega (arith, e)) either)
 usage_said asked (usage.BadValue letter) out now same either = message_for asked (usage.BadValue letter) out now (faulty asked (usage.BadValue letter) (λ e. omega (arith, e)) either)
 usage_said asked usage.NoFile out now same either = message_for asked usage.NoFile out now (faulty asked usage.NoFile (λ e. omega (arith, e)) either)
+
+-- the status of a text that was printed
+pub text_status : (status : ℕ) → (status ≡ 0) ⊎ (status ≡ 5) → IsStatus (Ok Help) status
+text_status status (inl zero) = rw zero refl
+text_status status (inr five) = rw five refl
+
+-- and of arguments that ask for no job, or for which memory ran out
+early_status : (asked : Reading Job) → IsStatus asked 6
+early_status (Err fault) = refl
+early_status (Ok Help) = refl
+early_status (Ok Version) = refl
+early_status (Ok (Build job)) = refl
+early_status (Ok (Query job)) = refl
+early_status (Ok (Test job)) = refl
+
+status_for : (asked : Reading Job) (fault : UsageFault) → Err fault ≡ asked → IsStatus asked 2
+status_for asked fault is = subst (λ (a : Reading Job). IsStatus a 2) is refl
+
+pub usage_status : (asked : Reading Job) (fault : UsageFault) → (fault ≡ usage.Memory) ⊎ (Err fault ≡ asked) → IsStatus asked (usage_status_of fault)
+usage_status asked usage.Memory either = early_status asked
+usage_status asked usage.Words either = status_for asked usage.Words (faulty asked usage.Words (λ e. omega (arith, e)) either)
+usage_status asked (usage.BadValue letter) either = status_for asked (usage.BadValue letter) (faulty asked (usage.BadValue letter) (λ e. omega (arith, e)) either)
+usage_status asked usage.NoFile either = status_for asked usage.NoFile (faulty asked usage.NoFile (λ e. omega (arith, e)) either)
+
+-- a text needs no file
+pub text_missing : {P : Type 0} (asked : Reading Job) (job : Job) (files : Files) (o : Outcome) → asked ≡ Ok job → job_outcome files (Ok job) ≡ Some o → job_outcome files asked ≡ None → P
+text_missing asked job files o is found none = absurd (none_some (sym none ∙ ap (job_outcome files) is ∙ found))
+
+-- nor do arguments that ask for no job
+misused_missing : {P : Type 0} (asked : Reading Job) (fault : UsageFault) (files : Files) → Err fault ≡ asked → job_outcome files asked ≡ None → P
+misused_missing asked fault files is none = absurd (none_some (sym none ∙ ap (job_outcome files) (sym is)))
+
+pub usage_missing : (asked : Reading Job) (fault : UsageFault) (files : Files) (known : Option Files) (out : Option (List ℕ)) → (fault ≡ usage.Memory) ⊎ (Err fault ≡ asked) → job_outcome files asked ≡ None → LacksFile (usage_status_of fault) known known out out
+usage_missing asked usage.Memory files known out either none = record { status_is = inr refl; files_are = refl; out = refl }
+usage_missing asked usage.Words files known out either none = misused_missing asked usage.Words files (faulty asked usage.Words (λ e. omega (arith, e)) either) none
+usage_missing asked (usage.BadValue letter) files known out either none = misused_missing asked (usage.BadValue letter) files (faulty asked (usage.BadValue letter) (λ e. omega (arith, e)) either) none
+usage_missing asked usage.NoFile files known out either none = misused_missing asked usage.NoFile files (faulty asked usage.NoFile (λ e. omega (arith, e)) either) none

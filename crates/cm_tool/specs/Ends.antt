@@ -2,14 +2,13 @@
 use Rattle.std.specs.Prelude.{◌≡◌, ◌<◌, ◌^◌, ℕ, List, take, Option}
 use Rattle.cm_outer.specs.Writing.{then_bytes}
 use Rattle.cm_tool.specs.declared.stop.Stop.{Stop}
-use Rattle.cm_tool.specs.declared.stop.Stop.TheVariants.{Memory, Read, Write, WriteOut, Cored, Changed, NoKeys, TooLong, TooMany}
+use Rattle.cm_tool.specs.declared.stop.Stop.TheVariants.{Memory, Read, Write, WriteOut, Refused, Changed, Spill, SpillDamaged, NoKeys, TooLong, TooMany}
 use Rattle.cm_tool.specs.declared.stop.QueryStop.{QueryStop}
 use Rattle.cm_tool.specs.declared.stop.QueryStop.TheVariants as query_stop
 use Rattle.cm_words.specs.declared.fault.UsageFault.{UsageFault}
 use Rattle.cm_words.specs.declared.fault.UsageFault.TheVariants as usage
-use Rattle.cm_words.specs.declared.jobs.BuildJob.{BuildJob}
 use Rattle.cm_words.specs.declared.jobs.QueryJob.{QueryJob}
-use Rattle.cm_tool.specs.Messages.{bad_dump, cannot_write_out, no_seed, out_of_memory, cannot_read, cannot_write, keys_changed, no_keys, line_too_long, too_many_keys}
+use Rattle.cm_tool.specs.Messages.{bad_dump, cannot_write_out, out_of_memory, cannot_read, cannot_use_spill, cannot_write, keys_changed, no_keys, line_too_long, reason_message, spill_damaged, too_many_keys}
 
 -- the status of a build that stopped
 abbrev pub status_of : Stop → ℕ
@@ -17,23 +16,27 @@ status_of Memory = 6
 status_of Read = 4
 status_of Write = 5
 status_of WriteOut = 5
-status_of Cored = 1
+status_of (Refused reason) = 1
 status_of (Changed first again) = 7
+status_of Spill = 5
+status_of (SpillDamaged offset expected found) = 7
 status_of NoKeys = 8
 status_of (TooLong line) = 8
 status_of TooMany = 8
 
--- its message
-abbrev pub message_of : BuildJob → Stop → List ℕ
-message_of job Memory = out_of_memory
-message_of job Read = cannot_read job.keys
-message_of job Write = cannot_write job.function
-message_of job WriteOut = cannot_write_out
-message_of job Cored = no_seed
-message_of job (Changed first again) = keys_changed job.keys first again
-message_of job NoKeys = no_keys job.keys
-message_of job (TooLong line) = line_too_long job.keys line
-message_of job TooMany = too_many_keys job.keys
+-- its message, by the paths of the keys file and of the function file and by the directory of the spill
+abbrev pub message_of : List ℕ → List ℕ → List ℕ → Stop → List ℕ
+message_of keys function dir Memory = out_of_memory
+message_of keys function dir Read = cannot_read keys
+message_of keys function dir Write = cannot_write function
+message_of keys function dir WriteOut = cannot_write_out
+message_of keys function dir (Refused reason) = reason_message reason
+message_of keys function dir (Changed first again) = keys_changed keys first again
+message_of keys function dir Spill = cannot_use_spill dir
+message_of keys function dir (SpillDamaged offset expected found) = spill_damaged dir offset expected found
+message_of keys function dir NoKeys = no_keys keys
+message_of keys function dir (TooLong line) = line_too_long keys line
+message_of keys function dir TooMany = too_many_keys keys
 
 -- the status of a query that stopped
 abbrev pub query_status_of : QueryStop → ℕ

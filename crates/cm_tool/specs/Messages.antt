@@ -1,10 +1,14 @@
 -- What is said on err.
 use Rattle.std.specs.Prelude.{ℕ, List, [], ◌∷◌, Option, None, Some, codes, decimal, if◌then◌else◌}
+use Rattle.cm_algorithm.specs.Names.{name_of}
+use Rattle.cm_algorithm.specs.declared.algorithm.Algorithm.{Algorithm}
+use Rattle.cm_algorithm.specs.declared.algorithm.Algorithm.TheVariants.{Brz}
 use Rattle.cm_dump.specs.declared.fault.LoadFault.{LoadFault}
 use Rattle.cm_dump.specs.declared.fault.LoadFault.TheVariants as faults
 use Rattle.cm_outer.specs.Writing.{joined}
 use Rattle.cm_tool.specs.declared.built.Summary.{Summary}
-use Rattle.cm_algorithm.specs.Names.{name_of}
+use Rattle.cm_tool.specs.declared.stop.Reason.{Reason}
+use Rattle.cm_tool.specs.declared.stop.Reason.TheVariants.{NoSeed, NoSeedFor, NoSplit}
 use Rattle.cm_words.specs.declared.fault.UsageFault.{UsageFault}
 use Rattle.cm_words.specs.declared.fault.UsageFault.TheVariants as usage
 use Rattle.cm_words.specs.declared.jobs.BuildJob.{BuildJob}
@@ -19,8 +23,11 @@ usage_message usage.Words = joined (codes "cmph: bad arguments; cmph -h shows th
 usage_message (usage.BadValue letter) = joined (codes "cmph: bad value of -" ∷ (letter ∷ []) ∷ codes "\n" ∷ [])
 usage_message usage.NoFile = joined (codes "cmph: no keys file\n" ∷ [])
 
-abbrev pub no_seed : List ℕ
-no_seed = joined (codes "cmph: no seed of the list gives an empty core\n" ∷ [])
+-- why keys have no function
+abbrev pub reason_message : Reason → List ℕ
+reason_message NoSeed = joined (codes "cmph: no seed of the list gives an empty core\n" ∷ [])
+reason_message (NoSeedFor bucket) = joined (codes "cmph: bucket " ∷ decimal bucket ∷ codes " has no seed with an empty core\n" ∷ [])
+reason_message NoSplit = joined (codes "cmph: every split has a bucket with more than 255 keys\n" ∷ [])
 
 abbrev pub cannot_read : List ℕ → List ℕ
 cannot_read file = joined (codes "cmph: " ∷ file ∷ codes ": cannot read\n" ∷ [])
@@ -30,6 +37,12 @@ cannot_write file = joined (codes "cmph: " ∷ file ∷ codes ": cannot write\n"
 
 abbrev pub cannot_write_out : List ℕ
 cannot_write_out = joined (codes "cmph: cannot write standard output\n" ∷ [])
+
+abbrev pub cannot_use_spill : List ℕ → List ℕ
+cannot_use_spill dir = joined (codes "cmph: " ∷ dir ∷ codes ": cannot use the spill file\n" ∷ [])
+
+abbrev pub spill_damaged : List ℕ → ℕ → ℕ → ℕ → List ℕ
+spill_damaged dir offset expected found = joined (codes "cmph: " ∷ dir ∷ codes ": spill damaged at " ∷ decimal offset ∷ codes ": expected " ∷ decimal expected ∷ codes ", found " ∷ decimal found ∷ codes "\n" ∷ [])
 
 -- what is wrong with bytes that are no dump
 abbrev pub fault_words : LoadFault → List ℕ
@@ -79,9 +92,14 @@ line_too_long file line = joined (codes "cmph: " ∷ file ∷ codes ": line " �
 abbrev pub too_many_keys : List ℕ → List ℕ
 too_many_keys file = joined (codes "cmph: " ∷ file ∷ codes ": more than 16777216 keys\n" ∷ [])
 
+-- what is counted beside the keys
+abbrev pub counted : Algorithm → List ℕ
+counted Brz = codes " buckets "
+counted algorithm = codes " cells "
+
 -- what is said of a function that was built, where that is asked for
 abbrev pub built : BuildJob → Summary → List ℕ
-built job s = joined (codes "cmph: " ∷ name_of job.algorithm ∷ codes " keys " ∷ decimal s.keys ∷ codes " cells " ∷ decimal s.cells ∷ codes " seed " ∷ decimal s.seed ∷ codes "\n" ∷ [])
+built job s = joined (codes "cmph: " ∷ name_of job.algorithm ∷ codes " keys " ∷ decimal s.keys ∷ counted job.algorithm ∷ decimal s.cells ∷ codes " seed " ∷ decimal s.seed ∷ codes "\n" ∷ [])
 
 abbrev pub built_message : BuildJob → Summary → List ℕ
 built_message job s = if job.verbose then built job s else []

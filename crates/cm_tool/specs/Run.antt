@@ -1,5 +1,6 @@
 -- What the top call promises, in words over the command line and the files.
-use Rattle.std.specs.Prelude.{◌≡◌, ◌⊎◌, ℕ, List, [], ◌∷◌, ◌++◌, length, take, Option, Some, Ok, Err, true}
+use Rattle.std.specs.Prelude.{◌≡◌, ◌≢◌, ◌⊎◌, ℕ, List, [], ◌∷◌, ◌++◌, length, take, Option, Some, Ok, Err, true}
+use Rattle.std.specs.Option.{ForSome}
 use Rattle.cm_bdz.specs.Functions.{bdz_answer, bdz_ph_answer}
 use Rattle.cm_buckets.specs.Functions.{brz_answer}
 use Rattle.cm_bdz.specs.Numbering.{AnswersApart}
@@ -11,32 +12,45 @@ use Rattle.cm_dump.specs.declared.fault.LoadFault.{LoadFault}
 use Rattle.cm_dump.specs.declared.writer.Func.{Func}
 use Rattle.cm_dump.specs.declared.writer.Func.TheVariants as func
 use Rattle.cm_outer.specs.Causes.{Rose}
-use Rattle.cm_outer.specs.Files.{Files, file_at}
+use Rattle.cm_outer.specs.Files.{Files, file_at, with_file}
 use Rattle.cm_outer.specs.Writing.{then_bytes}
-use Rattle.cm_spec.specs.Built.{IsFirst, AllCored}
-use Rattle.cm_spec.specs.Core.{IsCore}
 use Rattle.cm_spec.specs.Lists.{has}
-use Rattle.cm_spec.specs.Rounds.{rest_of}
 use Rattle.cm_tool.specs.Asked.{AskedPart, GotNothing, Spells, keys_at}
 use Rattle.cm_tool.specs.Ends.{Says}
-use Rattle.cm_tool.specs.Jobs.{first_graph, rule_by, seeds_tried}
-use Rattle.cm_tool.specs.Leaves.{IsChange, IsPart}
-use Rattle.cm_tool.specs.Messages.{bad_dump, built_message, no_seed, out_of_memory, cannot_read, cannot_write, cannot_write_out, keys_changed, no_keys, line_too_long, too_many_keys, usage_message}
-use Rattle.cm_tool.specs.Outcome.{Outcome, job_outcome, keys_in, report_of, reporting, saving}
+use Rattle.cm_tool.specs.Faults.{IsChangeBy, IsReasonBy, UsesSpill}
+use Rattle.cm_tool.specs.Jobs.{seeds_tried}
+use Rattle.cm_tool.specs.Leaves.{IsPart}
+use Rattle.cm_tool.specs.Messages.{bad_dump, built_message, out_of_memory, cannot_read, cannot_use_spill, cannot_write, cannot_write_out, keys_changed, no_keys, line_too_long, reason_message, spill_damaged, too_many_keys, usage_message}
+use Rattle.cm_tool.specs.Outcome.{Outcome, job_outcome, keys_in, reporting, saving}
+use Rattle.cm_tool.specs.Seeds.{IsMadeBy, NoneWorks}
+use Rattle.cm_tool.specs.Spills.{HasSpilled, UnlessSpilled}
+use Rattle.cm_tool.specs.TestEnds.{IsTestMessage}
 use Rattle.cm_tool.specs.Texts.{help_text, version_text}
+use Rattle.cm_tool.specs.Verdict.{Shown}
 use Rattle.cm_tool.specs.declared.built.Summary.{Summary}
+use Rattle.cm_tool.specs.declared.stop.Reason.{Reason}
 use Rattle.cm_algorithm.specs.declared.algorithm.Algorithm.{Algorithm}
-use Rattle.cm_algorithm.specs.declared.algorithm.Algorithm.TheVariants.{Chm, Bdz, BdzPh}
+use Rattle.cm_algorithm.specs.declared.algorithm.Algorithm.TheVariants.{Chm, Bdz, BdzPh, Brz}
 use Rattle.cm_words.specs.Options.{Read as Reading}
 use Rattle.cm_words.specs.declared.fault.UsageFault.{UsageFault}
 use Rattle.cm_words.specs.declared.jobs.BuildJob.{BuildJob}
 use Rattle.cm_words.specs.declared.jobs.QueryJob.{QueryJob}
+use Rattle.cm_words.specs.declared.jobs.TestJob.{TestJob}
 use Rattle.cm_words.specs.declared.jobs.Job.{Job}
-use Rattle.cm_words.specs.declared.jobs.Job.TheVariants.{Help, Version, Build, Query}
+use Rattle.cm_words.specs.declared.jobs.Job.TheVariants.{Help, Version, Build, Query, Test}
 
--- the statuses there are
-abbrev pub IsStatus : ℕ → Type 0
-IsStatus status = has (0 ∷ 1 ∷ 2 ∷ 3 ∷ 4 ∷ 5 ∷ 6 ∷ 7 ∷ 8 ∷ []) status ≡ true
+-- the statuses of what the words ask for, whatever the disk holds
+abbrev pub statuses_of : Reading Job → List ℕ
+statuses_of (Err fault) = 2 ∷ 6 ∷ []
+statuses_of (Ok Help) = 0 ∷ 5 ∷ 6 ∷ []
+statuses_of (Ok Version) = 0 ∷ 5 ∷ 6 ∷ []
+statuses_of (Ok (Build job)) = 0 ∷ 1 ∷ 4 ∷ 5 ∷ 6 ∷ 7 ∷ 8 ∷ []
+statuses_of (Ok (Query job)) = 0 ∷ 1 ∷ 3 ∷ 4 ∷ 5 ∷ 6 ∷ 8 ∷ []
+statuses_of (Ok (Test job)) = 0 ∷ 1 ∷ 5 ∷ 6 ∷ 7 ∷ 8 ∷ []
+
+-- a status is one of them
+abbrev pub IsStatus : Reading Job → ℕ → Type 0
+IsStatus asked status = has (statuses_of asked) status ≡ true
 
 -- this holds of the build, if the words ask for one
 abbrev pub ForBuild : Reading Job → (BuildJob → Type 0) → Type 0
@@ -47,6 +61,11 @@ ForBuild asked P = Unit {0}
 abbrev pub ForQuery : Reading Job → (QueryJob → Type 0) → Type 0
 ForQuery (Ok (Query job)) P = P job
 ForQuery asked P = Unit {0}
+
+-- this holds of the test, if they ask for one
+abbrev pub ForTest : Reading Job → (TestJob → Type 0) → Type 0
+ForTest (Ok (Test job)) P = P job
+ForTest asked P = Unit {0}
 
 -- this holds of the text that they ask for, if they do
 abbrev pub ForText : Reading Job → (List ℕ → Type 0) → Type 0
@@ -64,10 +83,21 @@ abbrev pub UnlessBuild : Reading Job → Type 0 → Type 0
 UnlessBuild (Ok (Build job)) P = Unit {0}
 UnlessBuild asked P = P
 
+-- this holds, unless they ask for a build by BRZ, or for a test, which has one
+abbrev pub UnlessBrz : Reading Job → Type 0 → Type 0
+UnlessBrz (Ok (Build job)) P = UnlessSpilled job.algorithm P
+UnlessBrz (Ok (Test job)) P = Unit {0}
+UnlessBrz asked P = P
+
 -- this holds, unless they ask for a query
 abbrev pub UnlessQuery : Reading Job → Type 0 → Type 0
 UnlessQuery (Ok (Query job)) P = Unit {0}
 UnlessQuery asked P = P
+
+-- this holds, unless they ask for a test
+abbrev pub UnlessTest : Reading Job → Type 0 → Type 0
+UnlessTest (Ok (Test job)) P = Unit {0}
+UnlessTest asked P = P
 
 -- this holds, unless they ask for a job
 abbrev pub UnlessJob : Reading Job → Type 0 → Type 0
@@ -83,9 +113,16 @@ pub record Reaches (found : Option Outcome) (status : ℕ) (out_old out_new err_
   pub err : Says outcome.err err_old err_new err_before err_now
   pub files_are : files_new ≡ Some outcome.files
 
--- a build took the first seed whose graph of the keys has an empty 2-core
+-- a file that is needed isn't there: nothing was done
+pub record LacksFile (status : ℕ) (files_old files_new : Option Files) (out_old out_new : Option (List ℕ)) : Type 0 where
+  pub status_is : (status ≡ 4) ⊎ (status ≡ 6)
+  pub files_are : files_new ≡ files_old
+  pub out : out_new ≡ out_old
+
+-- a build saved a function under the first seed whose graph of the keys has an empty 2-core; by BRZ under the first that splits the
+-- keys, and in each bucket with keys under the first whose graph of those has an empty 2-core
 abbrev pub TookFirst : Files → BuildJob → Type 0
-TookFirst files job = (bytes : List ℕ) × (place : ℕ) × (seed : ℕ) × (file_at files job.keys ≡ Some bytes) × IsFirst (rule_by job.algorithm) (keys_in job.first bytes).keys job.c (seeds_tried job) place seed
+TookFirst files job = (bytes : List ℕ) × (f : Func) × (file_at files job.keys ≡ Some bytes) × IsMadeBy job.algorithm job.b (keys_in job.first bytes).keys job.c (seeds_tried job) f × (job_outcome files (Ok (Build job)) ≡ Some (saving job files f))
 
 -- what the answers of a function to the keys that it was built over are: by CHM the keys' own numbers, by BDZ and BRZ all numbers
 -- below that of the keys, by BDZ_PH distinct numbers below that of the cells
@@ -100,18 +137,21 @@ abbrev pub IsBy : Algorithm → Func → Type 0
 IsBy Chm (func.Chm f) = Unit {0}
 IsBy Bdz (func.Bdz f) = Unit {0}
 IsBy BdzPh (func.BdzPh f) = Unit {0}
+IsBy Brz (func.Brz f) = Unit {0}
 IsBy algorithm f = ⊥
 
 -- the function file holds bytes that spell a function of the job's algorithm, with the answers that it is for
 abbrev pub SavedNumbers : Files → Option Files → BuildJob → Type 0
 SavedNumbers files new job = (bytes dump : List ℕ) × (f : Func) × (after : Files) × (file_at files job.keys ≡ Some bytes) × (new ≡ Some after) × (file_at after job.function ≡ Some dump) × (spelling_of dump ≡ Ok f) × IsBy job.algorithm f × AnswersOf (keys_in job.first bytes).keys f
 
--- under every seed the graph of the keys has a 2-core with an edge, and the report shows that of the first: what peeling leaves
-pub record IsCored (files : Files) (job : BuildJob) : Type 0 where
-  pub bytes : List ℕ
-  pub there : file_at files job.keys ≡ Some bytes
-  pub cored : AllCored (rule_by job.algorithm) (keys_in job.first bytes).keys job.c (seeds_tried job)
-  pub core : IsCore (first_graph job (keys_in job.first bytes).keys) (rest_of (first_graph job (keys_in job.first bytes).keys))
+-- the spill that was given back has the records of the keys, if the function that was saved is one by BRZ; else none was given back
+abbrev pub KeysSpilled : Files → Option (List ℕ) → Option (List ℕ) → BuildJob → Type 0
+KeysSpilled files old new job = (bytes : List ℕ) × (f : Func) × (file_at files job.keys ≡ Some bytes) × (job_outcome files (Ok (Build job)) ≡ Some (saving job files f)) × HasSpilled f (keys_in job.first bytes).keys old new
+
+-- no seed works for the keys: under each the graph of the keys has a 2-core with an edge, and the report shows that of the first, what
+-- peeling leaves; by BRZ each leaves an overfull bucket, or there is such a graph of some bucket's keys, the lowest
+abbrev pub IsCored : Files → BuildJob → Type 0
+IsCored files job = (bytes : List ℕ) × (file_at files job.keys ≡ Some bytes) × NoneWorks job.algorithm job.b (keys_in job.first bytes).keys job.c (seeds_tried job)
 
 -- the outcome saves a function, of whose dump the function file holds a prefix, or the files are as before; out got nothing
 abbrev pub SavedPart : Files → Option Files → Option Files → Option (List ℕ) → Option (List ℕ) → BuildJob → Type 0
@@ -119,21 +159,43 @@ SavedPart files old new out_old out_new job = (f : Func) × (job_outcome files (
 
 -- the outcome shows a report, of which out got a prefix; the files are as before
 abbrev pub ReportedPart : Files → Option Files → Option Files → Option (List ℕ) → Option (List ℕ) → BuildJob → Type 0
-ReportedPart files old new out_old out_new job = (keys : List (ℕ × List ℕ)) × (n : ℕ) × (job_outcome files (Ok (Build job)) ≡ Some (reporting job files keys)) × (out_new ≡ then_bytes out_old (take n (report_of job keys))) × (new ≡ old)
+ReportedPart files old new out_old out_new job = (shown : Shown) × (n : ℕ) × (job_outcome files (Ok (Build job)) ≡ Some (reporting files shown)) × (out_new ≡ then_bytes out_old (take n shown.report)) × (new ≡ old)
 
--- A query that a fault or want of memory cut short. Out and err got nothing; or else the first keys were answered, with their notes, and out may have a front of the text of one key more.
-abbrev pub AnsweredPart : Files → Option (List ℕ) → Option (List ℕ) → List ℕ → QueryJob → Type 0
-AnsweredPart files old new notes job = GotNothing old new notes
-    ⊎ ((f : Func) × (given : ℕ) × (rest : ℕ) × Spells files job.function f × AskedPart (answer_by f) (keys_at files job) old new notes given rest)
+-- the spill of a build by BRZ failed; the files are as before, and out got nothing
+abbrev pub FailedSpill : Option Files → Option Files → Option (List ℕ) → Option (List ℕ) → BuildJob → Type 0
+FailedSpill old new out_old out_new job = UsesSpill job.algorithm × (new ≡ old) × (out_new ≡ out_old)
+
+-- the outcome saves a function, and the function file is empty
+abbrev pub IsEmptied : Option Files → Option Files → BuildJob → Type 0
+IsEmptied old new job = (new ≡ with_file job.function [] old) × ForSome old (λ files. (f : Func) × (job_outcome files (Ok (Build job)) ≡ Some (saving job files f)))
+
+-- A file of a query could not be read. It is the function file, and neither out nor err got anything of an answer; or it is the keys
+-- file, after the first keys were answered, with their notes and with nothing of a further line. The message names the file.
+abbrev pub StoppedReading : Files → Option (List ℕ) → Option (List ℕ) → List ℕ → List ℕ → QueryJob → Type 0
+StoppedReading files old new notes text job = (GotNothing old new notes × (text ≡ cannot_read job.function))
+    ⊎ ((f : Func) × (given : ℕ) × Spells files job.function f × AskedPart (answer_by f) (keys_at files job) old new notes given 0 × (text ≡ cannot_read job.keys))
+
+-- Out could not be written, after the first keys were answered, with their notes. It may have a prefix of the line of one key more.
+abbrev pub StoppedWriting : Files → Option (List ℕ) → Option (List ℕ) → List ℕ → List ℕ → QueryJob → Type 0
+StoppedWriting files old new notes text job = (f : Func) × (given : ℕ) × (rest : ℕ) × Spells files job.function f × AskedPart (answer_by f) (keys_at files job) old new notes given rest × (text ≡ cannot_write_out)
+
+-- what a build could not write: the function file, or by BRZ the spill, or out, whose count rose
+abbrev pub IsUnwritten : BuildJob → ℕ → ℕ → List ℕ → Type 0
+IsUnwritten job before now text = ((now ≡ before) × (text ≡ cannot_write job.function)) ⊎ ((now ≡ before) × UsesSpill job.algorithm × (text ≡ cannot_use_spill job.dir)) ⊎ (Rose before now × (text ≡ cannot_write_out))
+
+-- what a build read another time, and found other than before: the keys, or by BRZ the spill. Two numbers differ.
+abbrev pub IsChanged : BuildJob → List ℕ → Type 0
+IsChanged job text = ((first : ℕ) × (again : ℕ) × IsChangeBy job.algorithm first again × (text ≡ keys_changed job.keys first again))
+    ⊎ ((offset : ℕ) × (expected : ℕ) × (found : ℕ) × UsesSpill job.algorithm × (expected ≢ found) × (text ≡ spill_damaged job.dir offset expected found))
 
 -- the message of a build that goes with a status and the count of out before and now
 pub record IsBuildMessage (job : BuildJob) (before now status : ℕ) (text : List ℕ) : Type 0 where
   pub done : status ≡ 0 → (s : Summary) × (text ≡ built_message job s)
-  pub cored : status ≡ 1 → text ≡ no_seed
+  pub cored : status ≡ 1 → (reason : Reason) × IsReasonBy job.algorithm reason × (text ≡ reason_message reason)
   pub read : status ≡ 4 → text ≡ cannot_read job.keys
-  pub write : status ≡ 5 → ((now ≡ before) × (text ≡ cannot_write job.function)) ⊎ (Rose before now × (text ≡ cannot_write_out))
+  pub write : status ≡ 5 → IsUnwritten job before now text
   pub memory : status ≡ 6 → text ≡ out_of_memory
-  pub changed : status ≡ 7 → (first : ℕ) × (again : ℕ) × IsChange first again × (text ≡ keys_changed job.keys first again)
+  pub changed : status ≡ 7 → IsChanged job text
   pub keys : status ≡ 8 → (text ≡ no_keys job.keys) ⊎ (text ≡ too_many_keys job.keys) ⊎ ((line : ℕ) × (text ≡ line_too_long job.keys line))
 
 -- that of a query, after its notes
@@ -146,13 +208,14 @@ pub record IsQueryMessage (job : QueryJob) (status : ℕ) (text : List ℕ) : Ty
   pub memory : status ≡ 6 → text ≡ out_of_memory
   pub keys : status ≡ 8 → (text ≡ too_many_keys job.keys) ⊎ ((line : ℕ) × (text ≡ line_too_long job.keys line))
 
--- a query that was cut short: err got the notes of the keys that were answered, and the message of the fault
+-- a query that a fault cut short, or for which memory ran out: err got the notes of the keys that were answered, and the message
 pub record IsCutShort (files : Files) (status : ℕ) (out_old out_new err_old err_new : Option (List ℕ)) (err_before err_now : ℕ) (job : QueryJob) : Type 0 where
   pub notes : List ℕ
   pub text : List ℕ
-  pub message : IsQueryMessage job status text
   pub says : Says (notes ++ text) err_old err_new err_before err_now
-  pub answered : AnsweredPart files out_old out_new notes job
+  pub read : status ≡ 4 → StoppedReading files out_old out_new notes text job
+  pub write : status ≡ 5 → StoppedWriting files out_old out_new notes text job
+  pub memory : status ≡ 6 → GotNothing out_old out_new notes × (text ≡ out_of_memory)
 
 -- that of a text that is printed
 pub record IsPrintMessage (status : ℕ) (text : List ℕ) : Type 0 where
@@ -172,3 +235,4 @@ IsMessage (Ok Help) before now status text = IsPrintMessage status text
 IsMessage (Ok Version) before now status text = IsPrintMessage status text
 IsMessage (Ok (Build job)) before now status text = IsBuildMessage job before now status text
 IsMessage (Ok (Query job)) before now status text = IsQueryMessage job status text
+IsMessage (Ok (Test job)) before now status text = IsTestMessage job before now status text

@@ -40,6 +40,7 @@ pub(crate) fn ask_keys<D: Disk, O: Sink, E: Sink>(
     notes: &mut Notes,
 ) -> Result<Tally, QueryStop>
     ensures files { D.files disk.new ≡ D.files disk.old }
+    ensures spilled { D.spilled disk.new ≡ D.spilled disk.old }
     ensures cause { HasQueryStopCause (D.read_faults disk.old) (D.read_faults disk.new) (D.write_faults disk.old) (D.write_faults disk.new) (O.faults out.old) (O.faults out.new) result }
     ensures memory { result ≡ Err QueryStop.Memory → O.written out.new ≡ O.written out.old }
     ensures sent { O.waits out.old ≡ 0 → IsSent (O.waits out.new) (O.faults out.old) (O.faults out.new) }

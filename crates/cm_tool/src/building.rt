@@ -1,38 +1,42 @@
 //! Builds.
-ghost use Rattle.std.specs.Prelude.{◌≡◌, ◌≢◌, ◌<◌, ◌≤◌, ◌⊎◌, ◌↔◌, ◌^◌, ℕ, List, [], Option, None, Some, Ok, IfOk, IfErr};
+ghost use Rattle.std.specs.Prelude.{◌≡◌, ◌≢◌, ◌<◌, ◌≤◌, ◌⊎◌, ◌↔◌, ◌^◌, ℕ, List, Option, None, Some, Ok, IfOk, IfErr};
 ghost use Rattle.std.specs.Option.{ForSome};
 ghost use Rattle.cm_dump.specs.Functions.{IsFunction};
-ghost use Rattle.cm_outer.specs.Causes.{IsSent};
-ghost use Rattle.cm_outer.specs.Files.{file_at, with_file};
+ghost use Rattle.cm_outer.specs.Causes.{HasCause, IsSent};
+ghost use Rattle.cm_outer.specs.Files.{file_at};
+ghost use Rattle.cm_outer.specs.Writing.{Writes};
 ghost use Rattle.cm_tool.specs.Ends.{Says};
+ghost use Rattle.cm_tool.specs.Faults.{HasStopForm, reason_of, shown_core, shown_overfull, stop_from_key};
 ghost use Rattle.cm_tool.specs.Jobs.{seeds_of};
-ghost use Rattle.cm_tool.specs.Leaves.{GotReport, HasChanged, HasKeptOut, HasOutCause, HasStopCause, IsFunctionOf, IsOutCause, IsRefused, KeepsOut, Leaves, StopsFor, stop_from_key, text_of};
-ghost use Rattle.cm_tool.specs.Outcome.{job_outcome};
-ghost use Rattle.cm_tool.specs.Run.{IsBuildMessage, IsCored, IsStatus, Reaches, ReportedPart, SavedNumbers, SavedPart, TookFirst};
+ghost use Rattle.cm_tool.specs.Leaves.{GotReport, HasKeptOut, HasOutCause, HasStopCause, IsFunctionOf, IsOutCause, IsRefused, KeepsOut, Leaves, StopsFor};
+ghost use Rattle.cm_tool.specs.Outcome.{job_outcome, keys_in};
+ghost use Rattle.cm_tool.specs.Run.{FailedSpill, IsBuildMessage, IsCored, IsEmptied, IsStatus, KeysSpilled, LacksFile, Reaches, ReportedPart, SavedNumbers, SavedPart, TookFirst};
+ghost use Rattle.cm_tool.specs.Spills.{HasSpilled, UnlessSpilled};
 ghost use Rattle.cm_words.specs.Limits.{IsBuild};
 ghost use Rattle.cm_words.specs.declared.jobs.Job.TheVariants.{Build};
 
 use crate::built::{Summary, sum_up};
+use crate::fault::FuncFault;
 use crate::functions::func_of;
 use crate::laws::saved_numbers;
+use crate::plan::plan_of;
 use crate::printing::send_text;
 use crate::report::{report, say_built};
-use crate::stop::Stop;
+use crate::stop::{Reason, Stop};
 use crate::storing::store;
 use arrayvec::ArrayVec;
-use cm_algo::BuildFault;
+use cm_brz::write_overfull;
 use cm_dump::Func;
 use cm_keys::Keys;
 use cm_outer::{Disk, DiskFault, Failed, KeyFault, Sink};
-use cm_peel::rest_is_core;
-use cm_witness::Certificate;
+use cm_witness::{Certificate, Pair};
 use cm_words::BuildJob;
 use std::alloc::Global;
 use std::marker::Brand;
 use std::sync::ledger::Blank;
 
 /// So many seeds, from the first on.
-fn seeds(first: u32, count: u32) -> ArrayVec<u32, 1000>
+pub(crate) fn seeds(first: u32, count: u32) -> ArrayVec<u32, 1000>
     requires room { count ≤ 1000 }
     ensures { result.items ≡ seeds_of first count }
 {
@@ -54,36 +58,85 @@ fn stop_of_key(fault: KeyFault) -> Stop
     }
 }
 
-/// Writes a certificate to out and sends it on, which stops a build.
-fn show<O: Sink>(certificate: &Certificate, out: &mut O) -> Stop
-    ensures shown { GotReport (text_of certificate.now) (O.written out.old) (O.written out.new) result }
-    ensures cause { IsOutCause (O.faults out.old) (O.faults out.new) result }
-    ensures sent { IsSent (O.waits out.new) (O.faults out.old) (O.faults out.new) }
+/// Sends on a report that was written, which stops a build.
+fn end_report<O: Sink>(written: Result<(), Failed>, reason: Reason, out: &mut O) -> Stop
+    ensures shown { (report : List ℕ) (old : Option (List ℕ)) → Writes old (O.written out.old) report written → GotReport (record { reason = reason; report = report }) old (O.written out.new) result }
+    ensures cause { (before : ℕ) → HasCause before (O.faults out.old) written → IsOutCause before (O.faults out.new) result }
+    ensures sent { (before : ℕ) → HasCause before (O.faults out.old) written → IsSent (O.waits out.new) before (O.faults out.new) }
 {
-    let written = certificate.write(out);
     match send_text(written, out) {
-        Ok(()) => Stop::Cored,
+        Ok(()) => Stop::Refused(reason),
         Err(Failed) => Stop::WriteOut,
     }
 }
 
-/// Why a refused build stops a job. A certificate is written to out first.
-fn stop_of<O: Sink>(fault: BuildFault, out: &mut O) -> Stop
+/// What a certificate shows: no seed works for the keys, or for those of its bucket.
+fn reason_for(certificate: &Certificate) -> Reason
+    ensures reason { result ≡ reason_of certificate.now.place }
+{
+    match certificate.place {
+        None => Reason::NoSeed,
+        Some(place) => Reason::NoSeedFor {
+            bucket: place.bucket,
+        },
+    }
+}
+
+/// Writes a certificate to out and sends it on, which stops a build.
+fn show_core<O: Sink>(certificate: &Certificate, out: &mut O) -> Stop
+    ensures shown { GotReport (shown_core certificate.now) (O.written out.old) (O.written out.new) result }
+    ensures cause { IsOutCause (O.faults out.old) (O.faults out.new) result }
+    ensures sent { IsSent (O.waits out.new) (O.faults out.old) (O.faults out.new) }
+{
+    let reason = reason_for(certificate);
+    let written = certificate.write(out);
+    end_report(written, reason, out)
+}
+
+/// Writes the report on an overfull bucket to out and sends it on, which stops a build.
+fn show_overfull<O: Sink>(seed: u32, bucket: u32, count: u32, equal: &[Pair], out: &mut O) -> Stop
+    ensures shown { GotReport (shown_overfull seed bucket count equal.now) (O.written out.old) (O.written out.new) result }
+    ensures cause { IsOutCause (O.faults out.old) (O.faults out.new) result }
+    ensures sent { IsSent (O.waits out.new) (O.faults out.old) (O.faults out.new) }
+{
+    let written = write_overfull(seed, bucket, count, equal, out);
+    end_report(written, Reason::NoSplit, out)
+}
+
+/// Why a fault stops a job. A report is written to out first.
+pub(crate) fn stop_of<O: Sink>(fault: FuncFault, out: &mut O) -> Stop
     ensures stops { StopsFor fault (O.written out.old) (O.written out.new) result }
     ensures cause { IsOutCause (O.faults out.old) (O.faults out.new) result }
     ensures out { KeepsOut (O.written out.old) (O.written out.new) result }
     ensures sent { O.waits out.old ≡ 0 → IsSent (O.waits out.new) (O.faults out.old) (O.faults out.new) }
 {
     match fault {
-        BuildFault::Memory => Stop::Memory,
-        BuildFault::NoKeys => Stop::NoKeys,
-        BuildFault::Cored(certificate) => show(&certificate, out),
-        BuildFault::Key(fault) => stop_of_key(fault),
-        BuildFault::Changed { first, now } => Stop::Changed { first, now },
+        FuncFault::Memory => Stop::Memory,
+        FuncFault::NoKeys => Stop::NoKeys,
+        FuncFault::Cored(certificate) => show_core(&certificate, out),
+        FuncFault::Overfull {
+            seed,
+            bucket,
+            count,
+            equal,
+        } => show_overfull(seed, bucket, count, &equal, out),
+        FuncFault::Key(fault) => stop_of_key(fault),
+        FuncFault::Changed { first, now } => Stop::Changed { first, now },
+        FuncFault::Spill => Stop::Spill,
+        FuncFault::SpillDamaged {
+            offset,
+            expected,
+            found,
+        } => Stop::SpillDamaged {
+            offset,
+            expected,
+            found,
+        },
     }
 }
 
-/// Builds the function of a keys file. Out gets the report of a build of which no seed gives a function.
+/// Builds the function of a keys file, by BRZ with a spill that is taken once the keys file is open. Out gets the report on keys that have
+/// none.
 fn function_of<D: Disk, O: Sink>(
     alloc: Global,
     job: &BuildJob,
@@ -94,9 +147,11 @@ fn function_of<D: Disk, O: Sink>(
     ensures files { D.files disk.new ≡ D.files disk.old }
     ensures cause { HasStopCause (D.read_faults disk.old) (D.read_faults disk.new) (D.write_faults disk.old) (D.write_faults disk.new) result }
     ensures made { IfOk result (λ f. ForSome (D.files disk.old) (λ files. (bytes : List ℕ) × (file_at files job.now.keys ≡ Some bytes) × IsFunctionOf job.now bytes f)) }
+    ensures spilled { IfOk result (λ f. ForSome (D.files disk.old) (λ files. (bytes : List ℕ) × (file_at files job.now.keys ≡ Some bytes) × HasSpilled f (keys_in job.now.first bytes).keys (D.spilled disk.old) (D.spilled disk.new))) }
+    ensures unspilled { UnlessSpilled job.now.algorithm (D.spilled disk.new ≡ D.spilled disk.old) }
     ensures valid { IfOk result IsFunction }
     ensures refused { IfErr result (λ stop. ForSome (D.files disk.old) (λ files. IsRefused job.now files (O.written out.old) (O.written out.new) stop)) }
-    ensures changed { IfErr result HasChanged }
+    ensures form { IfErr result (HasStopForm job.now.algorithm) }
     ensures out { HasKeptOut (O.written out.old) (O.written out.new) result }
     ensures out_cause { HasOutCause (O.faults out.old) (O.faults out.new) result }
     ensures sent { O.waits out.old ≡ 0 → IsSent (O.waits out.new) (O.faults out.old) (O.faults out.new) }
@@ -108,11 +163,13 @@ fn function_of<D: Disk, O: Sink>(
     };
     let mut keys = Keys::new(reader, job.first);
     let tried = seeds(job.seed, job.count);
-    let outcome = func_of::<Keys<D::Reader>, Brand>(
+    let outcome = func_of::<Keys<D::Reader>, D, Brand>(
         alloc,
-        job,
-        &mut keys,
+        &plan_of(job),
         tried.as_slice(),
+        &job.dir,
+        &mut keys,
+        disk,
         Blank::new(1),
     );
     disk.shut(keys.into_source());
@@ -132,7 +189,9 @@ fn build_file<D: Disk, O: Sink>(
     requires job { IsBuild job.now }
     ensures cause { HasStopCause (D.read_faults disk.old) (D.read_faults disk.new) (D.write_faults disk.old) (D.write_faults disk.new) result }
     ensures leaves { Leaves job.now (D.files disk.old) (D.files disk.new) (O.written out.old) (O.written out.new) result }
-    ensures changed { IfErr result HasChanged }
+    ensures spilled { IfOk result (λ _. ForSome (D.files disk.old) (λ files. KeysSpilled files (D.spilled disk.old) (D.spilled disk.new) job.now)) }
+    ensures unspilled { UnlessSpilled job.now.algorithm (D.spilled disk.new ≡ D.spilled disk.old) }
+    ensures form { IfErr result (HasStopForm job.now.algorithm) }
     ensures out { HasKeptOut (O.written out.old) (O.written out.new) result }
     ensures out_cause { HasOutCause (O.faults out.old) (O.faults out.new) result }
     ensures sent { O.waits out.old ≡ 0 → IsSent (O.waits out.new) (O.faults out.old) (O.faults out.new) }
@@ -157,8 +216,7 @@ pub(crate) fn run_build<D: Disk, O: Sink, E: Sink>(
     err: &mut E,
 ) -> u8
     requires job { IsBuild job.now }
-    ensures status { IsStatus result }
-    ensures known { (result ≢ 2) × (result ≢ 3) }
+    ensures status { IsStatus (Ok (Build job.now)) result }
     ensures read { D.read_faults disk.old < 2 ^ 63 → ((result ≡ 4) ↔ (D.read_faults disk.old < D.read_faults disk.new)) }
     ensures write { D.write_faults disk.old < 2 ^ 63 → O.faults out.old < 2 ^ 63 →
         ((result ≡ 5) ↔ ((D.write_faults disk.old < D.write_faults disk.new) ⊎ (O.faults out.old < O.faults out.new))) }
@@ -167,12 +225,16 @@ pub(crate) fn run_build<D: Disk, O: Sink, E: Sink>(
     ensures first { result ≡ 0 → ForSome (D.files disk.old) (λ files. TookFirst files job.now) }
     ensures cored { result ≡ 1 → ForSome (D.files disk.old) (λ files. IsCored files job.now) }
     ensures numbers { result ≡ 0 → ForSome (D.files disk.old) (λ files. SavedNumbers files (D.files disk.new) job.now) }
+    ensures spilled { result ≡ 0 → ForSome (D.files disk.old) (λ files. KeysSpilled files (D.spilled disk.old) (D.spilled disk.new) job.now) }
+    ensures unspilled { UnlessSpilled job.now.algorithm (D.spilled disk.new ≡ D.spilled disk.old) }
     ensures unchanged { ForSome (D.files disk.old) (λ _. result ≢ 7) }
-    ensures missing { ForSome (D.files disk.old) (λ files. job_outcome files (Ok (Build job.now)) ≡ None → (result ≡ 4) ⊎ (result ≡ 6)) }
+    ensures missing { ForSome (D.files disk.old) (λ files. job_outcome files (Ok (Build job.now)) ≡ None →
+        LacksFile result (D.files disk.old) (D.files disk.new) (O.written out.old) (O.written out.new)) }
     ensures kept { result ≢ 0 → result ≢ 5 → result ≢ 6 → D.files disk.new ≡ D.files disk.old }
     ensures part { result ≡ 5 → ForSome (D.files disk.old) (λ files. SavedPart files (D.files disk.old) (D.files disk.new) (O.written out.old) (O.written out.new) job.now
-        ⊎ ReportedPart files (D.files disk.old) (D.files disk.new) (O.written out.old) (O.written out.new) job.now) }
-    ensures memory { result ≡ 6 → (D.files disk.new ≡ D.files disk.old) ⊎ (D.files disk.new ≡ with_file job.now.function [] (D.files disk.old)) }
+        ⊎ ReportedPart files (D.files disk.old) (D.files disk.new) (O.written out.old) (O.written out.new) job.now
+        ⊎ FailedSpill (D.files disk.old) (D.files disk.new) (O.written out.old) (O.written out.new) job.now) }
+    ensures memory { result ≡ 6 → (D.files disk.new ≡ D.files disk.old) ⊎ IsEmptied (D.files disk.old) (D.files disk.new) job.now }
     ensures out { result ≢ 1 → result ≢ 5 → O.written out.new ≡ O.written out.old }
     ensures sent { O.waits out.old ≡ 0 → IsSent (O.waits out.new) (O.faults out.old) (O.faults out.new) }
     ensures err_sent { E.waits err.old ≡ 0 → IsSent (E.waits err.new) (E.faults err.old) (E.faults err.new) }
@@ -184,10 +246,12 @@ pub(crate) fn run_build<D: Disk, O: Sink, E: Sink>(
             say_built(job, summary, err);
             0
         }
-        Err(stop) => {
-            // A law, for the proof alone.
-            rest_is_core();
-            report(job, stop, err)
-        }
+        Err(stop) => report(
+            stop,
+            job.keys.as_str(),
+            job.function.as_str(),
+            job.dir.as_str(),
+            err,
+        ),
     }
 }

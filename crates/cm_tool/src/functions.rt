@@ -2,21 +2,27 @@
 ghost use Rattle.std.specs.Prelude.{◌≡◌, ◌<◌, ◌≤◌, length, slice_index, count_by, IfOk, IfErr};
 ghost use Rattle.std.specs.Option.{ForSome};
 ghost use Rattle.cm_algo.specs.Fails.{FailsBuild, HasBuildCause, HasForm, HasNumbers};
+ghost use Rattle.cm_algorithm.specs.declared.algorithm.Algorithm.TheVariants.{Brz};
 ghost use Rattle.cm_dump.specs.Functions.{IsFunction};
 ghost use Rattle.cm_spec.specs.Cells.{is_busy};
 ghost use Rattle.cm_spec.specs.Rule.{IsRatio};
-ghost use Rattle.cm_tool.specs.Jobs.{rule_by};
+ghost use Rattle.cm_tool.specs.Faults.{FailsFunc, HasFuncCause, HasStopForm, stop_for};
 ghost use Rattle.cm_tool.specs.Leaves.{IsBuiltFrom, IsFuncOf};
-ghost use Rattle.cm_words.specs.Limits.{IsBuild};
+ghost use Rattle.cm_tool.specs.Plans.{IsPlan};
+ghost use Rattle.cm_tool.specs.Spills.{HasSpilled, UnlessSpilled};
 
+use crate::fault::{FuncFault, fault_of_brz};
+use crate::plan::Plan;
 use cm_algo::{BuildFault, Built, Scheme, build};
 use cm_algorithm::Algorithm;
 use cm_bdz::{Bdz, BdzPh, BdzPhScheme, BdzScheme, PartsFault};
+use cm_brz::build::brz;
+use cm_brz::verdicts;
 use cm_chm::{Chm, ChmScheme};
 use cm_dump::Func;
 use cm_graph::{Steps, Xored};
-use cm_outer::KeyPass;
-use cm_words::BuildJob;
+use cm_outer::{Disk, DiskFault, KeyPass};
+use cm_words::Text;
 use std::alloc::Global;
 use std::sync::ledger::{Blank, Ledger};
 
@@ -52,46 +58,118 @@ fn build_by<S: Scheme<K>, P: KeyPass, const K: usize, L: Ledger>(
     }
 }
 
-/// Builds the function that a job asks for.
-pub(crate) fn func_of<P: KeyPass, L: Ledger>(
+/// Builds by BRZ over a pass, with steps that nobody reads. The keys wait in a spill in the directory, which the disk gets back whatever
+/// comes of the build.
+fn brz_by<P: KeyPass, D: Disk, L: Ledger>(
     alloc: Global,
-    job: &BuildJob,
-    keys: &mut P,
+    plan: &Plan,
     seeds: &[u32],
+    dir: &str,
+    keys: &mut P,
+    disk: &mut D,
     blank: Blank,
-) -> Result<Func, BuildFault>
+) -> Result<Func, FuncFault>
     requires name { blank.name ≡ L.name }
     requires parts { blank.parts ≡ L.parts }
     requires some { 0 < blank.parts }
-    requires job { IsBuild job.now }
+    requires plan { IsPlan plan.now }
+    requires by { plan.now.algorithm ≡ Brz }
     requires seeds { 0 < length seeds.now }
     ensures told { P.told keys.new ≡ P.told keys.old }
-    ensures cause { HasBuildCause (P.faults keys.old) (P.faults keys.new) result }
-    ensures made { IfOk result (λ f. ForSome (P.told keys.old) (λ told. IsFuncOf job.now.algorithm job.now.b told job.now.c seeds.now f)) }
+    ensures files { D.files disk.new ≡ D.files disk.old }
+    ensures read_faults { D.read_faults disk.new ≡ D.read_faults disk.old }
+    ensures cause { HasFuncCause (P.faults keys.old) (P.faults keys.new) (D.write_faults disk.old) (D.write_faults disk.new) result }
+    ensures made { IfOk result (λ f. ForSome (D.files disk.old) (λ _. ForSome (P.told keys.old) (λ told. IsFuncOf Brz plan.now.b told plan.now.c seeds.now f))) }
+    ensures spilled { IfOk result (λ f. ForSome (D.files disk.old) (λ _. ForSome (P.told keys.old) (λ told. HasSpilled f told.keys (D.spilled disk.old) (D.spilled disk.new)))) }
     ensures valid { IfOk result IsFunction }
-    ensures fault { IfErr result (λ e. ForSome (P.told keys.old) (λ told. FailsBuild (rule_by job.now.algorithm) told job.now.c seeds.now e)) }
-    ensures numbers { IfErr result (HasNumbers (P.place keys.new)) }
-    ensures certificate { IfErr result (HasForm job.now.algorithm (slice_index seeds.now 0)) }
+    ensures fault { IfErr result (λ e. ForSome (D.files disk.old) (λ _. ForSome (P.told keys.old) (λ told. FailsFunc Brz plan.now.b told plan.now.c seeds.now e))) }
+    ensures form { IfErr result (λ e. HasStopForm Brz (stop_for e)) }
 {
-    match job.algorithm {
+    // Laws, for the proof alone.
+    verdicts();
+    let spill = match disk.spill(dir) {
+        Ok(spill) => spill,
+        Err(DiskFault::Memory) => return Err(FuncFault::Memory),
+        Err(DiskFault::Failed) => return Err(FuncFault::Spill),
+    };
+    let mut steps = Steps::<L>::new(blank);
+    let (built, spill) = brz(
+        alloc,
+        keys,
+        plan.c,
+        plan.b,
+        seeds,
+        plan.buffer,
+        spill,
+        &mut steps,
+    );
+    disk.give_back(spill);
+    match built {
+        Ok(function) => {
+            // The number of buckets shows that the function is valid.
+            let _buckets = function.buckets();
+            Ok(Func::Brz(function))
+        }
+        Err(fault) => Err(fault_of_brz(fault)),
+    }
+}
+
+/// Builds the function of the keys of a pass by a plan. BRZ's keys wait in a spill in the directory, which is taken from the disk first and
+/// given back on every way out.
+pub(crate) fn func_of<P: KeyPass, D: Disk, L: Ledger>(
+    alloc: Global,
+    plan: &Plan,
+    seeds: &[u32],
+    dir: &Text,
+    keys: &mut P,
+    disk: &mut D,
+    blank: Blank,
+) -> Result<Func, FuncFault>
+    requires name { blank.name ≡ L.name }
+    requires parts { blank.parts ≡ L.parts }
+    requires some { 0 < blank.parts }
+    requires plan { IsPlan plan.now }
+    requires seeds { 0 < length seeds.now }
+    ensures told { P.told keys.new ≡ P.told keys.old }
+    ensures files { D.files disk.new ≡ D.files disk.old }
+    ensures read_faults { D.read_faults disk.new ≡ D.read_faults disk.old }
+    ensures cause { HasFuncCause (P.faults keys.old) (P.faults keys.new) (D.write_faults disk.old) (D.write_faults disk.new) result }
+    ensures made { IfOk result (λ f. ForSome (D.files disk.old) (λ _. ForSome (P.told keys.old) (λ told. IsFuncOf plan.now.algorithm plan.now.b told plan.now.c seeds.now f))) }
+    ensures spilled { IfOk result (λ f. ForSome (D.files disk.old) (λ _. ForSome (P.told keys.old) (λ told. HasSpilled f told.keys (D.spilled disk.old) (D.spilled disk.new)))) }
+    ensures unspilled { UnlessSpilled plan.now.algorithm (D.spilled disk.new ≡ D.spilled disk.old) }
+    ensures valid { IfOk result IsFunction }
+    ensures fault { IfErr result (λ e. ForSome (D.files disk.old) (λ _. ForSome (P.told keys.old) (λ told. FailsFunc plan.now.algorithm plan.now.b told plan.now.c seeds.now e))) }
+    ensures form { IfErr result (λ e. HasStopForm plan.now.algorithm (stop_for e)) }
+{
+    match plan.algorithm {
         Algorithm::Chm => {
-            let built = build_by::<_, P, 2, L>(alloc, &ChmScheme {}, keys, job.c, seeds, blank)?;
+            let built = build_by::<_, P, 2, L>(alloc, &ChmScheme {}, keys, plan.c, seeds, blank)?;
             Ok(Func::Chm(Chm::from_built(built)))
         }
         Algorithm::Bdz => {
-            let built = build_by::<_, P, 3, L>(alloc, &BdzScheme {}, keys, job.c, seeds, blank)?;
-            match Bdz::from_built(alloc, built, job.b) {
+            let built = build_by::<_, P, 3, L>(alloc, &BdzScheme {}, keys, plan.c, seeds, blank)?;
+            match Bdz::from_built(alloc, built, plan.b) {
                 Ok(function) => Ok(Func::Bdz(function)),
-                Err(PartsFault::Memory) => Err(BuildFault::Memory),
+                Err(PartsFault::Memory) => Err(FuncFault::Memory),
                 // A build has as many cells that are not idle as there are keys.
                 Err(PartsFault::BadCount) => unreachable!(),
             }
         }
         Algorithm::BdzPh => {
-            let built = build_by::<_, P, 3, L>(alloc, &BdzPhScheme {}, keys, job.c, seeds, blank)?;
+            let built = build_by::<_, P, 3, L>(alloc, &BdzPhScheme {}, keys, plan.c, seeds, blank)?;
             Ok(Func::BdzPh(BdzPh::from_built(built)))
         }
-        // No words ask for a build by BRZ.
-        Algorithm::Brz => unreachable!(),
+        Algorithm::Brz => match brz_by::<P, D, L>(
+            alloc,
+            plan,
+            seeds,
+            dir.as_str(),
+            keys,
+            disk,
+            blank,
+        ) {
+            Ok(function) => Ok(function),
+            Err(fault) => Err(fault),
+        },
     }
 }

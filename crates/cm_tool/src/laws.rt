@@ -8,6 +8,7 @@ ghost use Rattle.cm_words.specs.Limits.{IsBuild};
 ghost use Rattle.cm_words.specs.declared.jobs.BuildJob.{BuildJob};
 
 use cm_bdz::answers_apart;
+use cm_brz::numbers_apart;
 use cm_chm::answers_numbers;
 use cm_dump::laws::dumps_spell;
 use cm_peel::empty_rest;
@@ -18,6 +19,7 @@ pub(crate) fn saved_numbers()
 {
     answers_numbers();
     answers_apart();
+    numbers_apart();
     dumps_spell();
     empty_rest();
 }

@@ -4,14 +4,19 @@
 mod asking;
 mod building;
 mod built;
+mod fault;
 mod functions;
 mod laws;
 mod loading;
+mod plan;
 mod printing;
 mod querying;
+mod reloading;
 mod report;
 mod stop;
 mod storing;
+mod summing;
+mod testing;
 mod top;
 
 pub use crate::printing::{print_help, print_version};

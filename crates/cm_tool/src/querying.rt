@@ -6,7 +6,7 @@ ghost use Rattle.cm_outer.specs.Noting.{Noted};
 ghost use Rattle.cm_tool.specs.Asked.{EndsQuery, HasQueryStopCause};
 ghost use Rattle.cm_tool.specs.Ends.{Says};
 ghost use Rattle.cm_tool.specs.Outcome.{job_outcome};
-ghost use Rattle.cm_tool.specs.Run.{IsCutShort, IsQueryMessage, IsStatus, Reaches};
+ghost use Rattle.cm_tool.specs.Run.{IsCutShort, IsQueryMessage, IsStatus, LacksFile, Reaches};
 ghost use Rattle.cm_tool.specs.declared.stop.QueryStop.{QueryStop};
 ghost use Rattle.cm_words.specs.declared.jobs.Job.TheVariants.{Query};
 
@@ -29,6 +29,7 @@ fn answer_file<D: Disk, O: Sink, E: Sink>(
     notes: &mut Notes,
 ) -> Result<Tally, QueryStop>
     ensures files { D.files disk.new ≡ D.files disk.old }
+    ensures spilled { D.spilled disk.new ≡ D.spilled disk.old }
     ensures cause { HasQueryStopCause (D.read_faults disk.old) (D.read_faults disk.new) (D.write_faults disk.old) (D.write_faults disk.new) (O.faults out.old) (O.faults out.new) result }
     ensures memory { result ≡ Err QueryStop.Memory → O.written out.new ≡ O.written out.old }
     ensures sent { O.waits out.old ≡ 0 → IsSent (O.waits out.new) (O.faults out.old) (O.faults out.new) }
@@ -52,15 +53,16 @@ pub(crate) fn run_query<D: Disk, O: Sink, E: Sink>(
     out: &mut O,
     err: &mut E,
 ) -> u8
-    ensures status { IsStatus result }
-    ensures known { (result ≢ 2) × (result ≢ 7) }
+    ensures status { IsStatus (Ok (Query job.now)) result }
     ensures files { D.files disk.new ≡ D.files disk.old }
+    ensures spilled { D.spilled disk.new ≡ D.spilled disk.old }
     ensures write_faults { D.write_faults disk.new ≡ D.write_faults disk.old }
     ensures read { D.read_faults disk.old < 2 ^ 63 → ((result ≡ 4) ↔ (D.read_faults disk.old < D.read_faults disk.new)) }
     ensures write { O.faults out.old < 2 ^ 63 → ((result ≡ 5) ↔ (O.faults out.old < O.faults out.new)) }
     ensures outcome { result ≢ 4 → result ≢ 5 → result ≢ 6 → ForSome (D.files disk.old) (λ files.
         Reaches (job_outcome files (Ok (Query job.now))) result (O.written out.old) (O.written out.new) (E.written err.old) (E.written err.new) (E.faults err.old) (E.faults err.new) (D.files disk.new)) }
-    ensures missing { ForSome (D.files disk.old) (λ files. job_outcome files (Ok (Query job.now)) ≡ None → (result ≡ 4) ⊎ (result ≡ 6)) }
+    ensures missing { ForSome (D.files disk.old) (λ files. job_outcome files (Ok (Query job.now)) ≡ None →
+        LacksFile result (D.files disk.old) (D.files disk.new) (O.written out.old) (O.written out.new)) }
     ensures memory { result ≡ 6 → O.written out.new ≡ O.written out.old }
     ensures sent { O.waits out.old ≡ 0 → IsSent (O.waits out.new) (O.faults out.old) (O.faults out.new) }
     ensures err_sent { E.waits err.old ≡ 0 → IsSent (E.waits err.new) (E.faults err.old) (E.faults err.new) }

@@ -4,10 +4,11 @@ ghost use Rattle.cm_outer.specs.Causes.{IsSent};
 ghost use Rattle.cm_outer.specs.Noting.{Noted};
 ghost use Rattle.cm_outer.specs.Writing.{joined};
 ghost use Rattle.cm_tool.specs.Ends.{Says, status_of, message_of, query_status_of, query_message_of, usage_status_of};
-ghost use Rattle.cm_tool.specs.Messages.{bad_dump, built, built_message, cannot_read, cannot_write_out, fault_place, fault_words, keys_changed, line_too_long, out_of_memory, too_many_keys, usage_message};
+ghost use Rattle.cm_tool.specs.Messages.{bad_dump, built, built_message, cannot_read, cannot_write_out, counted, fault_place, fault_words, keys_changed, line_too_long, out_of_memory, reason_message, spill_damaged, too_many_keys, usage_message};
 
 use crate::built::Summary;
-use crate::stop::{QueryStop, Stop};
+use crate::stop::{QueryStop, Reason, Stop};
+use cm_algorithm::Algorithm;
 use cm_dump::LoadFault;
 use cm_outer::{Notes, Sink};
 use cm_words::{BuildJob, QueryJob, UsageFault};
@@ -64,6 +65,16 @@ fn usage_status(fault: UsageFault) -> u8
     }
 }
 
+/// What is counted beside the keys.
+fn counted_by(algorithm: Algorithm) -> &'static [u8]
+    ensures word { result.now ≡ counted algorithm }
+{
+    match algorithm {
+        Algorithm::Chm | Algorithm::Bdz | Algorithm::BdzPh => b" cells ",
+        Algorithm::Brz => b" buckets ",
+    }
+}
+
 /// Says what function was built, where that is asked for.
 pub(crate) fn say_built<E: Sink>(job: &BuildJob, summary: Summary, err: &mut E)
     ensures says { Says (built_message job.now summary) (E.written err.old) (E.written err.new) (E.faults err.old) (E.faults err.new) }
@@ -80,7 +91,7 @@ pub(crate) fn say_built<E: Sink>(job: &BuildJob, summary: Summary, err: &mut E)
                 job.algorithm.name().as_bytes(),
                 b" keys ",
                 keys.format(summary.keys).as_bytes(),
-                b" cells ",
+                counted_by(job.algorithm),
                 cells.format(summary.cells).as_bytes(),
                 b" seed ",
                 seed.format(summary.seed).as_bytes(),
@@ -90,35 +101,49 @@ pub(crate) fn say_built<E: Sink>(job: &BuildJob, summary: Summary, err: &mut E)
     }
 }
 
-/// Says why a build stopped, and answers its status.
-pub(crate) fn report<E: Sink>(job: &BuildJob, stop: Stop, err: &mut E) -> u8
+/// Says why a build stopped, by the paths of its keys file and its function file and by the directory of its spill, and returns its status.
+pub(crate) fn report<E: Sink>(stop: Stop, keys: &str, function: &str, dir: &str, err: &mut E) -> u8
     ensures status { result ≡ status_of stop }
-    ensures says { Says (message_of job.now stop) (E.written err.old) (E.written err.new) (E.faults err.old) (E.faults err.new) }
+    ensures says { Says (message_of keys.now function.now dir.now stop) (E.written err.old) (E.written err.new) (E.faults err.old) (E.faults err.new) }
     ensures sent { IsSent (E.waits err.new) (E.faults err.old) (E.faults err.new) }
 {
     let mut notes = Notes::new();
-    explain(job, stop, err, &mut notes);
+    explain(
+        stop,
+        keys.as_bytes(),
+        function.as_bytes(),
+        dir.as_bytes(),
+        err,
+        &mut notes,
+    );
     status(stop)
 }
 
 /// Notes why a build stopped.
-fn explain<E: Sink>(job: &BuildJob, stop: Stop, err: &mut E, notes: &mut Notes)
-    ensures noted { Noted notes.old notes.new (E.written err.old) (E.written err.new) (E.faults err.old) (E.faults err.new) (message_of job.now stop) }
+fn explain<E: Sink>(
+    stop: Stop,
+    keys: &[u8],
+    function: &[u8],
+    dir: &[u8],
+    err: &mut E,
+    notes: &mut Notes,
+)
+    ensures noted { Noted notes.old notes.new (E.written err.old) (E.written err.new) (E.faults err.old) (E.faults err.new) (message_of keys.now function.now dir.now stop) }
     ensures sent { notes.new ≡ false → E.waits err.new ≡ 0 }
 {
-    let keys = job.keys.as_str().as_bytes();
     match stop {
-        Stop::Cored => {
-            notes.note_pieces(err, &[b"cmph: no seed of the list gives an empty core\n"]);
-        }
+        Stop::Refused(reason) => note_reason(reason, err, notes),
         Stop::Read => note_unread(keys, err, notes),
-        Stop::Write => {
-            let function = job.function.as_str().as_bytes();
-            notes.note_pieces(err, &[b"cmph: ", function, b": cannot write\n"]);
-        }
+        Stop::Write => notes.note_pieces(err, &[b"cmph: ", function, b": cannot write\n"]),
         Stop::WriteOut => note_out_fault(err, notes),
         Stop::Memory => note_want_of_memory(err, notes),
         Stop::Changed { first, now } => note_change(keys, first, now, err, notes),
+        Stop::Spill => notes.note_pieces(err, &[b"cmph: ", dir, b": cannot use the spill file\n"]),
+        Stop::SpillDamaged {
+            offset,
+            expected,
+            found,
+        } => note_damage(dir, offset, expected, found, err, notes),
         Stop::NoKeys => notes.note_pieces(err, &[b"cmph: ", keys, b": no keys\n"]),
         Stop::TooLong { line } => note_long_line(keys, line, err, notes),
         Stop::TooMany => note_many_keys(keys, err, notes),
@@ -130,11 +155,16 @@ fn status(stop: Stop) -> u8
     ensures status { result ≡ status_of stop }
 {
     match stop {
-        Stop::Cored => 1,
+        Stop::Refused(_) => 1,
         Stop::Read => 4,
-        Stop::Write | Stop::WriteOut => 5,
+        Stop::Write | Stop::WriteOut | Stop::Spill => 5,
         Stop::Memory => 6,
-        Stop::Changed { first: _, now: _ } => 7,
+        Stop::Changed { first: _, now: _ }
+        | Stop::SpillDamaged {
+            offset: _,
+            expected: _,
+            found: _,
+        } => 7,
         Stop::NoKeys | Stop::TooLong { line: _ } | Stop::TooMany => 8,
     }
 }
@@ -185,6 +215,32 @@ fn query_status(stop: QueryStop) -> u8
     }
 }
 
+/// Notes why there is no function of the keys.
+fn note_reason<E: Sink>(reason: Reason, err: &mut E, notes: &mut Notes)
+    ensures noted { Noted notes.old notes.new (E.written err.old) (E.written err.new) (E.faults err.old) (E.faults err.new) (reason_message reason) }
+    ensures sent { notes.new ≡ false → E.waits err.new ≡ 0 }
+{
+    match reason {
+        Reason::NoSeed => {
+            notes.note_pieces(err, &[b"cmph: no seed of the list gives an empty core\n"]);
+        }
+        Reason::NoSeedFor { bucket } => {
+            let mut buffer = Buffer::new();
+            let text = buffer.format(bucket).as_bytes();
+            notes.note_pieces(
+                err,
+                &[b"cmph: bucket ", text, b" has no seed with an empty core\n"],
+            );
+        }
+        Reason::NoSplit => {
+            notes.note_pieces(
+                err,
+                &[b"cmph: every split has a bucket with more than 255 keys\n"],
+            );
+        }
+    }
+}
+
 /// Notes want of memory.
 fn note_want_of_memory<E: Sink>(err: &mut E, notes: &mut Notes)
     ensures noted { Noted notes.old notes.new (E.written err.old) (E.written err.new) (E.faults err.old) (E.faults err.new) out_of_memory }
@@ -227,6 +283,40 @@ fn note_change<E: Sink>(file: &[u8], first: u32, again: u32, err: &mut E, notes:
             first_text,
             b", then ",
             again_text,
+            b"\n",
+        ],
+    );
+}
+
+/// Notes that the spill in a directory gave back another number than the expected one, at an offset.
+fn note_damage<E: Sink>(
+    dir: &[u8],
+    offset: u64,
+    expected: u64,
+    found: u64,
+    err: &mut E,
+    notes: &mut Notes,
+)
+    ensures noted { Noted notes.old notes.new (E.written err.old) (E.written err.new) (E.faults err.old) (E.faults err.new) (spill_damaged dir.now offset expected found) }
+    ensures sent { notes.new ≡ false → E.waits err.new ≡ 0 }
+{
+    let mut offset_buffer = Buffer::new();
+    let offset_text = offset_buffer.format(offset).as_bytes();
+    let mut expected_buffer = Buffer::new();
+    let expected_text = expected_buffer.format(expected).as_bytes();
+    let mut found_buffer = Buffer::new();
+    let found_text = found_buffer.format(found).as_bytes();
+    notes.note_pieces(
+        err,
+        &[
+            b"cmph: ",
+            dir,
+            b": spill damaged at ",
+            offset_text,
+            b": expected ",
+            expected_text,
+            b", found ",
+            found_text,
             b"\n",
         ],
     );

@@ -2,10 +2,21 @@
 
 use cm_dump::LoadFault;
 
+/// Why there is no function of the keys.
+#[derive(Clone, Copy, Debug, PartialEq, Eq)]
+pub(crate) enum Reason {
+    /// Under every seed the graph has a 2-core with an edge.
+    NoSeed,
+    /// By BRZ: so has the graph of the keys of this bucket, counted from 0.
+    NoSeedFor { bucket: u32 },
+    /// By BRZ: every seed leaves a bucket with more keys than one may have.
+    NoSplit,
+}
+
 /// What kept a build from its end.
 #[derive(Clone, Copy, Debug, PartialEq, Eq)]
 pub(crate) enum Stop {
-    /// Want of memory.
+    /// Out of memory.
     Memory,
     /// The keys file can't be opened, read or rewound.
     Read,
@@ -13,14 +24,27 @@ pub(crate) enum Stop {
     Write,
     /// Out can't be written.
     WriteOut,
-    /// Under every seed the graph has a 2-core with an edge.
-    Cored,
-    /// The first pass gave so many keys, and a later one so many.
-    Changed { first: u32, now: u32 },
+    /// The keys have no function. Out got the report.
+    Refused(Reason),
+    /// The first pass gave so many keys, and a later one so many; by BRZ these may be the keys of a bucket.
+    Changed {
+        first: u32,
+        now: u32,
+    },
+    /// The spill can't be made, written or read.
+    Spill,
+    /// What the spill gave back is not what was put into it: an offset in bytes, and the expected and the found number.
+    SpillDamaged {
+        offset: u64,
+        expected: u64,
+        found: u64,
+    },
     /// The keys file has no key.
     NoKeys,
     /// A line, counted from 1, has more bytes than a key.
-    TooLong { line: u32 },
+    TooLong {
+        line: u32,
+    },
     /// There are more keys than a function may have.
     TooMany,
 }

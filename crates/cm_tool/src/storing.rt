@@ -10,6 +10,7 @@ use cm_outer::{Disk, DiskFault, Failed};
 /// Makes the path hold the dump of a function.
 pub(crate) fn store<D: Disk>(path: &str, function: &Func, disk: &mut D) -> Result<(), DiskFault>
     ensures files { Stores path.now (dump_of function.now) (D.files disk.old) (D.files disk.new) result }
+    ensures spilled { D.spilled disk.new ≡ D.spilled disk.old }
     ensures read_faults { D.read_faults disk.new ≡ D.read_faults disk.old }
     ensures cause { HasDiskCause (D.write_faults disk.old) (D.write_faults disk.new) result }
 {

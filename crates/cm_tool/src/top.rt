@@ -2,25 +2,28 @@
 ghost use Rattle.std.specs.Prelude.{[], ◌≡◌, ◌≢◌, ◌<◌, ◌^◌, ◌⊎◌, ◌↔◌, ◌++◌, ℕ, List, None, map, string_bytes, take};
 ghost use Rattle.std.specs.Option.{ForSome};
 ghost use Rattle.cm_outer.specs.Causes.{IsSent};
-ghost use Rattle.cm_outer.specs.Files.{with_file};
 ghost use Rattle.cm_outer.specs.Writing.{then_bytes};
 ghost use Rattle.cm_tool.specs.Ends.{Says};
 ghost use Rattle.cm_tool.specs.Outcome.{outcome_of};
-ghost use Rattle.cm_tool.specs.Run.{IsStatus, ForBuild, ForQuery, ForText, IfBuild, UnlessBuild, UnlessJob, UnlessQuery, Reaches, TookFirst, SavedNumbers, IsCored, SavedPart, ReportedPart, IsCutShort, IsMessage};
+ghost use Rattle.cm_tool.specs.Run.{IsStatus, ForBuild, ForQuery, ForTest, ForText, IfBuild, IsEmptied, UnlessBrz, UnlessBuild, UnlessJob, UnlessQuery, UnlessTest, LacksFile, Reaches, TookFirst, SavedNumbers, KeysSpilled, IsCored, SavedPart, ReportedPart, FailedSpill, IsCutShort, IsMessage};
+ghost use Rattle.cm_tool.specs.TestEnds.{GotPrefix};
+ghost use Rattle.cm_tool.specs.Tested.{test_outcome};
 ghost use Rattle.cm_words.specs.Meaning.{job_of};
 
 use crate::building::run_build;
 use crate::printing::{end_of_text, print_help, print_version};
 use crate::querying::run_query;
 use crate::report::report_usage;
+use crate::testing::run_test;
 use cm_outer::{Disk, Sink};
 use cm_words::{Job, read_words};
 use std::alloc::Global;
 
 /// Does what the words of a command line ask for, and answers the status: 0 done; 1 no seed of the list gives a function, or a
 /// query met an unknown key or a repeated value; 2 the words ask for no job; 3 the function file is no dump; 4 a file
-/// can't be opened, read or rewound; 5 the function file can't be created, written or closed, or out can't be written; 6 want of
-/// memory; 7 the keys changed between passes; 8 no keys in a build, a line that is too long, or too many keys.
+/// can't be opened, read or rewound; 5 the function file can't be created, written or closed, the spill of a build by BRZ can't be made,
+/// written or read, or out can't be written; 6 out of memory; 7 the keys changed between passes, or the spill gave back other bytes; 8 no
+/// keys in a build, a line that is too long, or too many keys.
 pub fn run<D: Disk, O: Sink, E: Sink>(
     alloc: Global,
     words: &[String],
@@ -28,7 +31,8 @@ pub fn run<D: Disk, O: Sink, E: Sink>(
     out: &mut O,
     err: &mut E,
 ) -> u8
-    ensures status { IsStatus result }
+    // Arguments that ask for no job come to 2 or 6, and nothing else comes to 2. Help and version come to 0, 5 or 6.
+    ensures status { IsStatus (job_of (map string_bytes words.now)) result }
 
     // A count of reading rose exactly where the status is 4.
     ensures read { D.read_faults disk.old < 2 ^ 63 → ((result ≡ 4) ↔ (D.read_faults disk.old < D.read_faults disk.new)) }
@@ -42,36 +46,48 @@ pub fn run<D: Disk, O: Sink, E: Sink>(
         Reaches (outcome_of (map string_bytes words.now) files) result (O.written out.old) (O.written out.new) (E.written err.old) (E.written err.new) (E.faults err.old) (E.faults err.new) (D.files disk.new)) }
 
     // A build takes the first seed whose graph has an empty 2-core. It is refused if there is none, and its report shows the 2-core
-    // of the first seed.
+    // of the first seed. One by BRZ takes the first seed by which no bucket has more than 255 keys, and for each bucket with keys the
+    // first seed whose graph of these has an empty 2-core. It is refused if there is no such seed, for the split or for some bucket.
     ensures first { result ≡ 0 → ForSome (D.files disk.old) (λ files. ForBuild (job_of (map string_bytes words.now)) (TookFirst files)) }
     ensures cored { result ≡ 1 → ForSome (D.files disk.old) (λ files. ForBuild (job_of (map string_bytes words.now)) (IsCored files)) }
 
     // The function file then holds the dump of a function of the algorithm that was asked for. One by CHM answers each key with
-    // its number, one by BDZ gives the keys all numbers below theirs, and one by BDZ_PH distinct numbers below that of its cells.
+    // its number, one by BDZ or BRZ gives the keys all numbers below theirs, and one by BDZ_PH distinct numbers below that of its cells.
     ensures numbers { result ≡ 0 → ForSome (D.files disk.old) (λ files. ForBuild (job_of (map string_bytes words.now)) (SavedNumbers files (D.files disk.new))) }
 
-    // Told files never change between passes.
+    // The spill that a build by BRZ gave back has the records of the keys: each key once, with its line and its bucket. Nothing else that is
+    // asked for leaves a spill.
+    ensures spilled { result ≡ 0 → ForSome (D.files disk.old) (λ files. ForBuild (job_of (map string_bytes words.now)) (KeysSpilled files (D.spilled disk.old) (D.spilled disk.new))) }
+    ensures unspilled { UnlessBrz (job_of (map string_bytes words.now)) (D.spilled disk.new ≡ D.spilled disk.old) }
+
+    // Known files never change between passes, and neither does the spill.
     ensures unchanged { ForSome (D.files disk.old) (λ _. result ≢ 7) }
 
-    // A file that isn't there can't be read.
-    ensures missing { ForSome (D.files disk.old) (λ files. outcome_of (map string_bytes words.now) files ≡ None → (result ≡ 4) ⊎ (result ≡ 6)) }
+    // A file that isn't there can't be read, and nothing is done.
+    ensures missing { ForSome (D.files disk.old) (λ files. outcome_of (map string_bytes words.now) files ≡ None →
+        LacksFile result (D.files disk.old) (D.files disk.new) (O.written out.old) (O.written out.new)) }
 
-    // What a refusal leaves of the files. Only a build changes them.
+    // What a refusal leaves of the files. Only a build changes them, and only if the outcome saves a function. A spill that fails leaves
+    // them as before.
     ensures kept { result ≢ 0 → result ≢ 5 → result ≢ 6 → D.files disk.new ≡ D.files disk.old }
     ensures part { result ≡ 5 → ForSome (D.files disk.old) (λ files. ForBuild (job_of (map string_bytes words.now)) (λ job.
         SavedPart files (D.files disk.old) (D.files disk.new) (O.written out.old) (O.written out.new) job
-        ⊎ ReportedPart files (D.files disk.old) (D.files disk.new) (O.written out.old) (O.written out.new) job)) }
-    ensures memory { result ≡ 6 → (D.files disk.new ≡ D.files disk.old) ⊎ IfBuild (job_of (map string_bytes words.now)) (λ job. D.files disk.new ≡ with_file job.function [] (D.files disk.old)) }
-    ensures asked { UnlessBuild (job_of (map string_bytes words.now)) ((D.files disk.new ≡ D.files disk.old) × (D.write_faults disk.new ≡ D.write_faults disk.old)) }
+        ⊎ ReportedPart files (D.files disk.old) (D.files disk.new) (O.written out.old) (O.written out.new) job
+        ⊎ FailedSpill (D.files disk.old) (D.files disk.new) (O.written out.old) (O.written out.new) job)) }
+    ensures memory { result ≡ 6 → (D.files disk.new ≡ D.files disk.old) ⊎ IfBuild (job_of (map string_bytes words.now)) (IsEmptied (D.files disk.old) (D.files disk.new)) }
+    ensures asked { UnlessBuild (job_of (map string_bytes words.now)) ((D.files disk.new ≡ D.files disk.old) × UnlessTest (job_of (map string_bytes words.now)) (D.write_faults disk.new ≡ D.write_faults disk.old)) }
 
-    // Only a query, the help, the version and the report of a refused build are written to out, and nothing if memory runs out. Of
-    // the help or the version out gets a prefix.
+    // Only a query, the help, the version, a test and the report of a refused build are written to out, and nothing but lines of a test
+    // if memory runs out. Of the help or the version out gets a prefix, and so it does of a test that a fault or lack of memory cut short.
     ensures out { UnlessJob (job_of (map string_bytes words.now)) ((O.written out.new ≡ O.written out.old) × (O.faults out.new ≡ O.faults out.old)) }
     ensures built { result ≢ 1 → result ≢ 5 → ForBuild (job_of (map string_bytes words.now)) (λ _. O.written out.new ≡ O.written out.old) }
-    ensures silent { result ≡ 6 → O.written out.new ≡ O.written out.old }
+    ensures silent { result ≡ 6 → UnlessTest (job_of (map string_bytes words.now)) (O.written out.new ≡ O.written out.old) }
     ensures front { ForText (job_of (map string_bytes words.now)) (λ text. (n : ℕ) × (O.written out.new ≡ then_bytes (O.written out.old) (take n text))) }
+    ensures tested { (result ≡ 5) ⊎ (result ≡ 6) → ForSome (D.files disk.old) (λ files. ForTest (job_of (map string_bytes words.now)) (λ job.
+        GotPrefix (test_outcome job files).out (O.written out.old) (O.written out.new))) }
 
-    // A query that a fault or want of memory cut short has answered the first keys, and noted what there is to note of them.
+    // A query that a fault cut short has answered the first keys, and noted what there is to note of them. Its message names the file
+    // that could not be read, or out. One for which memory ran out has answered none.
     ensures cut { (result ≡ 4) ⊎ (result ≡ 5) ⊎ (result ≡ 6) → ForSome (D.files disk.old) (λ files. ForQuery (job_of (map string_bytes words.now))
         (IsCutShort files result (O.written out.old) (O.written out.new) (E.written err.old) (E.written err.new) (E.faults err.old) (E.faults err.new))) }
 
@@ -94,6 +110,7 @@ pub fn run<D: Disk, O: Sink, E: Sink>(
         }
         Ok(Job::Build(job)) => run_build(alloc, &job, disk, out, err),
         Ok(Job::Query(job)) => run_query(alloc, &job, disk, out, err),
+        Ok(Job::Test(job)) => run_test(alloc, &job, disk, out, err),
         Err(fault) => report_usage(fault, err),
     }
 }

@@ -1,6 +1,7 @@
-use Rattle.std.proofs.Common.{◌≡◌, refl}
+use Rattle.std.proofs.Common.{◌≡◌, None, refl}
 use Rattle.cm_dump.specs.Dumps.{dump_of}
-use Rattle.cm_tool.proofs.Builds.{leaves_refused}
+use Rattle.cm_tool.proofs.Builds.{leaves_created, leaves_refused}
+use Rattle.cm_tool.proofs.Outcomes.{keys_spilled}
 use Rattle.cm_tool.proofs.building.build_file.Goals as goal
 
 pub returns-in-Err-clause-leaves : goal.returns-in-Err-clause-leaves
@@ -29,3 +30,19 @@ returns-clause-leaves g c =
           let made = c.in-Ok.ensures.made files is in
           record { bytes = made.0; f = f; there = made.1; made = made.2; dump_is = refl; valid = c.in-Ok.ensures.valid },
     )
+
+pub returns-in-Ok-store-clause-spilled : goal.returns-in-Ok-store-clause-spilled
+returns-in-Ok-store-clause-spilled g c = λ files is.
+    let f = c.in-Ok.function in
+    let made = c.in-Ok.ensures.made files is in
+    let spilled = c.in-Ok.ensures.spilled files is in
+    keys_spilled c.args.job.now files spilled.0 (dump_of f) _ _ (record { bytes = made.0; f = f; there = made.1; made = made.2; dump_is = refl; valid = c.in-Ok.ensures.valid }) spilled.1 (rw c.store.ensures.spilled spilled.2)
+
+pub returns-in-Err-Memory-clause-leaves : goal.returns-in-Err-Memory-clause-leaves
+returns-in-Err-Memory-clause-leaves g c =
+    let f = c.in-Ok.function in
+    let path : c.as_str.result.now ≡ c.args.job.now.function = c.as_str.ensures.bytes in
+    let stored = rw c.in-Err-Memory.field-0-is at c.in-Err-Memory.ensures.files in
+    leaves_created c.args.job.now _ _ None None (dump_of f) (rw (path, c.function_of.ensures.files) at stored) (λ files is.
+    let made = c.in-Ok.ensures.made files is in
+    record { bytes = made.0; f = f; there = made.1; made = made.2; dump_is = refl; valid = c.in-Ok.ensures.valid })

@@ -2,7 +2,7 @@ use Rattle.std.proofs.Common.{rules, ◌≡◌, ◌∙◌, ℕ, List, Option, ap
 use Rattle.std.specs.Option.{option_map}
 use Rattle.cm_tool.specs.Jobs.{seeds_tried}
 use Rattle.cm_tool.specs.Outcome.{keys_in}
-use Rattle.cm_tool.proofs.Builds.{has_changed, refused_from}
+use Rattle.cm_tool.proofs.Builds.{refused_from, stop_form}
 use Rattle.cm_tool.proofs.building.function_of.Goals as goal
 
 pub returns-in-Ok-outcome-clause-made : goal.returns-in-Ok-outcome-clause-made
@@ -12,8 +12,17 @@ returns-in-Ok-outcome-clause-made g c = λ files is.
     let opened = c.in-Ok.ensures.reader files is in
     let told = c.new-keys.ensures.told ∙ ap (λ (known : Option (List ℕ)). option_map (keys_in job.first) known) opened.tells in
     let tried : c.as_slice.result.now ≡ seeds_tried job = search rules in
-    let made = c.in-Ok-outcome.ensures.made (keys_in job.first opened.bytes) told in
-    (opened.bytes, rw path at opened.there, rw tried at made)
+    let made = c.in-Ok-outcome.ensures.made files (c.open.ensures.files ∙ is) (keys_in job.first opened.bytes) told in
+    (opened.bytes, rw path at opened.there, rw (c.plan_of.ensures.plan, tried) at made)
+
+pub returns-in-Ok-outcome-clause-spilled : goal.returns-in-Ok-outcome-clause-spilled
+returns-in-Ok-outcome-clause-spilled g c = λ files is.
+    let job = c.args.job.now in
+    let path : c.as_str.result.now ≡ job.keys = c.as_str.ensures.bytes in
+    let opened = c.in-Ok.ensures.reader files is in
+    let told = c.new-keys.ensures.told ∙ ap (λ (known : Option (List ℕ)). option_map (keys_in job.first) known) opened.tells in
+    let spilled = c.in-Ok-outcome.ensures.spilled files (c.open.ensures.files ∙ is) (keys_in job.first opened.bytes) told in
+    (opened.bytes, rw path at opened.there, rw c.shut.ensures.spilled (rw c.open.ensures.spilled at spilled))
 
 pub returns-in-Err-clause-refused : goal.returns-in-Err-clause-refused
 returns-in-Err-clause-refused g c = λ files is.
@@ -22,9 +31,8 @@ returns-in-Err-clause-refused g c = λ files is.
     let opened = c.in-Ok.ensures.reader files is in
     let told = c.new-keys.ensures.told ∙ ap (λ (known : Option (List ℕ)). option_map (keys_in job.first) known) opened.tells in
     let tried : c.as_slice.result.now ≡ seeds_tried job = search rules in
-    let fails = rw tried at (c.in-Err.ensures.fault (keys_in job.first opened.bytes) told) in
-    let form = rw tried at c.in-Err.ensures.certificate in
-    refused_from job files opened.bytes c.in-Err.fault _ _ c.stop_of.result (rw path at opened.there) fails form c.stop_of.ensures.stops
+    let fails = rw (c.plan_of.ensures.plan, tried) at (c.in-Err.ensures.fault files (c.open.ensures.files ∙ is) (keys_in job.first opened.bytes) told) in
+    refused_from job files opened.bytes c.in-Err.fault _ _ c.stop_of.result (rw path at opened.there) fails c.stop_of.ensures.stops
 
-pub returns-in-Err-clause-changed : goal.returns-in-Err-clause-changed
-returns-in-Err-clause-changed g c = has_changed _ c.in-Err.fault _ _ c.stop_of.result c.in-Err.ensures.numbers c.stop_of.ensures.stops
+pub returns-in-Err-clause-form : goal.returns-in-Err-clause-form
+returns-in-Err-clause-form g c = stop_form c.args.job.now.algorithm c.in-Err.fault _ _ c.stop_of.result (rw c.plan_of.ensures.plan at c.in-Err.ensures.form) c.stop_of.ensures.stops

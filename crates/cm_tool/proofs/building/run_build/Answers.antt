@@ -1,7 +1,7 @@
-use Rattle.std.proofs.Common.{◌∙◌, None, sym}
+use Rattle.std.proofs.Common.{◌≡◌, ◌∙◌, None, sym}
 use Rattle.cm_tool.specs.Ends.{message_of}
 use Rattle.cm_tool.specs.Messages.{built_message}
-use Rattle.cm_tool.proofs.Outcomes.{built_is, finished, is_cored, message_is, missing, stopped, took_first, written_part}
+use Rattle.cm_tool.proofs.Outcomes.{built_is, emptied, finished, is_cored, message_is, missing, stopped, took_first, written_part}
 use Rattle.cm_tool.proofs.building.run_build.Goals as goal
 
 pub returns-in-Ok-clause-outcome : goal.returns-in-Ok-clause-outcome
@@ -18,17 +18,31 @@ returns-in-Ok-clause-err g c = (built_message c.args.job.now c.in-Ok.summary, bu
 
 pub returns-in-Err-clause-outcome : goal.returns-in-Err-clause-outcome
 returns-in-Err-clause-outcome g c = λ a b d files is.
+    let job = c.args.job.now in
+    let keys : c.as_str.result.now ≡ job.keys = c.as_str.ensures.bytes in
+    let function : c.as_str-in-Err.result.now ≡ job.function = c.as_str-in-Err.ensures.bytes in
+    let dir : c.as_str-in-Err-2.result.now ≡ job.dir = c.as_str-in-Err-2.ensures.bytes in
+    let says = rw (keys, function, dir) at c.report.ensures.says in
     let status = c.report.ensures.status in
-    rw status (stopped c.args.job.now _ _ c.in-Err.stop _ _ _ _ _ _ files c.in-Err.ensures.leaves c.in-Err.ensures.out c.report.ensures.says (rw status at a) (rw status at b) (rw status at d) is)
+    rw status (stopped job _ _ c.in-Err.stop _ _ _ _ _ _ files c.in-Err.ensures.leaves c.in-Err.ensures.out says (rw status at a) (rw status at b) (rw status at d) is)
 
 pub returns-in-Err-clause-cored : goal.returns-in-Err-clause-cored
-returns-in-Err-clause-cored g c = λ one files is. is_cored c.args.job.now _ _ _ _ c.in-Err.stop files c.in-Err.ensures.leaves is (sym c.report.ensures.status ∙ one) c.rest_is_core.ensures
+returns-in-Err-clause-cored g c = λ one files is. is_cored c.args.job.now _ _ _ _ c.in-Err.stop files c.in-Err.ensures.leaves is (sym c.report.ensures.status ∙ one)
 
 pub returns-in-Err-clause-missing : goal.returns-in-Err-clause-missing
-returns-in-Err-clause-missing g c = λ files is none. rw c.report.ensures.status (missing c.args.job.now _ _ _ _ c.in-Err.stop files c.in-Err.ensures.leaves is none)
+returns-in-Err-clause-missing g c = λ files is none. rw c.report.ensures.status (missing c.args.job.now _ _ _ _ c.in-Err.stop files c.in-Err.ensures.leaves c.in-Err.ensures.out is none)
 
 pub returns-in-Err-clause-part : goal.returns-in-Err-clause-part
-returns-in-Err-clause-part g c = λ five files is. written_part c.args.job.now _ _ _ _ c.in-Err.stop files c.in-Err.ensures.leaves c.in-Err.ensures.out is (sym c.report.ensures.status ∙ five)
+returns-in-Err-clause-part g c = λ five files is. written_part c.args.job.now _ _ _ _ c.in-Err.stop files c.in-Err.ensures.leaves c.in-Err.ensures.out c.in-Err.ensures.form is (sym c.report.ensures.status ∙ five)
+
+pub returns-in-Err-clause-memory : goal.returns-in-Err-clause-memory
+returns-in-Err-clause-memory g c = λ six. emptied c.args.job.now _ _ _ _ c.in-Err.stop c.in-Err.ensures.leaves (sym c.report.ensures.status ∙ six)
 
 pub returns-in-Err-clause-err : goal.returns-in-Err-clause-err
-returns-in-Err-clause-err g c = (message_of c.args.job.now c.in-Err.stop, rw c.report.ensures.status (message_is c.args.job.now _ _ c.in-Err.stop c.in-Err.ensures.changed c.in-Err.ensures.out_cause), c.report.ensures.says)
+returns-in-Err-clause-err g c =
+    let job = c.args.job.now in
+    let keys : c.as_str.result.now ≡ job.keys = c.as_str.ensures.bytes in
+    let function : c.as_str-in-Err.result.now ≡ job.function = c.as_str-in-Err.ensures.bytes in
+    let dir : c.as_str-in-Err-2.result.now ≡ job.dir = c.as_str-in-Err-2.ensures.bytes in
+    let says = rw (keys, function, dir) at c.report.ensures.says in
+    (message_of job.keys job.function job.dir c.in-Err.stop, rw c.report.ensures.status (message_is job _ _ c.in-Err.stop c.in-Err.ensures.form c.in-Err.ensures.out_cause), says)

@@ -1,48 +1,72 @@
-use Rattle.std.proofs.Common.{◌≡◌, ◌≢◌, ◌∙◌, ℕ, List, [], length, Some, refl, ap, sym, subst}
+use Rattle.std.proofs.Common.{◌≡◌, ◌∙◌, ℕ, ◌≤◌, List, [], length, Some, refl, ap, sym, subst, arith}
 use Rattle.std.specs.FinMap as map
+use Rattle.cm_algorithm.specs.declared.algorithm.Algorithm.{Algorithm}
+use Rattle.cm_algorithm.specs.declared.algorithm.Algorithm.TheVariants.{Bdz, BdzPh, Brz, Chm}
+use Rattle.cm_bdz.specs.Functions as bdz
 use Rattle.cm_bdz.specs.Functions.{bdz_answer, bdz_ph_answer}
 use Rattle.cm_bdz.specs.Numbering.{AnswersApart, bdz_ph_under, bdz_under}
+use Rattle.cm_brz.specs.BrzOf.{IsBrzOf}
+use Rattle.cm_buckets.specs.Functions as buckets
+use Rattle.cm_buckets.specs.Functions.{brz_answer}
 use Rattle.cm_chm.specs.Numbering.{AnswersNumbers}
 use Rattle.cm_dump.specs.Spelling.{spelling_of}
+use Rattle.cm_dump.specs.declared.writer.Func.{Func}
+use Rattle.cm_dump.specs.declared.writer.Func.TheVariants as func
 use Rattle.cm_outer.specs.Files.{with_file}
 use Rattle.cm_spec.specs.Bdz.{bdz_ph_rule, bdz_rule}
 use Rattle.cm_spec.specs.Built.{cells_under, chm_under, graph_of}
 use Rattle.cm_spec.specs.Chm.{chm_rule}
+use Rattle.cm_spec.specs.Core.{HasEmptyCore}
 use Rattle.cm_spec.specs.Rounds.{rest_of}
 use Rattle.cm_tool.proofs.Outcomes.{written_at}
-use Rattle.cm_tool.specs.Jobs.{func_by, rule_by}
+use Rattle.cm_tool.specs.Jobs.{seeds_tried}
 use Rattle.cm_tool.specs.Outcome.{keys_in}
 use Rattle.cm_tool.specs.Run.{AnswersOf, IsBy}
-use Rattle.cm_algorithm.specs.declared.algorithm.Algorithm.{Algorithm}
-use Rattle.cm_algorithm.specs.declared.algorithm.Algorithm.TheVariants.{Bdz, BdzPh, Brz, Chm}
+use Rattle.cm_tool.specs.Seeds.{IsMadeBy}
 use Rattle.cm_tool.proofs.laws.saved_numbers.Goals as goal
 
--- what the laws of the algorithms say of keys under a seed that leaves no rest
-record Laws (keys : List (ℕ × List ℕ)) (c seed : ℕ) : Type 0 where
-  chm : rest_of (graph_of chm_rule keys c seed) ≡ [] → AnswersNumbers keys (chm_under keys c seed)
-  bdz : (shift : ℕ) → rest_of (graph_of bdz_rule keys c seed) ≡ [] → AnswersApart keys (bdz_answer (bdz_under keys c seed shift)) (length keys)
-  bdz_ph : rest_of (graph_of bdz_ph_rule keys c seed) ≡ [] → AnswersApart keys (λ key. Some (bdz_ph_answer (bdz_ph_under keys c seed) key)) (length (cells_under bdz_ph_rule keys c seed))
+-- what the laws of the algorithms say of the functions of keys
+record Laws (keys : List (ℕ × List ℕ)) (c b : ℕ) (seeds : List ℕ) : Type 0 where
+  empty : (edges : List (List ℕ)) → HasEmptyCore edges → rest_of edges ≡ []
+  chm_numbers : (seed : ℕ) → rest_of (graph_of chm_rule keys c seed) ≡ [] → AnswersNumbers keys (chm_under keys c seed)
+  bdz_apart : (seed : ℕ) → rest_of (graph_of bdz_rule keys c seed) ≡ [] → AnswersApart keys (bdz_answer (bdz_under keys c seed b)) (length keys)
+  bdz_ph_apart : (seed : ℕ) → rest_of (graph_of bdz_ph_rule keys c seed) ≡ [] → AnswersApart keys (λ key. Some (bdz_ph_answer (bdz_ph_under keys c seed) key)) (length (cells_under bdz_ph_rule keys c seed))
+  brz_apart : (f : buckets.Brz) → 1 ≤ b → IsBrzOf keys c b seeds f → AnswersApart keys (brz_answer f) (length keys)
 
--- the function of such keys is of its algorithm, and has the answers that it is for
-answers_of : (algorithm : Algorithm) (b c seed : ℕ) (keys : List (ℕ × List ℕ)) → algorithm ≢ Brz → Laws keys c seed → rest_of (graph_of (rule_by algorithm) keys c seed) ≡ [] → IsBy algorithm (func_by algorithm b keys c seed) × AnswersOf keys (func_by algorithm b keys c seed)
-answers_of Chm b c seed keys known laws none = (tt, laws.chm none)
-answers_of Bdz b c seed keys known laws none = (tt, laws.bdz b none)
-answers_of BdzPh b c seed keys known laws none = (tt, laws.bdz_ph none)
-answers_of Brz b c seed keys known laws none = absurd (known refl)
+-- a function that was made by an algorithm is one of it, and has the answers that it is for
+answers_of : (algorithm : Algorithm) (b : ℕ) (keys : List (ℕ × List ℕ)) (c : ℕ) (seeds : List ℕ) (f : Func) → (algorithm ≡ Brz → 1 ≤ b) → Laws keys c b seeds → IsMadeBy algorithm b keys c seeds f → IsBy algorithm f × AnswersOf keys f
+answers_of Chm b keys c seeds (func.Chm f) wide laws made = (tt, subst (AnswersNumbers keys) (sym made.0) (laws.chm_numbers f.seed (laws.empty _ made.1.1.empty)))
+answers_of Chm b keys c seeds (func.Bdz f) wide laws made = absurd made
+answers_of Chm b keys c seeds (func.BdzPh f) wide laws made = absurd made
+answers_of Chm b keys c seeds (func.Brz f) wide laws made = absurd made
+answers_of Bdz b keys c seeds (func.Chm f) wide laws made = absurd made
+answers_of Bdz b keys c seeds (func.Bdz f) wide laws made =
+    (tt, subst (λ (g : bdz.Bdz). AnswersApart keys (bdz_answer g) (length keys)) (sym made.0) (laws.bdz_apart f.seed (laws.empty _ made.1.1.empty)))
+answers_of Bdz b keys c seeds (func.BdzPh f) wide laws made = absurd made
+answers_of Bdz b keys c seeds (func.Brz f) wide laws made = absurd made
+answers_of BdzPh b keys c seeds (func.Chm f) wide laws made = absurd made
+answers_of BdzPh b keys c seeds (func.Bdz f) wide laws made = absurd made
+answers_of BdzPh b keys c seeds (func.BdzPh f) wide laws made =
+    (tt, subst (λ (g : bdz.BdzPh). AnswersApart keys (λ key. Some (bdz_ph_answer g key)) (length g.cells)) (sym made.0) (laws.bdz_ph_apart f.seed (laws.empty _ made.1.1.empty)))
+answers_of BdzPh b keys c seeds (func.Brz f) wide laws made = absurd made
+answers_of Brz b keys c seeds (func.Chm f) wide laws made = absurd made
+answers_of Brz b keys c seeds (func.Bdz f) wide laws made = absurd made
+answers_of Brz b keys c seeds (func.BdzPh f) wide laws made = absurd made
+answers_of Brz b keys c seeds (func.Brz f) wide laws made = (tt, laws.brz_apart f (wide refl) made)
 
 pub returns : goal.returns
 returns c = λ job old new out_old out_new s files build leaves is.
     let saves = (leaves.2 files is).0 in
     let made = saves.made in
     let keys = (keys_in job.first saves.bytes).keys in
-    let none : rest_of (graph_of (rule_by job.algorithm) keys job.c made.seed) ≡ [] = c.empty_rest.ensures.rest _ made.first.empty in
-    let laws : Laws keys job.c made.seed = record {
-      chm = c.answers_numbers.ensures keys job.c made.seed made.many build.ratio;
-      bdz = λ shift. c.answers_apart.ensures.bdz keys job.c made.seed shift made.many build.ratio;
-      bdz_ph = c.answers_apart.ensures.bdz_ph keys job.c made.seed made.many build.ratio;
+    let laws : Laws keys job.c job.b (seeds_tried job) = record {
+      empty = c.empty_rest.ensures.rest;
+      chm_numbers = λ seed. c.answers_numbers.ensures keys job.c seed made.many build.ratio;
+      bdz_apart = λ seed. c.answers_apart.ensures.bdz keys job.c seed job.b made.many build.ratio;
+      bdz_ph_apart = λ seed. c.answers_apart.ensures.bdz_ph keys job.c seed made.many build.ratio;
+      brz_apart = λ f wide of. c.numbers_apart.ensures.apart keys job.c job.b (seeds_tried job) f made.many.0 made.many.1 build.ratio wide of;
     } in
-    let answers = answers_of job.algorithm job.b job.c made.seed keys build.offered laws none in
-    let is_by : IsBy job.algorithm saves.f = subst (IsBy job.algorithm) (sym made.is) answers.0 in
-    let answered : AnswersOf keys saves.f = subst (AnswersOf keys) (sym made.is) answers.1 in
+    let wide : job.algorithm ≡ Brz → 1 ≤ job.b = λ by. omega (arith, (build.width by).0) in
+    let answers = answers_of job.algorithm job.b keys job.c (seeds_tried job) saves.f wide laws made.made in
     let spells = ap spelling_of saves.dump_is ∙ c.dumps_spell.ensures.spelling saves.f saves.valid in
-    (saves.bytes, leaves.0, saves.f, map.insert files job.function leaves.0, saves.there, leaves.1 ∙ ap (with_file job.function leaves.0) is, written_at files job.function leaves.0, spells, is_by, answered)
+    (saves.bytes, leaves.0, saves.f, map.insert files job.function leaves.0, saves.there, leaves.1 ∙ ap (with_file job.function leaves.0) is, written_at files job.function leaves.0, spells, answers.0, answers.1)

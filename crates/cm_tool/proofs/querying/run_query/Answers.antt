@@ -1,7 +1,7 @@
 use Rattle.std.proofs.Common.{[], ◌∙◌}
 use Rattle.cm_outer.specs.NotingLaws.{noted_first, noted_next}
 use Rattle.cm_tool.specs.Ends.{query_message_of}
-use Rattle.cm_tool.proofs.Asks.{answered_is, cut_short, query_done, query_message_is, query_stopped, says_all, says_more}
+use Rattle.cm_tool.proofs.Asks.{answered_is, cut_short, lacking, query_done, query_message_is, query_stopped, says_all, says_more}
 use Rattle.cm_tool.proofs.querying.run_query.Goals as goal
 
 pub returns-in-Ok-clause-outcome : goal.returns-in-Ok-clause-outcome
@@ -20,6 +20,11 @@ returns-in-Err-clause-outcome g c = λ a b d files is.
     let status = c.report_query.ensures.status in
     let says = says_all (noted_next (noted_first c.new-notes.ensures.fresh told.1) c.report_query.ensures.noted) in
     rw status (query_stopped c.args.job.now files _ _ _ _ _ _ told.0 c.in-Err.stop _ told.2 says (rw status at a) (rw status at b) (rw status at d) (c.answer_file.ensures.files ∙ is))
+
+pub returns-in-Err-clause-missing : goal.returns-in-Err-clause-missing
+returns-in-Err-clause-missing g c = λ files is none.
+    let told = c.in-Err.ensures.told files is in
+    rw c.report_query.ensures.status (lacking c.args.job.now files _ _ _ _ told.0 c.in-Err.stop told.2 c.answer_file.ensures.files none)
 
 pub returns-in-Err-clause-cut : goal.returns-in-Err-clause-cut
 returns-in-Err-clause-cut g c = λ either files is.

@@ -1,0 +1,254 @@
+//! Records put into a store of sorted runs and given back.
+ghost use Rattle.std.specs.Prelude.{◌≡◌, ◌≤◌, [], IfOk, OnOk, None, true, false};
+ghost use Rattle.std.specs.Option.{ForSome};
+ghost use Rattle.cm_spill.specs.Stores.{IsNextBucket};
+
+use crate::equal::{expect_bytes, expect_equal, expect_text};
+use cm_outer::{Failed, KeyBuf, MemSpill, Spill};
+use cm_spill::{Runs, SpillError};
+use std::alloc::{AllocError, Global};
+use std::test::Fail;
+
+/// A spill of which one byte is read as another. Its contents aren't known.
+struct Damaged {
+    spill: MemSpill,
+    offset: u64,
+    byte: u8,
+}
+
+impl Spill for Damaged {
+    ghost told = { λ _. None };
+
+    ghost faults = { λ s. s.spill.appended.faults };
+
+    fn append(&mut self, piece: &[u8]) -> Result<(), Failed> {
+        self.spill.append(piece)
+    }
+
+    fn read_at(&mut self, offset: u64, buf: &mut [u8]) -> Result<usize, Failed> {
+        let n = self.spill.read_at(offset, buf)?;
+        if offset <= self.offset && self.offset - offset < n as u64 {
+            buf[(self.offset - offset) as usize] = self.byte;
+        }
+        Ok(n)
+    }
+}
+
+fn new_spill(alloc: Global) -> Result<MemSpill, AllocError>
+    ensures empty { IfOk result (λ spill. spill.appended.bytes ≡ []) }
+{
+    MemSpill::new(alloc, 1_048_576, Vec::new(alloc), Vec::new(alloc))
+}
+
+/// Notes of each record of a bucket its line, the first byte of its key and where it ends, and then the end of the bucket or the
+/// fault. True if it was the end.
+fn note_bucket<P: Spill>(
+    alloc: Global,
+    text: &mut String,
+    runs: &mut Runs<P>,
+    bucket: u32,
+    key: &mut KeyBuf,
+) -> Result<bool, AllocError>
+    requires usable { runs.old.usable ≡ true }
+    requires sealed { runs.old.sealed ≡ true }
+    requires bucket { IsNextBucket runs.old bucket }
+    ensures ended { IfOk result (λ ended. ended ≡ true → (runs.new.usable ≡ true) × (runs.new.sealed ≡ true) × (runs.new.bucket ≡ bucket) × (runs.new.ended ≡ true)) }
+{
+    'records: for _ in 0..4 {
+        match runs.next_of(bucket, key) {
+            Ok(Some(line)) => {
+                let first = first_byte(key);
+                let part = format!(in alloc; "{line} {first} {};", runs.read_end())?;
+                text.push_str(part.as_str())?;
+            }
+            Ok(None) => {
+                text.push_str("none;")?;
+                return Ok(true);
+            }
+            Err(fault) => {
+                let part = format!(in alloc; "{fault};")?;
+                text.push_str(part.as_str())?;
+                return Ok(false);
+            }
+        }
+    }
+    Ok(false)
+}
+
+fn first_byte(key: &KeyBuf) -> char {
+    match key.first() {
+        Some(byte) => *byte as char,
+        None => ' ',
+    }
+}
+
+/// Notes buckets 0 and 1.
+fn note_buckets<P: Spill>(
+    alloc: Global,
+    text: &mut String,
+    runs: &mut Runs<P>,
+    key: &mut KeyBuf,
+) -> Result<(), AllocError>
+    requires usable { runs.old.usable ≡ true }
+    requires sealed { runs.old.sealed ≡ true }
+    requires bucket { runs.old.bucket ≡ 0 }
+{
+    if note_bucket(alloc, text, runs, 0, key)? {
+        note_bucket(alloc, text, runs, 1, key)?;
+    }
+    Ok(())
+}
+
+/// Puts `x` into bucket 1 and `y` into bucket 0, and seals.
+fn put_two<P: Spill>(runs: &mut Runs<P>) -> Result<(), SpillError>
+    requires usable { runs.old.usable ≡ true }
+    requires open { runs.old.sealed ≡ false }
+    requires new { runs.old.last ≡ 0 }
+    ensures ready { OnOk result ((runs.new.usable ≡ true) × (runs.new.sealed ≡ true) × (runs.new.bucket ≡ 0)) }
+{
+    runs.put(1, 1, b"x")?;
+    runs.put(0, 2, b"y")?;
+    runs.seal()
+}
+
+/// What a store over a spill gives after two records were put, and the spill.
+fn give_two<P: Spill>(alloc: Global, text: &mut String, spill: P) -> P
+    requires empty { ForSome (P.told spill) (λ known. known ≡ []) }
+{
+    let mut key = KeyBuf::new();
+    let mut runs = match Runs::new(alloc, spill, 65_545) {
+        Ok(runs) => runs,
+        Err(spill) => return spill,
+    };
+    if put_two(&mut runs).is_ok() {
+        let _ = note_buckets(alloc, text, &mut runs, &mut key);
+    }
+    runs.into_spill()
+}
+
+#[test]
+fn two_records(rt: HostRuntime) -> Result<(), Fail> {
+    let alloc = rt.alloc();
+    let mut text = String::new(alloc);
+    let mut spill = give_two(alloc, &mut text, new_spill(alloc)?);
+    expect_text(&rt, text.as_str(), "2 y 11;none;1 x 22;none;");
+    let mut bytes = [0; 24];
+    let n = spill.read_at(0, &mut bytes);
+    expect_equal(&rt, &n, &Ok(22));
+    expect_bytes(
+        &rt,
+        &bytes,
+        b"\x00\x00\x00\x00\x02\x00\x00\x00\x01\x00y\x01\x00\x00\x00\x01\x00\x00\x00\x01\x00x\x00\x00",
+    );
+    Ok(())
+}
+
+/// What a store gives of the two records if a byte of the spill is read as another.
+fn give_damaged(alloc: Global, offset: u64, byte: u8) -> Result<String, AllocError> {
+    let mut text = String::new(alloc);
+    let spill = Damaged {
+        spill: new_spill(alloc)?,
+        offset,
+        byte,
+    };
+    let Damaged {
+        spill: _,
+        offset: _,
+        byte: _,
+    } = give_two(alloc, &mut text, spill);
+    Ok(text)
+}
+
+/// A key that is too long for its run, line 0, a line below the one before, and a first key that is too long.
+#[test]
+fn damaged_records(rt: HostRuntime) -> Result<(), Fail> {
+    let alloc = rt.alloc();
+    let text = give_damaged(alloc, 19, 2)?;
+    expect_text(
+        &rt,
+        text.as_str(),
+        "2 y 11;the spill is damaged at 11: 23 in place of 22;",
+    );
+    let text = give_damaged(alloc, 15, 0)?;
+    expect_text(
+        &rt,
+        text.as_str(),
+        "2 y 11;none;the spill is damaged at 11: 0 in place of 1;",
+    );
+    let text = give_damaged(alloc, 11, 0)?;
+    expect_text(
+        &rt,
+        text.as_str(),
+        "2 y 11;the spill is damaged at 11: 1 in place of 3;",
+    );
+    let text = give_damaged(alloc, 8, 2)?;
+    expect_text(
+        &rt,
+        text.as_str(),
+        "2 y 12;the spill is damaged at 12: 30742 in place of 22;",
+    );
+    Ok(())
+}
+
+/// Puts three records with keys of 40,000 bytes, and seals.
+fn put_long<P: Spill>(runs: &mut Runs<P>) -> Result<(), SpillError>
+    requires usable { runs.old.usable ≡ true }
+    requires open { runs.old.sealed ≡ false }
+    requires new { runs.old.last ≡ 0 }
+    ensures ready { OnOk result ((runs.new.usable ≡ true) × (runs.new.sealed ≡ true) × (runs.new.bucket ≡ 0)) }
+{
+    runs.put(1, 1, &[b'a'; 40_000])?;
+    runs.put(0, 2, &[b'b'; 40_000])?;
+    runs.put(1, 3, &[b'c'; 40_000])?;
+    runs.seal()
+}
+
+/// What a store with a buffer of this many bytes gives of the long records, and then their lines in the order in which they stand in
+/// the spill.
+fn give_long(alloc: Global, bytes: u32) -> Result<String, AllocError>
+    requires bytes { (65545 ≤ bytes) × (bytes ≤ 1073741824) }
+{
+    let mut key = KeyBuf::new();
+    let mut text = String::new(alloc);
+    let mut runs = match Runs::new(alloc, new_spill(alloc)?, bytes) {
+        Ok(runs) => runs,
+        Err(_) => return Ok(text),
+    };
+    if put_long(&mut runs).is_ok() {
+        let _ = note_buckets(alloc, &mut text, &mut runs, &mut key);
+    }
+    let mut spill = runs.into_spill();
+    let mut line = [0; 4];
+    for i in 0..3 {
+        if spill.read_at(40_010 * i + 4, &mut line).is_ok() {
+            let part = format!(in alloc; "{}", line[0])?;
+            text.push_str(part.as_str())?;
+        }
+    }
+    Ok(text)
+}
+
+/// With a small buffer each record is a run, and with a large one they are a run by bucket. Either gives the same records.
+#[test]
+fn long_records(rt: HostRuntime) -> Result<(), Fail> {
+    let alloc = rt.alloc();
+    let text = give_long(alloc, 65_545)?;
+    expect_text(
+        &rt,
+        text.as_str(),
+        "2 b 80020;none;1 a 40010;3 c 120030;none;123",
+    );
+    let text = give_long(alloc, 1_048_576)?;
+    expect_text(
+        &rt,
+        text.as_str(),
+        "2 b 40010;none;1 a 80020;3 c 120030;none;213",
+    );
+    let text = give_long(alloc, 4_194_304)?;
+    expect_text(
+        &rt,
+        text.as_str(),
+        "2 b 40010;none;1 a 80020;3 c 120030;none;213",
+    );
+    Ok(())
+}

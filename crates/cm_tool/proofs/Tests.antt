@@ -1,0 +1,356 @@
+-- From the tests of algorithms to the outcome of a test.
+use Rattle.std.proofs.Common.{◌≡◌, ◌≢◌, ◌∙◌, ◌⊎◌, ℕ, ◌+◌, ◌^◌, ◌<◌, ◌≤◌, List, [], ◌∷◌, ◌++◌, length, take, drop, Option, None, Some, Result, Ok, Err, inl, inr, refl, ap, sym, subst, arith, append-nil, lit<}
+use Rattle.cm_algo.specs.Fails.{IsToldFault}
+use Rattle.cm_algorithm.specs.declared.algorithm.Algorithm.{Algorithm}
+use Rattle.cm_algorithm.specs.declared.algorithm.Algorithm.TheVariants.{Chm, Bdz, BdzPh, Brz}
+use Rattle.cm_dump.specs.Dumps.{dump_of}
+use Rattle.cm_dump.specs.Functions.{answer_by}
+use Rattle.cm_dump.specs.declared.writer.Func.{Func}
+use Rattle.cm_keys.specs.Lines.{lines_of}
+use Rattle.cm_made.specs.Numbered.{AreMade}
+use Rattle.cm_made.specs.Texts.{made_text}
+use Rattle.cm_numbers.specs.Options.{algorithms, usual_ratio}
+use Rattle.cm_outer.specs.Causes.{IsSent}
+use Rattle.cm_outer.specs.Files.{Files}
+use Rattle.cm_outer.specs.Passes.{HasKeyCause}
+use Rattle.cm_outer.specs.Writing.{then_bytes}
+use Rattle.cm_outer.specs.WritingLaws.{front_of_first, later_front, then_nothing, then_twice}
+use Rattle.cm_outer.specs.declared.key_pass.KeyFault.{KeyFault}
+use Rattle.cm_outer.specs.declared.key_pass.KeyFault.TheVariants as key_fault
+use Rattle.cm_tool.specs.Ends.{Says, message_of, status_of}
+use Rattle.cm_tool.specs.Faults.{FailsFunc, HasFuncCause, HasStopForm, IsChangeBy, IsReasonBy, shown_core, shown_overfull, stop_for}
+use Rattle.cm_tool.specs.Jobs.{seeds_of}
+use Rattle.cm_tool.specs.Leaves.{GotReport, IsFuncOf, IsOutCause, StopsFor}
+use Rattle.cm_tool.specs.Messages.{reason_message}
+use Rattle.cm_tool.specs.Ending.{Outcome, printing, reporting}
+use Rattle.cm_tool.specs.Run.{IsStatus, Reaches}
+use Rattle.cm_tool.specs.TestEnds.{EndsTest, FailsTest, GotPrefix, HasTestForm, IsTestMessage, test_name}
+use Rattle.cm_tool.specs.Tested as tested
+use Rattle.cm_tool.specs.Tested.{answer_sum, line_text, test_plan, tested_by, tested_then, usual_b}
+use Rattle.cm_tool.specs.Verdict.{Shown}
+use Rattle.cm_tool.specs.declared.fault.FuncFault.{FuncFault}
+use Rattle.cm_tool.specs.declared.fault.FuncFault.TheVariants as func_fault
+use Rattle.cm_tool.specs.declared.plan.Plan.{Plan}
+use Rattle.cm_tool.specs.declared.stop.Reason.{Reason}
+use Rattle.cm_tool.specs.declared.stop.Stop.{Stop}
+use Rattle.cm_tool.specs.declared.stop.Stop.TheVariants.{Memory, Read, Write, WriteOut, Refused, Changed, Spill, SpillDamaged, NoKeys, TooLong, TooMany}
+use Rattle.cm_tool.proofs.Outcomes.{nothing_said}
+use Rattle.cm_words.specs.declared.jobs.Job.TheVariants.{Test}
+use Rattle.cm_words.specs.declared.jobs.TestJob.{TestJob}
+
+-- out got nothing of a text
+pub got_nothing : (text : List ℕ) (old new : Option (List ℕ)) → new ≡ old → GotPrefix text old new
+got_nothing text old new same = (0, same ∙ then_nothing old)
+
+-- why keys that never change and have no fault have no function
+pub fails_test : (job : TestJob) (algorithm : Algorithm) (fault : FuncFault) (k k' w w' : ℕ) → AreMade job.keys (tested.generated job.keys) → 1 ≤ job.keys → k ≡ 0 → 0 ≡ k' → HasFuncCause {T = Func} k k' w w' (Err fault)
+    → FailsFunc algorithm (usual_b algorithm) (tested.generated job.keys) (usual_ratio algorithm) (seeds_of job.seed job.count) fault → FailsTest job algorithm fault
+unfolding tested.test_verdict
+fails_test job algorithm func_fault.Memory k k' w w' made some start end cause fails = tt
+fails_test job algorithm func_fault.NoKeys k k' w w' made some start end cause fails = absurd (omega (arith, ap length fails.1, made.many, some))
+fails_test job algorithm (func_fault.Cored shown) k k' w w' made some start end cause fails = fails.verdict
+fails_test job algorithm (func_fault.Overfull seed bucket count equal) k k' w w' made some start end cause fails = fails.verdict
+fails_test job algorithm (func_fault.Key key_fault.Read) k k' w w' made some start end cause fails = let low : k < 2 ^ 63 = omega (arith, start) in absurd (omega (arith, cause.0.1 low, start, end))
+fails_test job algorithm (func_fault.Key (key_fault.TooLong line)) k k' w w' made some start end cause fails = let fine = made.fine in absurd (cc)
+fails_test job algorithm (func_fault.Key key_fault.TooMany) k k' w w' made some start end cause fails = let fine = made.fine in absurd (cc)
+fails_test job algorithm (func_fault.Changed first again) k k' w w' made some start end cause fails = fails
+fails_test job algorithm func_fault.Spill k k' w w' made some start end cause fails = tt
+fails_test job algorithm (func_fault.SpillDamaged offset expected found) k k' w w' made some start end cause fails = fails
+
+-- a report ends a test
+report_ends : (files : Files) (shown : Shown) (old new : Option (List ℕ)) (stop : Stop) → GotReport shown old new stop → EndsTest (reporting files shown) old new (Err stop)
+report_ends files shown old new Memory got = absurd got
+report_ends files shown old new Read got = absurd got
+report_ends files shown old new Write got = absurd got
+report_ends files shown old new WriteOut got = got
+report_ends files shown old new (Refused reason) got = (refl, ap reason_message (sym got.0), got.1)
+report_ends files shown old new (Changed first again) got = absurd got
+report_ends files shown old new Spill got = absurd got
+report_ends files shown old new (SpillDamaged offset expected found) got = absurd got
+report_ends files shown old new NoKeys got = absurd got
+report_ends files shown old new (TooLong line) got = absurd got
+report_ends files shown old new TooMany got = absurd got
+
+-- by the verdict on an algorithm
+by_verdict : (job : TestJob) (algorithm : Algorithm) (files : Files) (v : Result Func Shown) (old new : Option (List ℕ)) (r : Result (Unit {0}) Stop) → tested.test_verdict job algorithm ≡ v → EndsTest (tested_then job algorithm files v (printing [] files)) old new r
+    → EndsTest (tested_by job files (algorithm ∷ [])) old new r
+by_verdict job algorithm files v old new r is ends = subst (λ (w : Result Func Shown). EndsTest (tested_then job algorithm files w (printing [] files)) old new r) (sym is) ends
+
+shown_ends : (job : TestJob) (algorithm : Algorithm) (files : Files) (shown : Shown) (old new : Option (List ℕ)) (stop : Stop) → tested.test_verdict job algorithm ≡ Err shown → GotReport shown old new stop → EndsTest (tested_by job files (algorithm ∷ [])) old new (Err stop)
+shown_ends job algorithm files shown old new stop verdict got = by_verdict job algorithm files (Err shown) old new (Err stop) verdict (report_ends files shown old new stop got)
+
+-- and so does any fault of a build
+pub fault_ends : (job : TestJob) (algorithm : Algorithm) (files : Files) (fault : FuncFault) (old new : Option (List ℕ)) (stop : Stop) → FailsTest job algorithm fault → StopsFor fault old new stop → EndsTest (tested_by job files (algorithm ∷ [])) old new (Err stop)
+fault_ends job algorithm files func_fault.Memory old new stop fails stops = rw stops.0 (got_nothing (tested_by job files (algorithm ∷ [])).out old new stops.1)
+fault_ends job algorithm files func_fault.NoKeys old new stop fails stops = absurd fails
+fault_ends job algorithm files (func_fault.Cored made) old new stop fails stops = shown_ends job algorithm files (shown_core made) old new stop fails stops
+fault_ends job algorithm files (func_fault.Overfull seed bucket count equal) old new stop fails stops = shown_ends job algorithm files (shown_overfull seed bucket count equal.items) old new stop fails stops
+fault_ends job algorithm files (func_fault.Key fault) old new stop fails stops = absurd fails
+fault_ends job algorithm files (func_fault.Changed first again) old new stop fails stops = absurd fails
+fault_ends job algorithm files func_fault.Spill old new stop fails stops = rw stops.0 (got_nothing (tested_by job files (algorithm ∷ [])).out old new stops.1)
+fault_ends job algorithm files (func_fault.SpillDamaged offset expected found) old new stop fails stops = absurd fails
+
+-- what such a stop has, whatever the disk tells
+report_form : (algorithm : Algorithm) (shown : Shown) (old new : Option (List ℕ)) (stop : Stop) → IsReasonBy algorithm shown.reason → GotReport shown old new stop → HasTestForm algorithm stop
+report_form algorithm shown old new Memory reason got = tt
+report_form algorithm shown old new Read reason got = got
+report_form algorithm shown old new Write reason got = got
+report_form algorithm shown old new WriteOut reason got = tt
+report_form algorithm shown old new (Refused other) reason got = rw got.0 reason
+report_form algorithm shown old new (Changed first again) reason got = absurd got
+report_form algorithm shown old new Spill reason got = absurd got
+report_form algorithm shown old new (SpillDamaged offset expected found) reason got = absurd got
+report_form algorithm shown old new NoKeys reason got = tt
+report_form algorithm shown old new (TooLong line) reason got = tt
+report_form algorithm shown old new TooMany reason got = tt
+
+pub test_form : (algorithm : Algorithm) (fault : FuncFault) (w w' : ℕ) (old new : Option (List ℕ)) (stop : Stop) → HasFuncCause {T = Func} 0 0 w w' (Err fault) → HasStopForm algorithm (stop_for fault) → StopsFor fault old new stop → HasTestForm algorithm stop
+test_form algorithm func_fault.Memory w w' old new stop cause form stops = rw stops.0 tt
+test_form algorithm func_fault.NoKeys w w' old new stop cause form stops = rw stops.0 tt
+test_form algorithm (func_fault.Cored made) w w' old new stop cause form stops = report_form algorithm (shown_core made) old new stop form stops
+test_form algorithm (func_fault.Overfull seed bucket count equal) w w' old new stop cause form stops = report_form algorithm (shown_overfull seed bucket count equal.items) old new stop form stops
+test_form algorithm (func_fault.Key key_fault.Read) w w' old new stop cause form stops = absurd (omega (arith, cause.0.1 (lit< tt)))
+test_form algorithm (func_fault.Key (key_fault.TooLong line)) w w' old new stop cause form stops = rw stops.0 tt
+test_form algorithm (func_fault.Key key_fault.TooMany) w w' old new stop cause form stops = rw stops.0 tt
+test_form algorithm (func_fault.Changed first again) w w' old new stop cause form stops = rw stops.0 form
+test_form algorithm func_fault.Spill w w' old new stop cause form stops = rw stops.0 form
+test_form algorithm (func_fault.SpillDamaged offset expected found) w w' old new stop cause form stops = rw stops.0 form
+
+-- the line of a function, by its parts
+line_by : (job : TestJob) (algorithm : Algorithm) (f : Func) (bytes sum : ℕ) → bytes ≡ length (dump_of f) → sum ≡ answer_sum (answer_by f) (tested.generated job.keys).keys
+    → line_text algorithm job.keys bytes sum ≡ tested.test_line algorithm job.keys f (tested.generated job.keys).keys
+unfolding tested.test_line
+line_by job algorithm f bytes sum bytes_are sum_is = rw (bytes_are, sum_is) refl
+
+-- an algorithm came to its end, and out got its line
+pub line_ends : (job : TestJob) (algorithm : Algorithm) (files : Files) (f : Func) (bytes sum : ℕ) (old new : Option (List ℕ)) → tested.test_verdict job algorithm ≡ Ok f → bytes ≡ length (dump_of f) → sum ≡ answer_sum (answer_by f) (tested.generated job.keys).keys
+    → new ≡ then_bytes old (line_text algorithm job.keys bytes sum) → EndsTest (tested_by job files (algorithm ∷ [])) old new (Ok tt)
+line_ends job algorithm files f bytes sum old new verdict bytes_are sum_is wrote =
+    by_verdict job algorithm files (Ok f) old new (Ok tt) verdict (refl, refl, wrote ∙ ap (then_bytes old) (line_by job algorithm f bytes sum bytes_are sum_is ∙ sym (append-nil (tested.test_line algorithm job.keys f (tested.generated job.keys).keys))))
+
+-- out failed, and got a prefix of the line
+pub line_cut : (job : TestJob) (algorithm : Algorithm) (files : Files) (f : Func) (bytes sum n : ℕ) (old new : Option (List ℕ)) → tested.test_verdict job algorithm ≡ Ok f → bytes ≡ length (dump_of f) → sum ≡ answer_sum (answer_by f) (tested.generated job.keys).keys
+    → new ≡ then_bytes old (take n (line_text algorithm job.keys bytes sum)) → EndsTest (tested_by job files (algorithm ∷ [])) old new (Err WriteOut)
+line_cut job algorithm files f bytes sum n old new verdict bytes_are sum_is wrote =
+    by_verdict job algorithm files (Ok f) old new (Err WriteOut) verdict (n, wrote ∙ ap (λ (t : List ℕ). then_bytes old (take n t)) (line_by job algorithm f bytes sum bytes_are sum_is ∙ sym (append-nil (tested.test_line algorithm job.keys f (tested.generated job.keys).keys))))
+
+-- what comes after a line
+after_line : (line : List ℕ) (o : Outcome) (old mid new : Option (List ℕ)) (r : Result (Unit {0}) Stop) → mid ≡ then_bytes old line → EndsTest o mid new r → EndsTest (record o { out = line ++ o.out }) old new r
+after_line line o old mid new (Ok _) first ends = (ends.0, ends.1, ends.2 ∙ ap (λ (w : Option (List ℕ)). then_bytes w o.out) first ∙ then_twice old line o.out)
+after_line line o old mid new (Err Memory) first ends = (length line + ends.0, later_front old mid new line o.out ends.0 first ends.1)
+after_line line o old mid new (Err Read) first ends = absurd ends
+after_line line o old mid new (Err Write) first ends = absurd ends
+after_line line o old mid new (Err WriteOut) first ends = (length line + ends.0, later_front old mid new line o.out ends.0 first ends.1)
+after_line line o old mid new (Err (Refused reason)) first ends = (ends.0, ends.1, ends.2 ∙ ap (λ (w : Option (List ℕ)). then_bytes w o.out) first ∙ then_twice old line o.out)
+after_line line o old mid new (Err (Changed before again)) first ends = absurd ends
+after_line line o old mid new (Err Spill) first ends = (length line + ends.0, later_front old mid new line o.out ends.0 first ends.1)
+after_line line o old mid new (Err (SpillDamaged offset expected found)) first ends = absurd ends
+after_line line o old mid new (Err NoKeys) first ends = absurd ends
+after_line line o old mid new (Err (TooLong at)) first ends = absurd ends
+after_line line o old mid new (Err TooMany) first ends = absurd ends
+
+-- an algorithm that came to its end, and what the next ones come to
+next_by : (job : TestJob) (algorithm : Algorithm) (files : Files) (v : Result Func Shown) (o : Outcome) (old mid new : Option (List ℕ)) (r : Result (Unit {0}) Stop)
+    → EndsTest (tested_then job algorithm files v (printing [] files)) old mid (Ok tt) → EndsTest o mid new r → EndsTest (tested_then job algorithm files v o) old new r
+next_by job algorithm files (Ok f) o old mid new r first ends =
+    let line = tested.test_line algorithm job.keys f (tested.generated job.keys).keys in
+    after_line line o old mid new r (first.2 ∙ ap (then_bytes old) (append-nil line)) ends
+next_by job algorithm files (Err shown) o old mid new r first ends = absurd (omega (arith, first.0))
+
+pub next_ends : (job : TestJob) (algorithm : Algorithm) (next : List Algorithm) (files : Files) (old mid new : Option (List ℕ)) (r : Result (Unit {0}) Stop)
+    → EndsTest (tested_by job files (algorithm ∷ [])) old mid (Ok tt) → EndsTest (tested_by job files next) mid new r → EndsTest (tested_by job files (algorithm ∷ next)) old new r
+next_ends job algorithm next files old mid new r first ends = next_by job algorithm files (tested.test_verdict job algorithm) (tested_by job files next) old mid new r first ends
+
+-- a prefix of a line is one of a longer text
+longer : (line more : List ℕ) (old new : Option (List ℕ)) → GotPrefix (line ++ []) old new → GotPrefix (line ++ more) old new
+longer line more old new got = front_of_first old new line more got.0 (got.1 ∙ ap (λ (t : List ℕ). then_bytes old (take got.0 t)) (append-nil line))
+
+-- an algorithm that stopped
+stop_by : (job : TestJob) (algorithm : Algorithm) (files : Files) (v : Result Func Shown) (o : Outcome) (old new : Option (List ℕ)) (stop : Stop)
+    → EndsTest (tested_then job algorithm files v (printing [] files)) old new (Err stop) → EndsTest (tested_then job algorithm files v o) old new (Err stop)
+stop_by job algorithm files (Err shown) o old new stop ends = ends
+stop_by job algorithm files (Ok f) o old new Memory ends = longer (tested.test_line algorithm job.keys f (tested.generated job.keys).keys) o.out old new ends
+stop_by job algorithm files (Ok f) o old new Read ends = absurd ends
+stop_by job algorithm files (Ok f) o old new Write ends = absurd ends
+stop_by job algorithm files (Ok f) o old new WriteOut ends = longer (tested.test_line algorithm job.keys f (tested.generated job.keys).keys) o.out old new ends
+stop_by job algorithm files (Ok f) o old new (Refused reason) ends = absurd (omega (arith, ends.0))
+stop_by job algorithm files (Ok f) o old new (Changed first again) ends = absurd ends
+stop_by job algorithm files (Ok f) o old new Spill ends = longer (tested.test_line algorithm job.keys f (tested.generated job.keys).keys) o.out old new ends
+stop_by job algorithm files (Ok f) o old new (SpillDamaged offset expected found) ends = absurd ends
+stop_by job algorithm files (Ok f) o old new NoKeys ends = absurd ends
+stop_by job algorithm files (Ok f) o old new (TooLong line) ends = absurd ends
+stop_by job algorithm files (Ok f) o old new TooMany ends = absurd ends
+
+pub stop_ends : (job : TestJob) (algorithm : Algorithm) (next : List Algorithm) (files : Files) (old new : Option (List ℕ)) (stop : Stop)
+    → EndsTest (tested_by job files (algorithm ∷ [])) old new (Err stop) → EndsTest (tested_by job files (algorithm ∷ next)) old new (Err stop)
+stop_ends job algorithm next files old new stop ends = stop_by job algorithm files (tested.test_verdict job algorithm) (tested_by job files next) old new stop ends
+
+-- a test leaves the files as they were
+then_files : (job : TestJob) (algorithm : Algorithm) (files : Files) (v : Result Func Shown) (o : Outcome) → o.files ≡ files → (tested_then job algorithm files v o).files ≡ files
+then_files job algorithm files (Ok f) o same = same
+then_files job algorithm files (Err shown) o same = refl
+
+tested_files : (job : TestJob) (files : Files) (algorithms : List Algorithm) → (tested_by job files algorithms).files ≡ files
+tested_files job files [] = refl
+tested_files job files (algorithm ∷ next) = then_files job algorithm files (tested.test_verdict job algorithm) (tested_by job files next) (tested_files job files next)
+
+-- a test that stopped
+outcome_stopped : (o : Outcome) (files : Files) (stop : Stop) (out out_new err err_new : Option (List ℕ)) (before now : ℕ) (new : Option Files) (dir : List ℕ) → o.files ≡ files → EndsTest o out out_new (Err stop)
+    → Says (message_of test_name [] dir stop) err err_new before now → status_of stop ≢ 5 → status_of stop ≢ 6 → new ≡ Some files → Reaches (Some o) (status_of stop) out out_new err err_new before now new
+outcome_stopped o files Memory out out_new err err_new before now new dir same ends says a b left = absurd (b refl)
+outcome_stopped o files Read out out_new err err_new before now new dir same ends says a b left = absurd ends
+outcome_stopped o files Write out out_new err err_new before now new dir same ends says a b left = absurd ends
+outcome_stopped o files WriteOut out out_new err err_new before now new dir same ends says a b left = absurd (a refl)
+outcome_stopped o files (Refused reason) out out_new err err_new before now new dir same ends says a b left = record {
+  outcome = o;
+  is = refl;
+  status_is = sym ends.0;
+  out = ends.2;
+  err = subst (λ (t : List ℕ). Says t err err_new before now) (sym ends.1) says;
+  files_are = left ∙ ap Some (sym same);
+}
+outcome_stopped o files (Changed first again) out out_new err err_new before now new dir same ends says a b left = absurd ends
+outcome_stopped o files Spill out out_new err err_new before now new dir same ends says a b left = absurd (a refl)
+outcome_stopped o files (SpillDamaged offset expected found) out out_new err err_new before now new dir same ends says a b left = absurd ends
+outcome_stopped o files NoKeys out out_new err err_new before now new dir same ends says a b left = absurd ends
+outcome_stopped o files (TooLong line) out out_new err err_new before now new dir same ends says a b left = absurd ends
+outcome_stopped o files TooMany out out_new err err_new before now new dir same ends says a b left = absurd ends
+
+pub test_stopped : (job : TestJob) (files : Files) (stop : Stop) (out out_new err err_new : Option (List ℕ)) (before now : ℕ) (new : Option Files) → EndsTest (tested.test_outcome job files) out out_new (Err stop)
+    → Says (message_of test_name [] job.dir stop) err err_new before now → status_of stop ≢ 5 → status_of stop ≢ 6 → new ≡ Some files → Reaches (Some (tested.test_outcome job files)) (status_of stop) out out_new err err_new before now new
+test_stopped job files stop out out_new err err_new before now new ends says a b left =
+    outcome_stopped (tested.test_outcome job files) files stop out out_new err err_new before now new job.dir (tested_files job files algorithms) ends says a b left
+
+-- a test that came to its end
+outcome_done : (o : Outcome) (files : Files) (out out_new err : Option (List ℕ)) (count : ℕ) (new : Option Files) → o.files ≡ files → EndsTest o out out_new (Ok tt) → new ≡ Some files → Reaches (Some o) 0 out out_new err err count count new
+outcome_done o files out out_new err count new same ends left = record {
+  outcome = o;
+  is = refl;
+  status_is = sym ends.0;
+  out = ends.2;
+  err = subst (λ (t : List ℕ). Says t err err count count) (sym ends.1) (nothing_said err count);
+  files_are = left ∙ ap Some (sym same);
+}
+
+pub test_done : (job : TestJob) (files : Files) (out out_new err : Option (List ℕ)) (count : ℕ) (new : Option Files) → EndsTest (tested.test_outcome job files) out out_new (Ok tt) → new ≡ Some files → Reaches (Some (tested.test_outcome job files)) 0 out out_new err err count count new
+test_done job files out out_new err count new ends left = outcome_done (tested.test_outcome job files) files out out_new err count new (tested_files job files algorithms) ends left
+
+-- neither the keys nor the spill change, and the keys have no fault
+pub never_changed : (o : Outcome) (old new : Option (List ℕ)) (stop : Stop) → EndsTest o old new (Err stop) → (status_of stop ≢ 7) × (status_of stop ≢ 8)
+never_changed o old new Memory ends = (λ e. omega (arith, e), λ e. omega (arith, e))
+never_changed o old new Read ends = absurd ends
+never_changed o old new Write ends = absurd ends
+never_changed o old new WriteOut ends = (λ e. omega (arith, e), λ e. omega (arith, e))
+never_changed o old new (Refused reason) ends = (λ e. omega (arith, e), λ e. omega (arith, e))
+never_changed o old new (Changed first again) ends = absurd ends
+never_changed o old new Spill ends = (λ e. omega (arith, e), λ e. omega (arith, e))
+never_changed o old new (SpillDamaged offset expected found) ends = absurd ends
+never_changed o old new NoKeys ends = absurd ends
+never_changed o old new (TooLong line) ends = absurd ends
+never_changed o old new TooMany ends = absurd ends
+
+-- a test that a fault or lack of memory stopped
+pub part_of_test : (o : Outcome) (old new : Option (List ℕ)) (stop : Stop) → EndsTest o old new (Err stop) → (status_of stop ≡ 5) ⊎ (status_of stop ≡ 6) → GotPrefix o.out old new
+part_of_test o old new Memory ends either = ends
+part_of_test o old new Read ends either = absurd ends
+part_of_test o old new Write ends either = absurd ends
+part_of_test o old new WriteOut ends either = ends
+part_of_test o old new (Refused reason) ends either = absurd (omega (arith, either))
+part_of_test o old new (Changed first again) ends either = absurd ends
+part_of_test o old new Spill ends either = ends
+part_of_test o old new (SpillDamaged offset expected found) ends either = absurd ends
+part_of_test o old new NoKeys ends either = absurd ends
+part_of_test o old new (TooLong line) ends either = absurd ends
+part_of_test o old new TooMany ends either = absurd ends
+
+-- the message of a test that stopped goes with its status
+differs_by : (algorithm : Algorithm) (first again : ℕ) → IsChangeBy algorithm first again → again ≢ first
+differs_by Chm first again change = change.differs
+differs_by Bdz first again change = change.differs
+differs_by BdzPh first again change = change.differs
+differs_by Brz first again change = change
+
+pub test_message : (job : TestJob) (algorithm : Algorithm) (before now : ℕ) (stop : Stop) → HasTestForm algorithm stop → IsOutCause before now stop → IsTestMessage job before now (status_of stop) (message_of test_name [] job.dir stop)
+test_message job algorithm before now Memory form count = record { done = λ e. absurd (omega arith); refused = λ e. absurd (omega arith); write = λ e. absurd (omega arith); memory = λ e. refl; changed = λ e. absurd (omega arith); keys = λ e. absurd (omega arith) }
+test_message job algorithm before now Read form count = absurd form
+test_message job algorithm before now Write form count = absurd form
+test_message job algorithm before now WriteOut form count = record { done = λ e. absurd (omega arith); refused = λ e. absurd (omega arith); write = λ e. inr (count.1, refl); memory = λ e. absurd (omega arith); changed = λ e. absurd (omega arith); keys = λ e. absurd (omega arith) }
+test_message job algorithm before now (Refused reason) form count = record { done = λ e. absurd (omega arith); refused = λ e. (algorithm, reason, form, refl); write = λ e. absurd (omega arith); memory = λ e. absurd (omega arith); changed = λ e. absurd (omega arith); keys = λ e. absurd (omega arith) }
+test_message job algorithm before now (Changed first again) form count = record {
+  done = λ e. absurd (omega arith);
+  refused = λ e. absurd (omega arith);
+  write = λ e. absurd (omega arith);
+  memory = λ e. absurd (omega arith);
+  changed = λ e. inl (first, again, differs_by algorithm first again form, refl);
+  keys = λ e. absurd (omega arith);
+}
+test_message job algorithm before now Spill form count = record { done = λ e. absurd (omega arith); refused = λ e. absurd (omega arith); write = λ e. inl (count, refl); memory = λ e. absurd (omega arith); changed = λ e. absurd (omega arith); keys = λ e. absurd (omega arith) }
+test_message job algorithm before now (SpillDamaged offset expected found) form count = record {
+  done = λ e. absurd (omega arith);
+  refused = λ e. absurd (omega arith);
+  write = λ e. absurd (omega arith);
+  memory = λ e. absurd (omega arith);
+  changed = λ e. inr (offset, expected, found, form.1, refl);
+  keys = λ e. absurd (omega arith);
+}
+test_message job algorithm before now NoKeys form count = record { done = λ e. absurd (omega arith); refused = λ e. absurd (omega arith); write = λ e. absurd (omega arith); memory = λ e. absurd (omega arith); changed = λ e. absurd (omega arith); keys = λ e. inl refl }
+test_message job algorithm before now (TooLong line) form count = record { done = λ e. absurd (omega arith); refused = λ e. absurd (omega arith); write = λ e. absurd (omega arith); memory = λ e. absurd (omega arith); changed = λ e. absurd (omega arith); keys = λ e. inr (inr (line, refl)) }
+test_message job algorithm before now TooMany form count = record { done = λ e. absurd (omega arith); refused = λ e. absurd (omega arith); write = λ e. absurd (omega arith); memory = λ e. absurd (omega arith); changed = λ e. absurd (omega arith); keys = λ e. inr (inl refl) }
+
+pub done_message : (job : TestJob) (before now : ℕ) → IsTestMessage job before now 0 []
+done_message job before now = record { done = λ e. refl; refused = λ e. absurd (omega arith); write = λ e. absurd (omega arith); memory = λ e. absurd (omega arith); changed = λ e. absurd (omega arith); keys = λ e. absurd (omega arith) }
+
+-- a test reads no file, has no function file, and its arguments are those of a job
+pub test_status : (job : TestJob) (algorithm : Algorithm) (stop : Stop) → HasTestForm algorithm stop → IsStatus (Ok (Test job)) (status_of stop)
+test_status job algorithm Memory form = refl
+test_status job algorithm Read form = absurd form
+test_status job algorithm Write form = absurd form
+test_status job algorithm WriteOut form = refl
+test_status job algorithm (Refused reason) form = refl
+test_status job algorithm (Changed first again) form = refl
+test_status job algorithm Spill form = refl
+test_status job algorithm (SpillDamaged offset expected found) form = refl
+test_status job algorithm NoKeys form = refl
+test_status job algorithm (TooLong line) form = refl
+test_status job algorithm TooMany form = refl
+
+pub test_known : (algorithm : Algorithm) (stop : Stop) → HasTestForm algorithm stop → status_of stop ≢ 4
+test_known algorithm Memory form = λ e. omega (arith, e)
+test_known algorithm Read form = absurd form
+test_known algorithm Write form = absurd form
+test_known algorithm WriteOut form = λ e. omega (arith, e)
+test_known algorithm (Refused reason) form = λ e. omega (arith, e)
+test_known algorithm (Changed first again) form = λ e. omega (arith, e)
+test_known algorithm Spill form = λ e. omega (arith, e)
+test_known algorithm (SpillDamaged offset expected found) form = λ e. omega (arith, e)
+test_known algorithm NoKeys form = λ e. omega (arith, e)
+test_known algorithm (TooLong line) form = λ e. omega (arith, e)
+test_known algorithm TooMany form = λ e. omega (arith, e)
+
+-- nothing waits after what was sent on, and then something more
+pub sent_on : (w1 w2 f0 f1 f2 : ℕ) → f1 ≡ f0 → IsSent w1 f0 f1 → (w1 ≡ 0 → IsSent w2 f1 f2) → IsSent w2 f0 f2
+sent_on w1 w2 f0 f1 f2 same first next = λ low. elim (first low) [
+  | inl none ↦ subst (λ (f : ℕ). IsSent w2 f f2) same (next none) low
+  | inr rose ↦ absurd (omega (arith, rose, same))
+]
+
+-- the verdict on an algorithm, by the plan of its test
+pub verdict_from : (job : TestJob) (algorithm : Algorithm) (plan : Plan) (seeds : List ℕ) (f : Func) → plan ≡ test_plan algorithm job.buffer → seeds ≡ seeds_of job.seed job.count
+    → IsFuncOf plan.algorithm plan.b (tested.generated job.keys) plan.c seeds f → tested.test_verdict job algorithm ≡ Ok f
+unfolding tested.test_verdict
+verdict_from job algorithm plan seeds f plan_is seeds_are made = let by = rw (plan_is, seeds_are) at made in by.verdict
+
+pub fault_from : (job : TestJob) (algorithm : Algorithm) (plan : Plan) (seeds : List ℕ) (fault : FuncFault) → plan ≡ test_plan algorithm job.buffer → seeds ≡ seeds_of job.seed job.count
+    → FailsFunc plan.algorithm plan.b (tested.generated job.keys) plan.c seeds fault → FailsFunc algorithm (usual_b algorithm) (tested.generated job.keys) (usual_ratio algorithm) (seeds_of job.seed job.count) fault
+fault_from job algorithm plan seeds fault plan_is seeds_are fails = rw (plan_is, seeds_are) at fails
+
+-- the law of generated keys, said of a pass over them
+pub made_by : (n : ℕ) → AreMade n (lines_of 16777216 65535 10 None (made_text n)) → AreMade n (tested.generated n)
+unfolding tested.generated
+made_by n made = made
+
+-- a pass over them doesn't fail
+pub no_fault : (n : ℕ) (fault : KeyFault) (old new : ℕ) → AreMade n (tested.generated n) → old ≡ 0 → 0 ≡ new → HasKeyCause {T = ℕ} old new (Err fault) → IsToldFault (tested.generated n) fault → ⊥
+no_fault n key_fault.Read old new made start end cause fails = let low : old < 2 ^ 63 = omega (arith, start) in omega (arith, cause.1 low, start, end)
+no_fault n (key_fault.TooLong line) old new made start end cause fails = let fine = made.fine in absurd (cc)
+no_fault n key_fault.TooMany old new made start end cause fails = let fine = made.fine in absurd (cc)

@@ -1,0 +1,20 @@
+use Rattle.std.proofs.Common.{rules, ◌≡◌}
+use Rattle.cm_tool.specs.Jobs.{seeds_of}
+use Rattle.cm_tool.specs.Tested as tested
+use Rattle.cm_tool.proofs.Tests.{fails_test, fault_from, made_by, verdict_from}
+use Rattle.cm_tool.proofs.testing.build_generated.Goals as goal
+
+pub returns-in-Ok-clause-made : goal.returns-in-Ok-clause-made
+returns-in-Ok-clause-made g c = λ files is.
+    let job = c.args.job.now in
+    let tried : c.as_slice.result.now ≡ seeds_of job.seed job.count = search rules in
+    verdict_from job c.args.algorithm c.plan_by.result c.as_slice.result.now c.in-Ok.function c.plan_by.ensures.plan tried (c.in-Ok.ensures.made files is (tested.generated job.keys) c.generated_pass-keys.ensures.told)
+
+pub returns-in-Err-clause-fault : goal.returns-in-Err-clause-fault
+returns-in-Err-clause-fault g c = λ files is.
+    let job = c.args.job.now in
+    let tried : c.as_slice.result.now ≡ seeds_of job.seed job.count = search rules in
+    let made = made_by job.keys (c.lines.ensures job.keys c.requires.job.keys.1) in
+    let fails = fault_from job c.args.algorithm c.plan_by.result c.as_slice.result.now c.in-Err.fault c.plan_by.ensures.plan tried (c.in-Err.ensures.fault files is (tested.generated job.keys) c.generated_pass-keys.ensures.told) in
+    fails_test job c.args.algorithm c.in-Err.fault c.generated_pass-keys.result.faults c.func_of-built.new.keys.faults (g.D.Disk.write_faults c.args.disk.now) (g.D.Disk.write_faults c.func_of-built.new.disk) made c.requires.job.keys.0
+    c.generated_pass-keys.ensures.faults c.into_source-text.ensures.faults c.in-Err.ensures.cause fails

@@ -1,0 +1,37 @@
+use Rattle.std.proofs.Common.{[], ◌∙◌}
+use Rattle.cm_tool.specs.Ends.{message_of}
+use Rattle.cm_tool.specs.TestEnds.{test_name}
+use Rattle.cm_tool.specs.Tested.{test_outcome}
+use Rattle.cm_tool.proofs.Outcomes.{nothing_said}
+use Rattle.cm_tool.proofs.Tests.{done_message, never_changed, part_of_test, test_done, test_known, test_message, test_status, test_stopped}
+use Rattle.cm_tool.proofs.testing.run_test.Goals as goal
+
+pub returns-in-Ok-clause-outcome : goal.returns-in-Ok-clause-outcome
+returns-in-Ok-clause-outcome g c = λ _ _ files is. test_done c.args.job.now files _ _ _ _ _ (c.in-Ok.ensures.ends files is) (c.test_each.ensures.files ∙ is)
+
+pub returns-in-Ok-clause-err : goal.returns-in-Ok-clause-err
+returns-in-Ok-clause-err g c = ([], done_message c.args.job.now _ _, nothing_said _ _)
+
+pub returns-in-Err-clause-status : goal.returns-in-Err-clause-status
+returns-in-Err-clause-status g c = let form = c.in-Err.ensures.form in rw c.report.ensures.status (test_status c.args.job.now form.0 c.in-Err.stop form.1)
+
+pub returns-in-Err-clause-known : goal.returns-in-Err-clause-known
+returns-in-Err-clause-known g c = let form = c.in-Err.ensures.form in rw c.report.ensures.status (test_known form.0 c.in-Err.stop form.1)
+
+pub returns-in-Err-clause-outcome : goal.returns-in-Err-clause-outcome
+returns-in-Err-clause-outcome g c = λ a b files is.
+    let status = c.report.ensures.status in
+    rw status (test_stopped c.args.job.now files c.in-Err.stop _ _ _ _ _ _ _ (c.in-Err.ensures.ends files is) (rw c.as_str.ensures.bytes at c.report.ensures.says) (rw status at a) (rw status at b) (c.test_each.ensures.files ∙ is))
+
+pub returns-in-Err-clause-unchanged : goal.returns-in-Err-clause-unchanged
+returns-in-Err-clause-unchanged g c = λ files is. rw c.report.ensures.status (never_changed (test_outcome c.args.job.now files) _ _ c.in-Err.stop (c.in-Err.ensures.ends files is))
+
+pub returns-in-Err-clause-part : goal.returns-in-Err-clause-part
+returns-in-Err-clause-part g c = λ either files is.
+    let status = c.report.ensures.status in
+    part_of_test (test_outcome c.args.job.now files) _ _ c.in-Err.stop (c.in-Err.ensures.ends files is) (rw status at either)
+
+pub returns-in-Err-clause-err : goal.returns-in-Err-clause-err
+returns-in-Err-clause-err g c =
+    let form = c.in-Err.ensures.form in
+    (message_of test_name [] c.args.job.now.dir c.in-Err.stop, rw c.report.ensures.status (test_message c.args.job.now form.0 _ _ c.in-Err.stop form.1 c.in-Err.ensures.out_cause), rw c.as_str.ensures.bytes at c.report.ensures.says)

@@ -1,0 +1,21 @@
+use Rattle.std.proofs.Common.{◌≡◌, ℕ, List, Option, Result, drop}
+use Rattle.std.specs.Option.{ForSome}
+use Rattle.cm_outer.specs.Causes.{IsSent}
+use Rattle.cm_tool.specs.TestEnds.{EndsTest}
+use Rattle.cm_tool.specs.Tested.{tested_by}
+use Rattle.cm_tool.specs.declared.stop.Stop.{Stop}
+use Rattle.cm_tool.proofs.testing.test_each.Given as goal
+
+abbrev pub invariant-loop-algorithm : goal.invariant-loop-algorithm
+invariant-loop-algorithm g l =
+    let D = g.D.Disk in
+    let O = g.O.Sink in
+    record {
+      files : D.files l.disk ≡ D.files l.fn.disk;
+      reads : D.read_faults l.disk ≡ D.read_faults l.fn.disk;
+      writes : D.write_faults l.disk ≡ D.write_faults l.fn.disk;
+      quiet : O.faults l.out ≡ O.faults l.fn.out;
+      sent : O.waits l.fn.out ≡ 0 → IsSent (O.waits l.out) (O.faults l.fn.out) (O.faults l.out);
+      ends : ForSome (D.files l.fn.disk) (λ files. (r : Result (Unit {0}) Stop) (new : Option (List ℕ)) → EndsTest (tested_by l.job files (drop l.algorithm-index l.algorithms)) (O.written l.out) new r
+          → EndsTest (tested_by l.job files l.algorithms) (O.written l.fn.out) new r);
+    }

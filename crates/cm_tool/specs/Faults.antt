@@ -1,0 +1,137 @@
+-- Why there is no function of keys.
+use Rattle.std.specs.Prelude.{◌≡◌, ◌≢◌, ◌<◌, ◌≤◌, ◌+◌, ℕ, List, [], length, Option, None, Some, Result, Ok, Err}
+use Rattle.cm_algo.specs.Fails.{IsToldFault}
+use Rattle.cm_algo.specs.declared.fault.BuildFault.{BuildFault}
+use Rattle.cm_algo.specs.declared.fault.BuildFault.TheVariants as build_fault
+use Rattle.cm_algorithm.specs.declared.algorithm.Algorithm.{Algorithm}
+use Rattle.cm_algorithm.specs.declared.algorithm.Algorithm.TheVariants.{Brz}
+use Rattle.cm_brz.specs.Reports.{overfull_text}
+use Rattle.cm_brz.specs.declared.fault.BrzFault.{BrzFault}
+use Rattle.cm_brz.specs.declared.fault.BrzFault.TheVariants as brz_fault
+use Rattle.cm_outer.specs.Causes.{Rose}
+use Rattle.cm_outer.specs.Passes.{HasKeyCause, Told}
+use Rattle.cm_outer.specs.declared.key_pass.KeyFault.{KeyFault}
+use Rattle.cm_outer.specs.declared.key_pass.KeyFault.TheVariants as key_fault
+use Rattle.cm_tool.specs.Seeds.{NoneWorks}
+use Rattle.cm_tool.specs.Verdict.{Shown, verdict_by}
+use Rattle.cm_tool.specs.declared.fault.FuncFault.{FuncFault}
+use Rattle.cm_tool.specs.declared.fault.FuncFault.TheVariants.{Memory, NoKeys, Cored, Overfull, Key, Changed, Spill, SpillDamaged}
+use Rattle.cm_tool.specs.declared.stop.Reason.{Reason}
+use Rattle.cm_tool.specs.declared.stop.Reason.TheVariants.{NoSeed, NoSeedFor, NoSplit}
+use Rattle.cm_tool.specs.declared.stop.Stop.{Stop}
+use Rattle.cm_tool.specs.declared.stop.Stop.TheVariants as stops
+use Rattle.cm_witness.specs.Reports.{report_text}
+use Rattle.cm_witness.specs.declared.certificate.Certificate.{Certificate}
+use Rattle.cm_witness.specs.declared.certificate.InBucket.{InBucket}
+use Rattle.cm_witness.specs.declared.certificate.Pair.{Pair}
+
+-- the fault for a refused build by one seed
+abbrev pub fault_from_build : BuildFault → FuncFault
+fault_from_build build_fault.Memory = Memory
+fault_from_build build_fault.NoKeys = NoKeys
+fault_from_build (build_fault.Cored made) = Cored made
+fault_from_build (build_fault.Key fault) = Key fault
+fault_from_build (build_fault.Changed first again) = Changed first again
+
+-- and for a refused build by BRZ
+abbrev pub fault_from_brz : BrzFault → FuncFault
+fault_from_brz brz_fault.Memory = Memory
+fault_from_brz brz_fault.NoKeys = NoKeys
+fault_from_brz (brz_fault.Overfull seed bucket count equal) = Overfull seed bucket count equal
+fault_from_brz (brz_fault.Cored made) = Cored made
+fault_from_brz (brz_fault.Key fault) = Key fault
+fault_from_brz (brz_fault.Changed first again) = Changed first again
+fault_from_brz brz_fault.SpillFailed = Spill
+fault_from_brz (brz_fault.SpillDamaged offset expected found) = SpillDamaged offset expected found
+
+-- `Key Read` exactly if the count k of the keys' faults rose, and `Spill` exactly if that of the disk's write faults, w, rose: never do both
+abbrev pub HasFuncCause : {T : Type 0} → ℕ → ℕ → ℕ → ℕ → Result T FuncFault → Type 0
+HasFuncCause k k' w w' (Ok x) = (k' ≡ k) × (w' ≡ w)
+HasFuncCause k k' w w' (Err Memory) = (k' ≡ k) × (w' ≡ w)
+HasFuncCause k k' w w' (Err NoKeys) = (k' ≡ k) × (w' ≡ w)
+HasFuncCause k k' w w' (Err (Cored made)) = (k' ≡ k) × (w' ≡ w)
+HasFuncCause k k' w w' (Err (Overfull seed bucket count equal)) = (k' ≡ k) × (w' ≡ w)
+HasFuncCause k k' w w' (Err (Key fault)) = HasKeyCause {T = Unit {0}} k k' (Err fault) × (w' ≡ w)
+HasFuncCause k k' w w' (Err (Changed first again)) = (k' ≡ k) × (w' ≡ w)
+HasFuncCause k k' w w' (Err Spill) = (k' ≡ k) × (w ≤ w') × Rose w w'
+HasFuncCause k k' w w' (Err (SpillDamaged offset expected found)) = (k' ≡ k) × (w' ≡ w)
+
+-- what a certificate shows: the keys of a bucket, or all keys, have no seed
+abbrev pub reason_of : Option InBucket → Reason
+reason_of None = NoSeed
+reason_of (Some place) = NoSeedFor place.bucket
+
+abbrev pub shown_core : Certificate → Shown
+shown_core made = record { reason = reason_of made.place; report = report_text made.algorithm made.place made.seed made.edges.items made.equal.items }
+
+-- and an overfull bucket
+abbrev pub shown_overfull : ℕ → ℕ → ℕ → List Pair → Shown
+shown_overfull seed bucket count equal = record { reason = NoSplit; report = overfull_text seed bucket count equal }
+
+-- keys with no fault at their end have no function, and this shows it
+pub record HasNone (algorithm : Algorithm) (b : ℕ) (told : Told) (c : ℕ) (seeds : List ℕ) (shown : Shown) : Type 0 where
+  pub no_fault : told.fault ≡ None
+  pub some : 0 < length told.keys
+  pub verdict : verdict_by algorithm b told.keys c seeds ≡ Err shown
+  pub none : NoneWorks algorithm b told.keys c seeds
+
+-- the refusals over keys and a spill with known contents: they never change, and what is refused is so by the keys alone, unless the
+-- spill fails
+abbrev pub FailsFunc : Algorithm → ℕ → Told → ℕ → List ℕ → FuncFault → Type 0
+FailsFunc algorithm b told c seeds Memory = Unit {0}
+FailsFunc algorithm b told c seeds NoKeys = (told.fault ≡ None) × (told.keys ≡ [])
+FailsFunc algorithm b told c seeds (Cored made) = HasNone algorithm b told c seeds (shown_core made)
+FailsFunc algorithm b told c seeds (Overfull seed bucket count equal) = HasNone algorithm b told c seeds (shown_overfull seed bucket count equal.items)
+FailsFunc algorithm b told c seeds (Key fault) = IsToldFault told fault
+FailsFunc algorithm b told c seeds (Changed first again) = ⊥
+FailsFunc algorithm b told c seeds Spill = Unit {0}
+FailsFunc algorithm b told c seeds (SpillDamaged offset expected found) = ⊥
+
+-- how many keys there were in the first pass, and how many of a later one: fewer, or one more, where it stops
+pub record IsChange (first again : ℕ) : Type 0 where
+  pub some : 1 ≤ first
+  pub differs : again ≢ first
+  pub stops : again ≤ first + 1
+
+-- keys that changed have such numbers; by BRZ they may be those of a bucket
+abbrev pub IsChangeBy : Algorithm → ℕ → ℕ → Type 0
+IsChangeBy Brz first again = again ≢ first
+IsChangeBy algorithm first again = IsChange first again
+
+-- BRZ alone has a spill
+abbrev pub UsesSpill : Algorithm → Type 0
+UsesSpill Brz = Unit {0}
+UsesSpill algorithm = ⊥
+
+-- the reasons for which there is no function by an algorithm
+abbrev pub IsReasonBy : Algorithm → Reason → Type 0
+IsReasonBy Brz NoSeed = ⊥
+IsReasonBy Brz reason = Unit {0}
+IsReasonBy algorithm NoSeed = Unit {0}
+IsReasonBy algorithm reason = ⊥
+
+-- why a refused pass stops a job
+abbrev pub stop_from_key : KeyFault → Stop
+stop_from_key key_fault.Read = stops.Read
+stop_from_key (key_fault.TooLong line) = stops.TooLong line
+stop_from_key key_fault.TooMany = stops.TooMany
+
+-- why a fault stops a job, if out takes the report
+abbrev pub stop_for : FuncFault → Stop
+stop_for Memory = stops.Memory
+stop_for NoKeys = stops.NoKeys
+stop_for (Cored made) = stops.Refused (reason_of made.place)
+stop_for (Overfull seed bucket count equal) = stops.Refused NoSplit
+stop_for (Key fault) = stop_from_key fault
+stop_for (Changed first again) = stops.Changed first again
+stop_for Spill = stops.Spill
+stop_for (SpillDamaged offset expected found) = stops.SpillDamaged offset expected found
+
+-- what a stop has, whatever the keys and the spill are: numbers of keys that changed, two numbers of a damaged spill that differ, and a
+-- reason of the algorithm
+abbrev pub HasStopForm : Algorithm → Stop → Type 0
+HasStopForm algorithm (stops.Changed first again) = IsChangeBy algorithm first again
+HasStopForm algorithm stops.Spill = UsesSpill algorithm
+HasStopForm algorithm (stops.SpillDamaged offset expected found) = UsesSpill algorithm × (expected ≢ found)
+HasStopForm algorithm (stops.Refused reason) = IsReasonBy algorithm reason
+HasStopForm algorithm stop = Unit {0}

@@ -1,0 +1,266 @@
+//! Tests over generated keys.
+ghost use Rattle.std.specs.Prelude.{◌≡◌, ◌≢◌, ◌<◌, ◌≤◌, ◌^◌, ◌⊎◌, ◌↔◌, ℕ, List, [], ◌∷◌, None, Some, Ok, IfOk, IfErr, true};
+ghost use Rattle.std.specs.Option.{ForSome};
+ghost use Rattle.cm_algorithm.specs.declared.algorithm.Algorithm.{Algorithm};
+ghost use Rattle.cm_dump.specs.Functions.{IsFunction, answer_by};
+ghost use Rattle.cm_numbers.specs.Limits.{IsBuffer};
+ghost use Rattle.cm_numbers.specs.Options.{bits_value, usual_ratio};
+ghost use Rattle.cm_outer.specs.Causes.{HasCause, IsSent};
+ghost use Rattle.cm_outer.specs.Writing.{Writes};
+ghost use Rattle.cm_tool.specs.Ends.{Says};
+ghost use Rattle.cm_tool.specs.Faults.{HasFuncCause, HasStopForm, stop_for};
+ghost use Rattle.cm_tool.specs.Leaves.{HasOutCause, HasStopCause};
+ghost use Rattle.cm_tool.specs.Plans.{IsPlan};
+ghost use Rattle.cm_tool.specs.Run.{IsStatus, Reaches};
+ghost use Rattle.cm_tool.specs.TestEnds.{EndsTest, FailsTest, GotPrefix, HasTestForm, IsTestMessage};
+ghost use Rattle.cm_tool.specs.Tested.{answer_sum, generated, line_text, test_outcome, test_plan, test_verdict, tested_by, usual_b};
+ghost use Rattle.cm_words.specs.Limits.{IsTest};
+ghost use Rattle.cm_words.specs.declared.jobs.Job.TheVariants.{Test};
+
+use crate::building::{seeds, stop_of};
+use crate::fault::FuncFault;
+use crate::functions::func_of;
+use crate::plan::Plan;
+use crate::printing::send_text;
+use crate::reloading::reload;
+use crate::report::report;
+use crate::stop::Stop;
+use crate::summing::sum_answers;
+use cm_algorithm::Algorithm;
+use cm_dump::{Func, saved_len};
+use cm_keys::Keys;
+use cm_made::MadeKeys;
+use cm_outer::{Disk, Failed, KeyPass, Sink, write_pieces};
+use cm_words::TestJob;
+use itoa::Buffer;
+use std::alloc::Global;
+use std::marker::Brand;
+use std::sync::ledger::Blank;
+
+/// A pass over n generated keys.
+#[tactic(auto, unfolding(crate::specs::Tested::generated))]
+fn generated_pass(n: u32) -> Keys<MadeKeys>
+    requires some { 1 ≤ n }
+    requires few { n ≤ 16777216 }
+    ensures told { ⟦<Keys<MadeKeys> as KeyPass>⟧.told result ≡ Some (generated n) }
+    ensures place { ⟦<Keys<MadeKeys> as KeyPass>⟧.place result ≡ 0 }
+    ensures usable { ⟦<Keys<MadeKeys> as KeyPass>⟧.usable result ≡ true }
+    ensures faults { ⟦<Keys<MadeKeys> as KeyPass>⟧.faults result ≡ 0 }
+{
+    Keys::new(MadeKeys::new(n), None)
+}
+
+/// The ratio of vertices to keys, in millionths, of a build for which none is asked.
+fn ratio_by(algorithm: Algorithm) -> u32
+    ensures ratio { result ≡ usual_ratio algorithm }
+{
+    match algorithm {
+        Algorithm::Chm => 2_090_000,
+        Algorithm::Bdz | Algorithm::BdzPh | Algorithm::Brz => 1_230_000,
+    }
+}
+
+/// The parameter b of a build for which none is asked.
+fn b_by(algorithm: Algorithm) -> u8
+    ensures b { result ≡ usual_b algorithm }
+    ensures asked { bits_value true algorithm None ≡ Ok result }
+{
+    match algorithm {
+        Algorithm::Bdz => 7,
+        Algorithm::Brz => 128,
+        Algorithm::Chm | Algorithm::BdzPh => 0,
+    }
+}
+
+/// How an algorithm is tested.
+fn plan_by(algorithm: Algorithm, buffer: u32) -> Plan
+    requires buffer { IsBuffer buffer }
+    ensures plan { result ≡ test_plan algorithm buffer }
+    ensures valid { IsPlan result }
+{
+    Plan {
+        algorithm,
+        c: ratio_by(algorithm),
+        b: b_by(algorithm),
+        buffer,
+    }
+}
+
+/// Builds the function of an algorithm over the generated keys of a job.
+fn build_generated<D: Disk>(
+    alloc: Global,
+    job: &TestJob,
+    algorithm: Algorithm,
+    disk: &mut D,
+) -> Result<Func, FuncFault>
+    requires job { IsTest job.now }
+    ensures files { D.files disk.new ≡ D.files disk.old }
+    ensures read_faults { D.read_faults disk.new ≡ D.read_faults disk.old }
+    ensures cause { HasFuncCause 0 0 (D.write_faults disk.old) (D.write_faults disk.new) result }
+    ensures made { IfOk result (λ f. ForSome (D.files disk.old) (λ _. test_verdict job.now algorithm ≡ Ok f)) }
+    ensures valid { IfOk result IsFunction }
+    ensures fault { IfErr result (λ e. ForSome (D.files disk.old) (λ _. FailsTest job.now algorithm e)) }
+    ensures form { IfErr result (λ e. HasStopForm algorithm (stop_for e)) }
+{
+    // A law, for the proof alone.
+    cm_made::laws::lines();
+    let mut keys = generated_pass(job.keys);
+    let tried = seeds(job.seed, job.count);
+    let built = func_of::<Keys<MadeKeys>, D, Brand>(
+        alloc,
+        &plan_by(algorithm, job.buffer),
+        tried.as_slice(),
+        &job.dir,
+        &mut keys,
+        disk,
+        Blank::new(1),
+    );
+    // The text of the keys never fails.
+    let _text = keys.into_source();
+    match built {
+        Ok(function) => Ok(function),
+        Err(fault) => Err(fault),
+    }
+}
+
+/// The sum of a function's answers to n generated keys. A key without an answer counts 0.
+fn generated_sum(function: &Func, n: u32) -> u64
+    requires some { 1 ≤ n }
+    requires few { n ≤ 16777216 }
+    ensures sum { result ≡ answer_sum (answer_by function.now) (generated n).keys }
+{
+    // A law, for the proof alone.
+    cm_made::laws::lines();
+    let mut keys = generated_pass(n);
+    let summed = sum_answers(function, &mut keys);
+    // The text of the keys never fails.
+    let _text = keys.into_source();
+    match summed {
+        Ok(sum) => sum,
+        Err(_) => unreachable!(),
+    }
+}
+
+/// Prints the line of an algorithm and sends it on.
+fn print_line<O: Sink>(
+    algorithm: Algorithm,
+    n: u32,
+    bytes: u64,
+    sum: u64,
+    out: &mut O,
+) -> Result<(), Failed>
+    ensures text { Writes (O.written out.old) (O.written out.new) (line_text algorithm n bytes sum) result }
+    ensures cause { HasCause (O.faults out.old) (O.faults out.new) result }
+    ensures sent { IsSent (O.waits out.new) (O.faults out.old) (O.faults out.new) }
+{
+    let mut keys = Buffer::new();
+    let mut len = Buffer::new();
+    let mut total = Buffer::new();
+    let written = write_pieces(
+        out,
+        &[
+            algorithm.name().as_bytes(),
+            b" ",
+            keys.format(n).as_bytes(),
+            b" ",
+            len.format(bytes).as_bytes(),
+            b" ",
+            total.format(sum).as_bytes(),
+            b"\n",
+        ],
+    );
+    send_text(written, out)
+}
+
+/// Tests an algorithm: it builds, saves, loads and answers every key, and prints its line, or the report on keys that have no function.
+fn test_algorithm<D: Disk, O: Sink>(
+    alloc: Global,
+    job: &TestJob,
+    algorithm: Algorithm,
+    disk: &mut D,
+    out: &mut O,
+) -> Result<(), Stop>
+    requires job { IsTest job.now }
+    ensures files { D.files disk.new ≡ D.files disk.old }
+    ensures read_faults { D.read_faults disk.new ≡ D.read_faults disk.old }
+    ensures cause { HasStopCause 0 0 (D.write_faults disk.old) (D.write_faults disk.new) result }
+    ensures out_cause { HasOutCause (O.faults out.old) (O.faults out.new) result }
+    ensures form { IfErr result (HasTestForm algorithm) }
+    ensures sent { O.waits out.old ≡ 0 → IsSent (O.waits out.new) (O.faults out.old) (O.faults out.new) }
+    ensures ends { ForSome (D.files disk.old) (λ files. EndsTest (tested_by job.now files (algorithm ∷ [])) (O.written out.old) (O.written out.new) result) }
+{
+    let function = match build_generated(alloc, job, algorithm, disk) {
+        Ok(function) => function,
+        Err(fault) => return Err(stop_of(fault, out)),
+    };
+    let bytes = saved_len(&function);
+    let Ok(loaded) = reload(alloc, function) else {
+        return Err(Stop::Memory);
+    };
+    let sum = generated_sum(&loaded, job.keys);
+    match print_line(algorithm, job.keys, bytes, sum, out) {
+        Ok(()) => Ok(()),
+        Err(Failed) => Err(Stop::WriteOut),
+    }
+}
+
+/// Tests some algorithms in their order, until one of them stops.
+fn test_each<D: Disk, O: Sink>(
+    alloc: Global,
+    job: &TestJob,
+    algorithms: &[Algorithm],
+    disk: &mut D,
+    out: &mut O,
+) -> Result<(), Stop>
+    requires job { IsTest job.now }
+    ensures files { D.files disk.new ≡ D.files disk.old }
+    ensures read_faults { D.read_faults disk.new ≡ D.read_faults disk.old }
+    ensures cause { HasStopCause 0 0 (D.write_faults disk.old) (D.write_faults disk.new) result }
+    ensures out_cause { HasOutCause (O.faults out.old) (O.faults out.new) result }
+    ensures form { IfErr result (λ stop. (algorithm : Algorithm) × HasTestForm algorithm stop) }
+    ensures sent { O.waits out.old ≡ 0 → IsSent (O.waits out.new) (O.faults out.old) (O.faults out.new) }
+    ensures ends { ForSome (D.files disk.old) (λ files. EndsTest (tested_by job.now files algorithms.now) (O.written out.old) (O.written out.new) result) }
+{
+    for algorithm in algorithms {
+        match test_algorithm(alloc, job, *algorithm, disk, out) {
+            Ok(()) => {}
+            Err(stop) => return Err(stop),
+        }
+    }
+    Ok(())
+}
+
+/// Does a test, and returns its status.
+pub(crate) fn run_test<D: Disk, O: Sink, E: Sink>(
+    alloc: Global,
+    job: &TestJob,
+    disk: &mut D,
+    out: &mut O,
+    err: &mut E,
+) -> u8
+    requires job { IsTest job.now }
+    ensures status { IsStatus (Ok (Test job.now)) result }
+    ensures known { result ≢ 4 }
+    ensures files { D.files disk.new ≡ D.files disk.old }
+    ensures read_faults { D.read_faults disk.new ≡ D.read_faults disk.old }
+    ensures write { D.write_faults disk.old < 2 ^ 63 → O.faults out.old < 2 ^ 63 →
+        ((result ≡ 5) ↔ ((D.write_faults disk.old < D.write_faults disk.new) ⊎ (O.faults out.old < O.faults out.new))) }
+    ensures outcome { result ≢ 5 → result ≢ 6 → ForSome (D.files disk.old) (λ files.
+        Reaches (Some (test_outcome job.now files)) result (O.written out.old) (O.written out.new) (E.written err.old) (E.written err.new) (E.faults err.old) (E.faults err.new) (D.files disk.new)) }
+    ensures unchanged { ForSome (D.files disk.old) (λ _. (result ≢ 7) × (result ≢ 8)) }
+    ensures part { (result ≡ 5) ⊎ (result ≡ 6) → ForSome (D.files disk.old) (λ files. GotPrefix (test_outcome job.now files).out (O.written out.old) (O.written out.new)) }
+    ensures sent { O.waits out.old ≡ 0 → IsSent (O.waits out.new) (O.faults out.old) (O.faults out.new) }
+    ensures err_sent { E.waits err.old ≡ 0 → IsSent (E.waits err.new) (E.faults err.old) (E.faults err.new) }
+    ensures err { (text : List ℕ) × IsTestMessage job.now (O.faults out.old) (O.faults out.new) result text × Says text (E.written err.old) (E.written err.new) (E.faults err.old) (E.faults err.new) }
+{
+    let algorithms = [
+        Algorithm::Chm,
+        Algorithm::Bdz,
+        Algorithm::BdzPh,
+        Algorithm::Brz,
+    ];
+    match test_each(alloc, job, &algorithms, disk, out) {
+        Ok(()) => 0,
+        Err(stop) => report(stop, "-T", "", job.dir.as_str(), err),
+    }
+}
