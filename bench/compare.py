@@ -7,8 +7,10 @@ A SET is a number of generated keys, `words` (Debian's word list), `paths` (path
 file of keys. Every tool builds a function over the same keys and answers them all, in N interleaved runs (3). The least
 processor time counts, and the greatest memory.
 
-For equal work each tool takes a seed whose first graph works. This program tries seeds from 1 on, so the keys are chosen:
-the first block of generated keys that seed 1 serves, or a file without its last few lines. For the C tool the seed is chosen.
+For equal work each tool takes a seed whose first graph works, or by brz the first split. This program tries seeds from 1 on,
+so the keys are chosen: the first block of generated keys that seed 1 serves, or a file without its last few lines. For the C
+tool the seed is chosen. By brz each tool has a buffer of 1 megabyte, and its spill files go beside the keys; the C tool builds
+its buckets by another algorithm than BDZ.
 
 It prints one table: seconds of processor time, peaks of memory and sizes for each key, and in brackets the ratio to the
 C tool. It leaves the table in bench/results/NAME.md and its numbers in bench/results/NAME.csv; bench/tables.py puts them into
@@ -34,7 +36,8 @@ from typing import NamedTuple
 
 TOP = Path(__file__).resolve().parent.parent
 OURS = TOP / "bin" / "cmph"
-ALGORITHMS = ["chm", "bdz", "bdz_ph"]  # asked of the program one by one; it is measured with those that it takes
+ALGORITHMS = ["chm", "bdz", "bdz_ph", "brz"]  # asked of the program one by one; it is measured with those that it takes
+MEGABYTES = 1  # of the buffer for builds by brz, of each tool
 SETS = ["100000", "1000000", "10000000", "words", "paths"]
 WORDS = Path("/usr/share/dict/words")
 PATHS_FROM, MOST_PATHS = "/usr", 1_000_000
@@ -87,9 +90,14 @@ def must(words: list) -> Used:
 # The tools
 
 
+def buffer_of(algorithm: str, keys: Path) -> list:
+    """The options of the buffer and of the spill file, which goes beside the keys."""
+    return ["-M", MEGABYTES, "-d", keys.parent] if algorithm == "brz" else []
+
+
 def our_build(algorithm: str, keys: Path) -> list:
     choice = [] if algorithm == "chm" else ["-a", algorithm]
-    return [OURS, "-g", *choice, keys]
+    return [OURS, "-g", *choice, *buffer_of(algorithm, keys), keys]
 
 
 def our_seed(keys: Path) -> int:
@@ -124,15 +132,15 @@ def says_c(program: str) -> bool:
 
 
 def c_build(tool: str, algorithm: str, seed: int, function: Path, keys: Path) -> list:
-    return [tool, "-g", "-a", algorithm, "-m", function, "-s", seed, keys]
+    return [tool, "-g", "-a", algorithm, *buffer_of(algorithm, keys), "-m", function, "-s", seed, keys]
 
 
 def c_seed(tool: str, algorithm: str, function: Path, keys: Path) -> int:
-    """A seed whose first graph serves the C tool, which notes each graph that doesn't."""
+    """A seed whose first graph or split serves the C tool, which notes each that doesn't."""
     for seed in range(1, 1000):
         words = [tool, "-v", *c_build(tool, algorithm, seed, function, keys)[1:]]
         with subprocess.Popen(list(map(str, words)), stdout=subprocess.DEVNULL, stderr=subprocess.PIPE) as build:
-            failed = any(b"failure" in line for line in build.stderr)
+            failed = any(b"failure" in line.lower() for line in build.stderr)
         if not failed and build.returncode == 0:
             return seed
     sys.exit(f"{algorithm}: no seed below 1000 serves the C tool")

@@ -17,10 +17,10 @@ use std::io::{self, BufRead, BufReader, BufWriter, StdoutLock, Write};
 use std::time::Instant;
 
 /// How many bytes are read or written at once.
-const PIECE: usize = 65_536;
+pub const PIECE: usize = 65_536;
 
 /// How many keys a query answers together.
-const BATCH: usize = 32;
+pub const BATCH: usize = 32;
 
 /// How many edges are worked on together where cells are set.
 pub const CHUNK: usize = 64;
@@ -113,7 +113,7 @@ fn tail(key: &[u8], rest: &[u8]) -> [u32; 3] {
 
 /// The three words of lookup2 (Jenkins 1997).
 #[inline(always)]
-fn words(key: &[u8], seed: u32) -> [u32; 3] {
+pub fn words(key: &[u8], seed: u32) -> [u32; 3] {
     let mut s = [0x9e37_79b9, 0x9e37_79b9, seed];
     let (blocks, rest) = key.as_chunks::<12>();
     for block in blocks {
@@ -130,13 +130,14 @@ fn words(key: &[u8], seed: u32) -> [u32; 3] {
 }
 
 /// A number to take remainders by, with its reciprocal (Barrett 1986).
+#[derive(Clone, Copy)]
 pub struct Divisor {
     pub n: u32,
     scaled: u64,
 }
 
 impl Divisor {
-    fn new(n: u32) -> Divisor {
+    pub fn new(n: u32) -> Divisor {
         let scaled = (1 << 32) / n as u64;
         Divisor { n, scaled }
     }
@@ -150,7 +151,7 @@ impl Divisor {
 
 // The lines
 
-fn open(path: &str) -> io::Result<BufReader<File>> {
+pub fn open(path: &str) -> io::Result<BufReader<File>> {
     Ok(BufReader::with_capacity(PIECE, File::open(path)?))
 }
 
@@ -171,7 +172,7 @@ fn find_end(bytes: &[u8]) -> Option<usize> {
 }
 
 /// Calls `each` with the lines of a file, where they stand in the buffer but for those that lie across two reads.
-fn for_lines(path: &str, mut each: impl FnMut(&[u8])) -> io::Result<()> {
+pub fn for_lines(path: &str, mut each: impl FnMut(&[u8])) -> io::Result<()> {
     let mut reader = open(path)?;
     let mut part = Vec::new();
     loop {
@@ -200,7 +201,7 @@ fn for_lines(path: &str, mut each: impl FnMut(&[u8])) -> io::Result<()> {
 }
 
 /// How many lines a file has.
-fn count_lines(path: &str) -> io::Result<u32> {
+pub fn count_lines(path: &str) -> io::Result<u32> {
     let mut reader = open(path)?;
     let (mut count, mut last) = (0, b'\n');
     loop {
@@ -216,14 +217,26 @@ fn count_lines(path: &str) -> io::Result<u32> {
 }
 
 /// Some keys, one after another.
-struct Batch {
+pub struct Batch {
     bytes: Vec<u8>,
     ends: Vec<usize>,
 }
 
 impl Batch {
+    /// No keys, and room for some.
+    pub fn new() -> Batch {
+        Batch {
+            bytes: Vec::with_capacity(PIECE),
+            ends: Vec::with_capacity(BATCH),
+        }
+    }
+
+    pub fn is_empty(&self) -> bool {
+        self.ends.is_empty()
+    }
+
     /// Takes the next keys in place of those before. There are fewer only at the end of the file.
-    fn read(&mut self, reader: &mut impl BufRead) -> io::Result<()> {
+    pub fn read(&mut self, reader: &mut impl BufRead) -> io::Result<()> {
         self.bytes.clear();
         self.ends.clear();
         while self.ends.len() < BATCH && read_line(reader, &mut self.bytes)? {
@@ -232,7 +245,7 @@ impl Batch {
         Ok(())
     }
 
-    fn keys(&self) -> impl Iterator<Item = &[u8]> {
+    pub fn keys(&self) -> impl Iterator<Item = &[u8]> {
         let starts = [0].into_iter().chain(self.ends.iter().copied());
         starts
             .zip(&self.ends)
@@ -286,13 +299,25 @@ fn build<F: Function<K>, const K: usize>(path: &str, seed: u32, timed: bool) -> 
 // A query
 
 /// Lines that wait to be written.
-struct Text<'a> {
+pub struct Text<'a> {
     out: StdoutLock<'a>,
     bytes: Vec<u8>,
 }
 
 impl Text<'_> {
-    fn put(&mut self, key: &[u8], answer: u32) -> io::Result<()> {
+    /// Lines for standard output.
+    pub fn new() -> Self {
+        Text {
+            out: io::stdout().lock(),
+            bytes: Vec::with_capacity(PIECE),
+        }
+    }
+
+    pub fn flush(&mut self) -> io::Result<()> {
+        self.out.write_all(&self.bytes)
+    }
+
+    pub fn put(&mut self, key: &[u8], answer: u32) -> io::Result<()> {
         if self.bytes.len() + key.len() + 15 > PIECE {
             self.out.write_all(&self.bytes)?;
             self.bytes.clear();
@@ -335,18 +360,12 @@ fn query<F: Function<K>, const K: usize>(path: &str) -> io::Result<()> {
     let (function, seed, n) = load::<F, K>(&format!("{path}.mph"))?;
     let range = Divisor::new(F::range(n));
     let mut reader = open(path)?;
-    let mut batch = Batch {
-        bytes: Vec::with_capacity(PIECE),
-        ends: Vec::with_capacity(BATCH),
-    };
-    let mut text = Text {
-        out: io::stdout().lock(),
-        bytes: Vec::with_capacity(PIECE),
-    };
+    let mut batch = Batch::new();
+    let mut text = Text::new();
     let mut edges = [[0; K]; BATCH];
     let mut answers = [None; BATCH];
     batch.read(&mut reader)?;
-    while !batch.ends.is_empty() {
+    while !batch.is_empty() {
         for (edge, key) in edges.iter_mut().zip(batch.keys()) {
             *edge = F::edge(words(key, seed), &range);
         }
@@ -360,7 +379,7 @@ fn query<F: Function<K>, const K: usize>(path: &str) -> io::Result<()> {
         }
         batch.read(&mut reader)?;
     }
-    text.out.write_all(&text.bytes)
+    text.flush()
 }
 
 /// Does what the words of the command line ask for, with functions of one algorithm.

@@ -36,6 +36,7 @@ NEEDS = {
     "chm": ("the numbers of the lines, in the order of the keys", "0 to m - 1, in order"),
     "bdz": ("a small function, and no number left out", "0 to m - 1, in no order that means anything"),
     "bdz_ph": ("the smallest function; numbers may be left out", "distinct, below about 1.23 m"),
+    "brz": ("the least memory in a build, for sets of keys larger than memory", "0 to m - 1, in no order that means anything"),
 }
 
 

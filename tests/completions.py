@@ -107,6 +107,8 @@ def main():
         ("the algorithms of bash", of_bash("-a", ""), algorithms),
         ("the algorithms of bash after flags", of_bash("-gva", ""), algorithms),
         ("the algorithms of zsh", choices_of_zsh("a"), algorithms),
+        ("the values of -b of bash by bdz", of_bash("-g", "-a", "bdz", "-b", ""), [str(b) for b in range(3, 11)]),
+        ("the values of -b of bash by brz", of_bash("-g", "-a", "brz", "-b", ""), []),
         ("the hash functions of bash", of_bash("-f", ""), hashes),
         ("the hash functions of zsh", choices_of_zsh("f"), hashes),
     ]

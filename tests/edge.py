@@ -27,6 +27,7 @@ CHM_TWO = bytes.fromhex("434d5048444d5031" "01000000" "02000000" "10e41f00" "000
 CHM_ONE = bytes.fromhex("434d5048444d5031" "01000000" "01000000" "10e41f00" "00000000" "00")
 BDZ_ONE = bytes.fromhex("434d5048444d5031" "02070000" "01000000" "b0c41200" "00000000" "f3ff03" "00000000")
 BDZ_PH_TWO = bytes.fromhex("434d5048444d5031" "03000000" "02000000" "b0c41200" "00000000" "0000")
+BRZ_TWO = bytes.fromhex("434d5048444d5031" "04800000" "02000000" "b0c41200" "00000000" "02" "00000000" "c3ff03")
 TWO = b"\na\n"
 TWO_EQUAL = b"core chm seed 0 edges 2\nedge 1 4 1\nedge 2 4 1\nequal 1 2\n"
 TWO_ANSWERS = b" -> 0\na -> 1\n"
@@ -135,11 +136,13 @@ def answered(count):
 
 @case("status 0: a build and a query by each algorithm")
 def _(room):
-    for name, content, dump in [("chm", TWO, CHM_TWO), ("bdz", b"\n", BDZ_ONE), ("bdz_ph", TWO, BDZ_PH_TWO)]:
+    made = [("chm", TWO, CHM_TWO, TWO_ANSWERS), ("bdz", b"\n", BDZ_ONE, b" -> 0\n"), ("bdz_ph", TWO, BDZ_PH_TWO, b" -> 1\na -> 2\n"),
+            ("brz", TWO, BRZ_TWO, TWO_ANSWERS)]
+    for name, content, dump, answers in made:
         room.put("keys", content)
         ends(room.run("-g", "-a", name, "-s", "0", "keys"), 0)
         same("the function file", room.get("keys.mph"), dump)
-    ends(room.run("keys"), 0, b" -> 1\na -> 2\n")
+        ends(room.run("keys"), 0, answers)
 
 
 @case("status 0: a note of a function that was built, and another function file")

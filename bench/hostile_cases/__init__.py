@@ -1,5 +1,3 @@
-"""The cases of hostile.py, in the order of its table: outputs, files, memory."""
+"""The cases of hostile.py, in the order of its table: outputs, spill files, files, memory."""
 
-from . import outputs, files, memory  # noqa: F401  isort: skip
-
-# A case of the spill of -M goes here: one that cannot be created, written, read or removed.
+from . import outputs, spilling, files, memory  # noqa: F401  isort: skip

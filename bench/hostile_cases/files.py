@@ -6,7 +6,7 @@ import re
 import sys
 
 from . import model
-from .runs import MOST_C, NAMES, OLDER, Machine, Row, built, c_built, case, get, put
+from .runs import MOST_C, NAMES, OLDER, Machine, Row, built, c_build, c_built, case, get, put, spills
 
 # Damage
 
@@ -62,11 +62,11 @@ def checked_query(machine: Machine, row: Row, dump: bytes, content: bytes) -> No
 def damaged_dumps(name: str, machine: Machine, row: Row) -> None:
     rng = random.Random(f"damaged dumps of {name}")
     bases = []
-    for count in (1, 2, 3, 5, 8, 13, 21, 34, 55, 89, 144, 233):
-        keys = sample_keys(rng, count)
+    for count in (1, 2, 3, 5, 8, 13, 21, 34, 55, 89, 144, 233, *((64, 65, 128, 129, 300, 400) if name == "brz" else ())):
+        keys, b = sample_keys(rng, count), 64 + count % 112 if name == "brz" else 3 + count % 8
         put("keys", keys)
-        wanted = model.build(name, "keys", keys, 1, 100, b=3 + count % 8)
-        dump = built(machine, name, "-b", str(3 + count % 8))
+        wanted = model.build(name, "keys", keys, 1, 100, b=b)
+        dump = built(machine, name, "-b", str(b))
         if dump != wanted.dump:
             sys.exit(f"the function over {count} keys by {name} differs from the model's")
         bases.append((keys, dump))
@@ -100,23 +100,6 @@ for each in NAMES:
     case(f"5,000 damaged function files of {each.upper()}, each asked for some keys")(functools.partial(damaged_dumps, each))
 
 
-@case("5,000 damaged function files of BRZ, which no command builds yet, each asked for some keys")
-def _(machine: Machine, row: Row) -> None:
-    rng = random.Random("damaged dumps of brz")
-    bases = []
-    for count in (1, 2, 8, 34, 64, 65, 128, 129, 300, 400):
-        keys = sample_keys(rng, count)
-        bases.append((keys, model.split(keys, 64 + count % 112, count)))
-    for keys, dump in bases:
-        put("keys", keys)
-        checked_query(machine, row, dump, keys)
-    dumps = [dump for _, dump in bases]
-    asked = b"".join(rng.choice(keys.splitlines(keepends=True)) for keys, _ in bases) + b"\nstranger\nlonger than twelve bytes\n"
-    put("keys", asked)
-    for _ in range(machine.count(5000)):
-        checked_query(machine, row, damaged(rng, rng.choice(dumps), dumps), asked)
-
-
 # Random files
 
 
@@ -142,7 +125,8 @@ def random_file(rng: random.Random) -> bytes:
 def _(machine: Machine, row: Row) -> None:
     rng = random.Random("random files as keys")
     for _ in range(machine.count(10_000)):
-        content, name, b = random_file(rng), rng.choice(NAMES), rng.randint(3, 10)
+        content, name = random_file(rng), rng.choice(NAMES)
+        b = rng.randint(64, 175) if name == "brz" else rng.randint(3, 10)
         seed, seeds = rng.choice([0, 1, rng.getrandbits(32), 2**32 - 1]), rng.randint(1, 4)
         ratio = rng.choice([None, None, 1_000_000, 1_500_000, 2_000_001, 10_000_000])
         wanted = model.build(name, "keys", content, seed, seeds, ratio, b)
@@ -150,9 +134,9 @@ def _(machine: Machine, row: Row) -> None:
         put("g", OLDER)
         words = ["-g", "-a", name, "-s", str(seed), "-r", str(seeds), "-m", "g"]
         words += ["-c", f"{ratio // 10**6}.{ratio % 10**6:06}"] if ratio else []
-        words += ["-b", str(b)] if name == "bdz" else []
+        words += ["-b", str(b)] if name in model.WIDTHS else []
         left = machine.ours(*words, "keys")
-        row.same(left, wanted, {"the function file": get("g") == (wanted.dump or OLDER), "the keys": get("keys") == content})
+        row.same(left, wanted, {"the function file": get("g") == (wanted.dump or OLDER), "the keys": get("keys") == content, "no spill file": not spills()})
         if wanted.dump:
             row.same(machine.ours("-m", "g", "keys"), model.query("g", wanted.dump, "keys", content))
     if machine.tool:
@@ -165,7 +149,7 @@ def random_c_keys(machine: Machine, row: Row, rng: random.Random) -> None:
         content = random_file(rng)
         put("keys", content)
         put("c", OLDER)
-        left = machine.theirs("-g", "-a", rng.choice(NAMES), "-s", "1", "-m", "c", "keys")
+        left = machine.theirs(*c_build(rng.choice(NAMES)))
         ending = left.ending()
         if left.status == 0:
             asked = machine.theirs("-v", "-m", "c", "keys")
@@ -197,13 +181,14 @@ def random_dump(rng: random.Random) -> bytes:
     if rng.random() < 0.4:
         return random_file(rng)
     name, keys = rng.choice(NAMES), rng.randint(1, 6)
-    b = rng.randint(3, 10) if name == "bdz" else 0
+    b = {"bdz": rng.randint(3, 10), "brz": rng.randint(64, 175)}.get(name, 0)
     ratio = rng.choice([1_000_000, 1_230_000, 2_090_000])
     head = b"CMPHDMP1" + bytes([model.NUMBERS[name], b, 0, 0])
     head += b"".join(number.to_bytes(4, "little") for number in (keys, ratio, rng.getrandbits(32)))
     n = model.size_of(name, keys, ratio)
-    size = {"chm": (n * model.width_of(keys) + 7) // 8, "bdz": -(-n // 4), "bdz_ph": -(-n // 5)}[name]
+    size = {"chm": (n * model.width_of(keys) + 7) // 8, "bdz_ph": -(-n // 5)}.get(name, -(-n // 4))
     head = head[: rng.choice([8, 9, 12, 16, 20, 24, 24, 24, 24, 24])]
-    body = bytes(rng.randrange(rng.choice([2, 256])) for _ in range(size)) if name != "bdz" else rng.choice([b"\xff", b"\0", b"\xf3"]) * size
+    body = bytes(rng.randrange(rng.choice([2, 256])) for _ in range(size)) if name in ("chm", "bdz_ph") else rng.choice([b"\xff", b"\0", b"\xf3"]) * size
+    body = bytes([keys]) + rng.randbytes(4) + body if name == "brz" else body  # the one bucket
     ranks = bytes(4 * -(-n // 2**b)) if name == "bdz" else b""
     return head + (body + ranks if rng.random() < 0.7 else rng.randbytes(rng.randrange(2 * size + 2)))

@@ -5,7 +5,8 @@ from typing import Callable, NamedTuple
 
 from . import model
 from .model import Ends, said
-from .runs import GIB, MOST_C, NAMES, OLDER, PAGE, Left, Machine, Row, built, c_built, case, counts, equal_report, get, numbered, numbers, put
+from .runs import (GIB, MOST_C, NAMES, OLDER, PAGE, Left, Machine, Row, built, c_build, c_built, c_file, case, counts, equal_report, get, numbered,
+                   numbers, put, spills)
 
 # Refused memory
 
@@ -49,14 +50,14 @@ def check_memory(row: Row, left: Left, job: Job) -> bool:
     found, is_query = get("g"), "-g" not in job.words
     note = "" if found == OLDER else f", {state_of(found, job)}"
     if left.status == job.end.status:
-        row.same(left, job.end, {"the function file": found == (job.end.dump or OLDER)})
+        row.same(left, job.end, {"the function file": found == (job.end.dump or OLDER), "no spill file": not spills()})
         return True
     if left.status not in (None, 6):
         note = f", {state_of(found, job)}"
     may_be_empty = job.end.dump is not None and found == b""
     row.check(left, 6, {"standard error": left.err == said("out of memory"),
                         "standard output": job.end.out.startswith(left.out) if is_query else left.out == b"",
-                        "the function file": found == OLDER or may_be_empty}, note)
+                        "the function file": found == OLDER or may_be_empty, "no spill file": not spills()}, note)
     return False
 
 
@@ -87,19 +88,11 @@ def address_space_of_c(machine: Machine, row: Row) -> None:
         whole = c_built(machine, name)
         for most in range(least, GIB, 2 * PAGE):
             put("g", OLDER)
-            left = machine.theirs("-g", "-a", name, "-s", "1", "-m", "g", "keys", limits=(f"--as={most}",))
+            left = machine.theirs(*c_build(name, "g"), limits=(f"--as={most}",))
             found, runs = get("g"), runs + 1
             row.c_ends[left.ending() + c_file(left, found, whole)] += 1
             if (left.status == 0 and found == whole) or runs >= MOST_C:
                 break
-
-
-def c_file(left: Left, found: bytes, whole: bytes) -> str:
-    if found == OLDER:
-        return ""
-    if left.status == 0:
-        return "" if found == whole else ", another file"
-    return ", the older file lost"
 
 
 @case("each request for memory refused, alone and with all after it: builds, queries, a report", needs="library")
@@ -117,9 +110,9 @@ def _(machine: Machine, row: Row) -> None:
 def refused_c(machine: Machine, row: Row) -> None:
     for name in NAMES:
         whole = c_built(machine, name)
-        machine.theirs("-g", "-a", name, "-s", "1", "-m", "g", "keys", bend={"HOSTILE_COUNTS": "counts"})
+        machine.theirs(*c_build(name, "g"), bend={"HOSTILE_COUNTS": "counts"})
         total = counts()[0]
         for number in range(1, total + 1, -(-3 * total // MOST_C)):
             put("g", OLDER)
-            left = machine.theirs("-g", "-a", name, "-s", "1", "-m", "g", "keys", bend={"HOSTILE_REFUSE": str(number)})
+            left = machine.theirs(*c_build(name, "g"), bend={"HOSTILE_REFUSE": str(number)})
             row.c_ends[left.ending() + c_file(left, get("g"), whole)] += 1

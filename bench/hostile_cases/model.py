@@ -14,8 +14,12 @@ from draw import words  # noqa: E402  the hash lookup2
 MOST_KEYS, LONGEST = 16_777_216, 65_535
 NUMBERS = {"chm": 1, "bdz": 2, "bdz_ph": 3, "brz": 4}
 NAMES = {number: name for name, number in NUMBERS.items()}
-RATIOS = {"chm": 2_090_000, "bdz": 1_230_000, "bdz_ph": 1_230_000}
+RATIOS = {"chm": 2_090_000, "bdz": 1_230_000, "bdz_ph": 1_230_000, "brz": 1_230_000}
+WIDTHS = {"bdz": 7, "brz": 128}  # what -b is if it isn't given
+MOST_IN_BUCKET = 255
 NO_SEED = "no seed of the list gives an empty core"
+NO_SPLIT = "every split has a bucket with more than 255 keys"
+NO_SPILL = "cannot use the spill file"
 
 
 class Fault(Exception):
@@ -289,42 +293,93 @@ def cells_of(name: str, edges: list[list[int]], rounds: list[list[tuple[int, int
     return cells
 
 
-def report(name: str, seed: int, keys: list[bytes], edges: list[list[int]], left: list[int]) -> bytes:
+def equal_pairs(lines: list[int], keys: list[bytes]) -> list[str]:
+    """Each of these lines whose key an earlier one has, with the first that has it."""
     first = {}
-    for line, key in enumerate(keys, 1):
+    for line, key in zip(lines, keys):
         first.setdefault(key, line)
-    text = [f"core {name} seed {seed} edges {len(left)}"]
-    text += [f"edge {e + 1} {' '.join(map(str, edges[e]))}" for e in left]
-    text += [f"equal {first[keys[e]]} {e + 1}" for e in left if first[keys[e]] != e + 1]
+    return [f"equal {first[key]} {line}" for line, key in zip(lines, keys) if first[key] != line]
+
+
+def report(what: str, seed: int, lines: list[int], keys: list[bytes], edges: list[list[int]], left: list[int]) -> bytes:
+    """The 2-core of the keys in these lines."""
+    text = [f"core {what} seed {seed} edges {len(left)}"]
+    text += [f"edge {lines[e]} {' '.join(map(str, edges[e]))}" for e in left]
+    text += equal_pairs([lines[e] for e in left], [keys[e] for e in left])
     return "".join(f"{line}\n" for line in text).encode()
 
 
-def build(name: str, keys_path: str, content: bytes, seed: int, seeds: int, ratio: int | None = None, b: int = 7) -> Ends:
+def function_over(name: str, what: str, lines: list[int], keys: list[bytes], seeds: list[int], ratio: int, b: int) -> Function | bytes:
+    """The function with the first seed that works, or the report of the first seed."""
+    n, first = size_of(name, len(keys), ratio), None
+    for seed in seeds:
+        edges = [edge_of(name, key, seed, n) for key in keys]
+        rounds, left = peel(edges)
+        if not left:
+            return Function(name, len(keys), ratio, seed, b, cells_of(name, edges, rounds, n))
+        first = first or report(what, seed, lines, keys, edges, left)
+    return first
+
+
+def build(name: str, keys_path: str, content: bytes, seed: int, seeds: int, ratio: int | None = None, b: int | None = None) -> Ends:
     try:
         keys = lines_of(content)
         if not keys:
             raise Fault("no keys")
     except Fault as fault:
         return Ends(8, b"", said(f"{keys_path}: {fault}"))
-    ratio = ratio or RATIOS[name]
-    n, first = size_of(name, len(keys), ratio), None
-    for tried in range(seed, seed + seeds):
-        edges = [edge_of(name, key, tried % 2**32, n) for key in keys]
-        rounds, left = peel(edges)
-        if not left:
-            f = Function(name, len(keys), ratio, tried % 2**32, b if name == "bdz" else 0, cells_of(name, edges, rounds, n))
-            return Ends(0, b"", b"", dump_of(f))
-        first = first or report(name, seed, keys, edges, left)
-    return Ends(1, first, said(NO_SEED))
+    ratio, b, tried = ratio or RATIOS[name], b or WIDTHS.get(name), [each % 2**32 for each in range(seed, seed + seeds)]
+    if name == "brz":
+        return build_by_brz(keys, tried, ratio, b)
+    f = function_over(name, name, list(range(1, len(keys) + 1)), keys, tried, ratio, b if name == "bdz" else 0)
+    return Ends(0, b"", b"", dump_of(f)) if isinstance(f, Function) else Ends(1, f, said(NO_SEED))
 
 
-def split(content: bytes, b: int, seed: int, ratio: int = 1_230_000) -> bytes:
-    """The function by BRZ of distinct keys, none of whose buckets is too large, with the first seeds that work."""
-    keys = lines_of(content)
-    count, buckets = -(-len(keys) // b), []
-    for at in range(count):
-        mine = [key for key in keys if bucket_of(key, seed, count) == at]
-        built = build("bdz", "keys", b"".join(key + b"\n" for key in mine), seed, 100, ratio) if mine else None
-        f = read_dump(built.dump) if built else None
-        buckets.append(f._replace(b=0) if f else None)
-    return dump_of_split(Split(len(keys), ratio, seed, b, buckets))
+def lines_by_bucket(keys: list[bytes], seed: int, count: int) -> list[list[int]]:
+    buckets = [[] for _ in range(count)]
+    for line, key in enumerate(keys, 1):
+        buckets[bucket_of(key, seed, count)].append(line)
+    return buckets
+
+
+def build_by_brz(keys: list[bytes], seeds: list[int], ratio: int, b: int) -> Ends:
+    first = None
+    for seed in seeds:
+        lines = lines_by_bucket(keys, seed, -(-len(keys) // b))
+        over = next((at for at, mine in enumerate(lines) if len(mine) > MOST_IN_BUCKET), None)
+        if over is None:
+            return build_buckets(keys, seed, lines, seeds, ratio, b)
+        first = first or (over, lines[over])
+    over, mine = first
+    text = [f"overfull brz seed {seeds[0]} bucket {over} keys {len(mine)}", *equal_pairs(mine, [keys[line - 1] for line in mine])]
+    return Ends(1, "".join(f"{line}\n" for line in text).encode(), said(NO_SPLIT))
+
+
+def build_buckets(keys: list[bytes], seed: int, lines: list[list[int]], seeds: list[int], ratio: int, b: int) -> Ends:
+    """The function of keys whose lines were split under a seed."""
+    buckets = []
+    for at, mine in enumerate(lines):
+        if not mine:
+            buckets.append(None)
+            continue
+        f = function_over("bdz", f"brz split {seed} bucket {at}", mine, [keys[line - 1] for line in mine], seeds, ratio, 0)
+        if not isinstance(f, Function):
+            return Ends(1, f, said(f"bucket {at} has no seed with an empty core"))
+        buckets.append(f)
+    return Ends(0, b"", b"", dump_of_split(Split(len(keys), ratio, seed, b, buckets)))
+
+
+def build_over_spill(keys_path: str, content: bytes, room: int | None, folder: str, *more, **named) -> Ends:
+    """A build by BRZ whose spill file has room for so many bytes, or whose directory takes none."""
+    if room is None:
+        return Ends(5, b"", said(f"{folder}: {NO_SPILL}"))
+    end = build("brz", keys_path, content, *more, **named)
+    # The keys are split before the first of them is spilled.
+    if end.status == 8 or end.err == said(NO_SPLIT) or spilled_size(content) <= room:
+        return end
+    return Ends(5, b"", said(f"{folder}: {NO_SPILL}"))
+
+
+def spilled_size(content: bytes) -> int:
+    """How many bytes the spill file of these keys has at its end."""
+    return sum(10 + len(key) for key in lines_of(content))

@@ -17,7 +17,7 @@ SECOND = 1.0  # how long a run may take, without what it waits for a processor
 MOST_C = 500  # runs of the C tool in a case
 GIB = 1 << 30
 OLDER = b"older"
-NAMES = ["chm", "bdz", "bdz_ph"]  # of the algorithms that builds offer
+NAMES = ["chm", "bdz", "bdz_ph", "brz"]  # of the algorithms that builds offer
 
 
 class Left(NamedTuple):
@@ -53,9 +53,13 @@ class Machine:
     def theirs(self, *words: str, **more) -> Left:
         return self.run([self.tool, *words], False, **more)
 
+    def prepared(self, script: str, *words: str, **more) -> Left:
+        """Runs a script of the shell, in which $$ is the number of the process, and then the program in the same process."""
+        return self.run(["sh", "-c", f'{script}; exec "$@"', "sh", self.program, *words], True, **more)
+
     def run(self, words: list[str], is_ours: bool, out: str | int = "out", limits: tuple[str, ...] = (), bend: dict | None = None,
-            meanwhile: Callable[[], None] | None = None) -> Left:
-        """Runs a program to its end. Its output goes to a file, or to a descriptor that is closed here then."""
+            meanwhile: Callable[[], None] | None = None, watch: Callable[[int], None] | None = None) -> Left:
+        """Runs a program to its end. Its output goes to a file, or to a descriptor that is closed here then. `watch` gets its number."""
         env = {**bend, "LD_PRELOAD": self.library} if bend else {}
         to_file = isinstance(out, str)
         first = (os.POSIX_SPAWN_OPEN, 1, out, os.O_WRONLY | os.O_CREAT | os.O_TRUNC, 0o644) if to_file else (os.POSIX_SPAWN_DUP2, out, 1)
@@ -68,6 +72,9 @@ class Machine:
             os.close(out)
         if meanwhile:
             meanwhile()
+        if watch:
+            watch(process)
+            begun = time.monotonic()
         hung = not self.ended(process, begun)
         _, status, used = os.wait4(process, 0)
         if is_ours:
@@ -112,6 +119,11 @@ def put(path: str, content: bytes) -> None:
 
 def gone(path: str) -> None:
     Path(path).unlink(missing_ok=True)
+
+
+def spills(folder: str = ".") -> list[str]:
+    """The spill files in a folder."""
+    return [name for name in os.listdir(folder) if name.endswith(".spill")]
 
 
 def counts() -> list[int]:
@@ -189,10 +201,24 @@ def built(machine: Machine, name: str, *words: str) -> bytes:
     return get("f")
 
 
-def c_built(machine: Machine, name: str, keys: str = "keys", to: str = "c") -> bytes:
+def c_build(name: str, to: str = "c", keys: str = "keys") -> list[str]:
+    """The arguments for a build of the C tool. By brz it leaves files in its directory."""
+    return ["-g", "-a", name, *(["-M", "1", "-d", "."] if name == "brz" else []), "-s", "1", "-m", to, keys]
+
+
+def c_built(machine: Machine, name: str) -> bytes:
     """The function of the C tool. It comes out the same each time."""
     for _ in range(2):
-        left = machine.theirs("-g", "-a", name, "-s", "1", "-m", to, keys)
+        left = machine.theirs(*c_build(name))
         if left.status != 0:
             sys.exit(f"a build of the C tool by {name} ended with status {left.status}")
-    return get(to)
+    return get("c")
+
+
+def c_file(left: Left, found: bytes, whole: bytes) -> str:
+    """What became of the older function file in a run of the C tool, as a note."""
+    if found == OLDER:
+        return ""
+    if left.status == 0:
+        return "" if found == whole else ", another file"
+    return ", the older file lost"
