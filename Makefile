@@ -1,13 +1,13 @@
 # make            proves and builds bin/cmph: a line for each crate, and all else in out/prove.log
-# make demo       builds a function over a word list, and queries it
+# make demo       builds a function over a word list, queries it, and tries all algorithms over generated keys
 # make check      the gate: proves everything from nothing, and runs all tests
 # make install    installs the program, its man page, and completions for bash and zsh below $(PREFIX)
 # make uninstall  removes them
 # make bench      measures it beside the C tool and plain Rust, leaves the results in bench/results, and writes the measured tables of
 #                 README.md and docs/: make bench SETS="100000 words" for fewer sets of keys, ROUNDS=3 for fewer runs, NAME=here for
 #                 results of another name than `latest`
-# make bench-bits, make bench-peel, make bench-bbhash
-#                 the same for packed tables, for peeling, and beside bbhash
+# make bench-bits, make bench-peel, make bench-spill, make bench-bbhash
+#                 the same for packed tables, for peeling, for the buffer of brz, and beside bbhash
 # make drawings   draws docs/chm.svg from a real run
 PREFIX ?= /usr/local
 SETS ?=
@@ -27,7 +27,8 @@ demo: bin/cmph
 	@scratch=$$(mktemp -d) && cp examples/words $$scratch/ && cd $$scratch && cmph=$(CURDIR)/bin/cmph && \
 	echo "\$$ cmph -g words        ($$(wc -l < words) words, one a line)" && $$cmph -g words && \
 	echo "\$$ cmph words | head -n 3" && $$cmph words > answers && head -n 3 answers && \
-	echo "words has $$(wc -c < words) bytes, and words.mph $$(wc -c < words.mph)"; \
+	echo "words has $$(wc -c < words) bytes, and words.mph $$(wc -c < words.mph)" && \
+	echo "\$$ cmph -T 100000      (algorithm, keys, bytes of the function, sum of the numbers)" && $$cmph -T 100000; \
 	status=$$?; rm -rf $$scratch; exit $$status
 
 check:
@@ -53,6 +54,9 @@ bench-bits:
 bench-peel:
 	python3 bench/tables.py --record peel bench/peel.sh
 
+bench-spill: bin/cmph
+	python3 bench/tables.py --record spill python3 bench/spill.py $(SETS)
+
 bench-bbhash: bin/cmph
 	python3 bench/tables.py --record bbhash python3 bench/bbhash.py
 
@@ -62,4 +66,4 @@ drawings: bin/cmph
 clean:
 	rm -rf bin out crates/*/out
 
-.PHONY: all demo check install uninstall bench bench-bits bench-peel bench-bbhash drawings clean
+.PHONY: all demo check install uninstall bench bench-bits bench-peel bench-spill bench-bbhash drawings clean

@@ -1,5 +1,5 @@
 #!/usr/bin/env python3
-"""Runs the examples of the man page and of the README, and compares what they print with what stands there.
+"""Runs the examples of the man page, of the README and of docs/algorithms.md, and compares what they print with what stands there.
 
     tests/examples.py [PROGRAM]        PROGRAM is crates/cmph/out/cmph if it is left out
 
@@ -23,11 +23,11 @@ def of_man():
     return "".join(blocks).replace("\\e", "\\").replace("\\&", "").replace("\\-", "-").splitlines()
 
 
-def of_readme():
-    """The indented lines of the section 'A session'."""
-    text = (TOP / "README.md").read_text()
-    section = text[text.index("## A session"):text.index("## Install")]
-    return [line[4:] for line in section.splitlines() if line.startswith("    ")]
+def of_section(page, begin, end):
+    """The commands, and what they print, among the indented lines from one heading of a page to another."""
+    text = (TOP / page).read_text()
+    lines = [line[4:] for line in text[text.index(begin):text.index(end)].splitlines() if line.startswith("    ")]
+    return lines[next(i for i, line in enumerate(lines) if line.startswith("$ ")):]
 
 
 def commands_of(lines):
@@ -66,7 +66,7 @@ def differences(lines, program, folder):
 def main():
     program = Path(sys.argv[1] if len(sys.argv) > 1 else TOP / "crates" / "cmph" / "out" / "cmph").resolve()
     count, wrong = 0, []
-    for lines in (of_man(), of_readme()):
+    for lines in (of_man(), of_section("README.md", "## A session", "## Install"), of_section("docs/algorithms.md", "## Buckets", "## A worked example")):
         with tempfile.TemporaryDirectory() as folder:
             ran, differing = differences(lines, program, Path(folder))
             count, wrong = count + ran, wrong + differing
