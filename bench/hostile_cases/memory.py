@@ -1,5 +1,6 @@
 """Memory that is refused."""
 
+import os
 import sys
 from typing import Callable, NamedTuple
 
@@ -58,6 +59,9 @@ def check_memory(row: Row, left: Left, job: Job) -> bool:
     row.check(left, 6, {"standard error": left.err == said("out of memory"),
                         "standard output": job.end.out.startswith(left.out) if is_query else left.out == b"",
                         "the function file": found == OLDER or may_be_empty, "no spill file": not spills()}, note)
+    # The system removes no spill file of a program that it kills.
+    for name in spills():
+        os.remove(name)
     return False
 
 
