@@ -6,6 +6,9 @@
 It prints a line for each crate that is done: its name, the seconds that it took, and how many are left. All else goes to
 out/prove.log. N crates are proved at a time, as many as there are processors and memory for if it is left out. What was
 proved before is kept by `rt`, so a run that was stopped is resumed by running it again.
+
+A run of `rt` keeps all others out of the crates below its own, so each crate is proved in a tree of links to its files and
+to what is built of those below.
 """
 import argparse
 import contextlib
@@ -21,18 +24,22 @@ from pathlib import Path
 
 TOP = Path(__file__).resolve().parent.parent
 LOG = TOP / "out" / "prove.log"
+TREES = TOP / "out" / "trees"
+PARTS = ("src", "specs", "proofs")  # what a proof reads of a crate
 MEMORY = 3 << 30  # bytes for the proof of a crate
 SHOWN = 6  # lines that are shown of a crate that is not proved
 DULL = (": proved", "modules loaded=", "begins with what a check kept")  # of lines that are never shown
 
 
+def listed():
+    """The lines of crates.txt, by crate."""
+    lines = [line.partition("#")[0] for line in (TOP / "crates.txt").read_text().splitlines()]
+    return {line.split(":")[0].split()[0]: line for line in lines if ":" in line}
+
+
 def crates_below(crate):
     """The crate and those that it stands on, each with those that it names itself. The kit's own are left out."""
-    named = {}
-    for line in (TOP / "crates.txt").read_text().splitlines():
-        name, colon, below = line.partition("#")[0].partition(":")
-        if colon:
-            named[name.split()[0]] = below.split()
+    named = {name: line.partition(":")[2].split() for name, line in listed().items()}
     if crate not in named:
         sys.exit(f"crates.txt has no crate {crate}")
     found, waiting = {}, [crate]
@@ -44,10 +51,48 @@ def crates_below(crate):
     return found
 
 
+def all_below(crate, crates):
+    """The crates that one stands on, by others too."""
+    return set().union(*({it} | all_below(it, crates) for it in crates[crate]))
+
+
+def link(source, copy):
+    """Links the files of a folder into a copy of it, if there is such a folder."""
+    if source.is_dir():
+        shutil.copytree(source, copy, copy_function=os.link)
+
+
+def clear(crate):
+    """Removes the tree of a crate, if there is one. What a proof left in it goes back to the crate's own folder."""
+    tree, out = TREES / crate, TOP / "crates" / crate / "out"
+    made = tree / "crates" / crate / "out"
+    if made.is_dir() and not out.exists():
+        made.rename(out)
+    shutil.rmtree(tree, ignore_errors=True)
+
+
+@contextlib.contextmanager
+def tree_for(crate, below):
+    """A tree to prove a crate in, over what is built of those below."""
+    clear(crate)
+    tree, out = TREES / crate, TOP / "crates" / crate / "out"
+    for name in (crate, *below):
+        for part in PARTS if name == crate else (*PARTS, "out/rlib"):
+            link(TOP / "crates" / name / part, tree / "crates" / name / part)
+    (tree / "crates.txt").write_text("".join(f"{listed()[name]}\n" for name in (crate, *below)))
+    os.link(TOP / "HANDLES", tree / "HANDLES")
+    if out.is_dir():
+        out.rename(tree / "crates" / crate / "out")
+    try:
+        yield tree / "crates" / crate
+    finally:
+        clear(crate)
+
+
 def sizes_of(crates):
     """How many bytes of code, definitions and proofs each crate has: what it takes to prove it, about."""
     def size(name):
-        folders = [TOP / "crates" / name / folder for folder in ("src", "specs", "proofs")]
+        folders = [TOP / "crates" / name / part for part in PARTS]
         return sum(it.stat().st_size for folder in folders for it in folder.rglob("*") if it.is_file())
 
     return {name: size(name) for name in crates}
@@ -74,18 +119,23 @@ def room():
 class Proof:
     """A run over some crates."""
 
-    def __init__(self, log):
-        self.log, self.lock, self.running, self.stopped = log, threading.Lock(), {}, False
+    def __init__(self, crates, log):
+        self.crates, self.log, self.lock, self.running, self.stopped = crates, log, threading.Lock(), {}, False
 
     def prove(self, name, jobs):
         """Proves a crate over those below it, and gives the status, the seconds, and the first lines that may say what is wrong."""
+        with tree_for(name, all_below(name, self.crates)) as folder:
+            return self.run(name, folder, jobs)
+
+    def run(self, name, folder, jobs):
+        """Proves a crate in a folder."""
         is_program = (TOP / "crates" / name / "src" / "main.rt").exists()
         command = ["rt", "run", "--jobs", str(jobs), "--", "-V"] if is_program else ["rt", "lib", "--jobs", str(jobs)]
         start, said = time.monotonic(), []
         with self.lock:
             if self.stopped:
                 return 1, 0.0, said
-            ran = subprocess.Popen(command, cwd=TOP / "crates" / name, stdin=subprocess.DEVNULL, stdout=subprocess.PIPE,
+            ran = subprocess.Popen(command, cwd=folder, stdin=subprocess.DEVNULL, stdout=subprocess.PIPE,
                                    stderr=subprocess.STDOUT, text=True, errors="replace", start_new_session=True)
             self.running[name] = ran
         for line in ran.stdout:
@@ -147,7 +197,7 @@ def main():
     LOG.parent.mkdir(exist_ok=True)
     print(f"Proving {len(crates)} crates, up to {most} at a time; the first time takes many minutes. Log: {LOG.relative_to(TOP)}", flush=True)
     with open(LOG, "w") as log:
-        return 0 if prove_all(crates, most, Proof(log)) else 1
+        return 0 if prove_all(crates, most, Proof(crates, log)) else 1
 
 
 if __name__ == "__main__":
