@@ -1,9 +1,8 @@
 //! Measures the packed tables: random writes and reads, the bytes of an image, and a table from its image.
 //!
-//! With no argument it works on small tables and prints check sums. With a number of turns it works on tables within the
-//! caches and past them, or on the one that a second argument names, and prints for each work how many microseconds it took,
-//! and for how many turns or bytes. With the name of a type it only makes the largest of these tables, so that its memory can
-//! be told.
+//! With no argument it works on small tables and prints check sums. With a number of turns it works on tables within the caches and
+//! past them, or on the one that a second argument names, and prints for each work how many microseconds it took, and for how many
+//! turns or bytes. With the name of a type it only makes the largest of these tables, so that its memory can be measured.
 #![tactic(auto)]
 
 ghost use Rattle.std.specs.Prelude.{◌≡◌, ◌<◌, ◌≤◌, length, IfOk};
@@ -17,7 +16,7 @@ use std::{env, io};
 mod random;
 mod work;
 
-// As many bytes of images are written and read at least, so that the time of small ones can be told.
+// At least this many bytes of images are written and read, so that the time of small ones can be measured.
 const IMAGE_BYTES: u64 = 400_000_000;
 
 // What is done with a table, under which name.
@@ -63,7 +62,7 @@ impl<'a> Asked<'a> {
     }
 }
 
-// Tells how long a work took for an amount of turns or bytes.
+// Prints how long a work took for an amount of turns or bytes.
 fn tell(
     rt: &(impl Print + Clock),
     plan: Plan<'_>,
@@ -104,7 +103,7 @@ fn random_work<C: Cells + Drop>(
     Ok(table)
 }
 
-// How often an image of so many bytes is written and read.
+// How often an image of `len` bytes is written and read.
 fn rounds_of(plan: Plan<'_>, len: u64) -> u64 {
     if plan.timed && len > 0 {
         IMAGE_BYTES / len + 1
@@ -194,7 +193,7 @@ fn far(rt: &(impl Print + Clock), alloc: Global, asked: Asked<'_>) -> io::Result
     run::<Plain>(rt, alloc, asked.plan("far plain"), 100_000_001, 100_000)
 }
 
-// Makes a table of zeros, and tells the length of its image.
+// Makes a table of zeros, and prints the length of its image.
 fn hold<C: Cells + Drop>(rt: &impl Print, alloc: Global, n: u32, bound: u32) -> io::Result<()>
     requires room { n ≤ MAX_CELLS }
     requires fit { C.fits bound }

@@ -1,7 +1,7 @@
 //! Measures peeling as a build does it: fills a list of edges that look random, and peels it over `Xored`, without levels.
 //!
-//! With no argument it works on small graphs and prints check sums. With the number of ends, 2 or 3, and a number of edges
-//! it works on one graph of so many, and prints also how many microseconds each work took.
+//! With no argument it works on small graphs and prints check sums. With the number of ends, 2 or 3, and a number of edges it works on
+//! one graph of that size, and prints also how many microseconds each work took.
 #![tactic(auto)]
 
 ghost use Rattle.std.specs.Prelude.{◌≡◌, ◌≤◌, length};
@@ -20,7 +20,7 @@ mod random;
 // How many edges there are at most.
 const MAX_EDGES: u32 = 67_108_864;
 
-// How many edges a graph has, how many vertices for 1,000 edges, and whether times are told.
+// How many edges a graph has, how many vertices for 1,000 edges, and whether times are printed.
 #[derive(Clone, Copy)]
 struct Plan {
     edges: u32,
@@ -54,7 +54,7 @@ impl Plan {
     }
 }
 
-// Tells how long a work took.
+// Prints how long a work took.
 fn tell(rt: &(impl Print + Clock), plan: Plan, work: &str, start: Instant) -> io::Result<()> {
     if plan.timed {
         let micros = start.elapsed(rt)?.as_micros();
@@ -76,7 +76,7 @@ fn check(numbers: &[u32]) -> u32 {
     sum
 }
 
-// Tells what peeling gave: the pivots are those of the removed edges in their order.
+// Prints what peeling returned: the pivots are those of the removed edges in their order.
 fn tell_sums<const K: usize>(
     rt: &impl Print,
     edges: &Edges<K>,
@@ -106,7 +106,7 @@ fn tell_sums<const K: usize>(
     )
 }
 
-// Edges with three ends, one in each third of the vertices: filled, peeled and told.
+// Edges with three ends, one in each third of the vertices: filled, peeled and printed.
 fn triples(rt: &(impl Print + Clock), alloc: Global, plan: Plan) -> io::Result<()>
     requires edges { plan.edges ≤ 67108864 }
     requires vertices { plan.vertices ≤ 3000 }
@@ -121,7 +121,7 @@ fn triples(rt: &(impl Print + Clock), alloc: Global, plan: Plan) -> io::Result<(
     tell_sums(rt, &edges, &peeled)
 }
 
-// Edges with two ends anywhere: filled, peeled and told.
+// Edges with two ends anywhere: filled, peeled and printed.
 fn pairs(rt: &(impl Print + Clock), alloc: Global, plan: Plan) -> io::Result<()>
     requires edges { plan.edges ≤ 67108864 }
     requires vertices { plan.vertices ≤ 3000 }

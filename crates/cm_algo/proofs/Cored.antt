@@ -1,4 +1,4 @@
--- Builds that are refused.
+-- Builds that fail.
 use Rattle.std.proofs.Common.{◌≡◌, ◌≢◌, ◌∙◌, ℕ, ◌<◌, List, [], length, get_or, Option, None, Result, Ok, Err, IfOk, IfErr, IsErrAnd, false, inl, inr, refl, ap, sym, subst, arith}
 use Rattle.std.specs.Option.{ForSome}
 use Rattle.cm_algorithm.specs.declared.algorithm.Algorithm.{Algorithm}
@@ -56,7 +56,7 @@ ends_met k Bdz ends = (ends, refl)
 ends_met k BdzPh ends = (ends, refl)
 ends_met k Brz ends = absurd ends
 
--- a pass was refused
+-- a pass failed
 pub fails_pass : (r : Rule) (told : Told) (c : ℕ) (seeds : List ℕ) (m : ℕ) (fault : GatherFault) → m ≡ length told.keys → FailsGather told m fault → FailsBuild r told c seeds (build_fault_of fault)
 fails_pass r told c seeds m gather_fault.Memory many fails = tt
 fails_pass r told c seeds m (gather_fault.Key Read) many fails = tt
@@ -65,7 +65,7 @@ fails_pass r told c seeds m (gather_fault.Key TooMany) many fails = fails.1
 fails_pass r told c seeds m (gather_fault.Changed first now) many (inl more) = absurd (omega (arith, many, more.0))
 fails_pass r told c seeds m (gather_fault.Changed first now) many (inr fewer) = absurd (omega (arith, many, fewer.0))
 
--- what holds of a fault holds of what a call hands on as this fault
+-- what holds of a fault holds of what a call returns as this fault
 pub handed_on : {T E : Type 0} (result : Result T E) (fault : E) (F : E → Type 0) → IsErrAnd result (λ e. e ≡ fault) → F fault → IfErr result F
 handed_on (Ok x) fault F is holds = absurd is
 handed_on (Err e) fault F is holds = subst F (sym is) holds

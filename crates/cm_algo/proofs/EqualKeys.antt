@@ -93,7 +93,7 @@ equal_to_earlier earlier keys k line found =
     let here : key_at (earlier ++ k ∷ keys) (length earlier) ≡ k.1 = ap (λ (j : ℕ × List ℕ). j.1) (get_or-append_seam earlier k keys (0, [])) in
     (first.0, length earlier, first.1, omega (arith, length-append earlier (k ∷ keys)), before ∙ sym here)
 
--- where there is a pair, there are equal keys
+-- if there is a pair, there are equal keys
 pairs_equal : (earlier keys : List (ℕ × List ℕ)) → pairs_after earlier keys ≢ [] → HasEqual (earlier ++ keys)
 pairs_equal earlier [] some = absurd (some refl)
 pairs_equal earlier (k ∷ keys) some = go (first_line earlier k.1) refl (pairs_equal (earlier ++ k ∷ []) keys) where
@@ -103,7 +103,7 @@ pairs_equal earlier (k ∷ keys) some = go (first_line earlier k.1) refl (pairs_
       subst HasEqual (append_assoc earlier (k ∷ []) keys)
       (later (λ nil. some (ap (λ (o : Option ℕ). with_pair o k.0 (pairs_after (earlier ++ k ∷ []) keys)) none ∙ nil)))
 
--- where there is a pair of keys that a seed leaves, every seed leaves an edge
+-- if there is a pair of keys that a seed leaves, every seed leaves an edge
 pub none_works : (r : Rule) (keys : List (ℕ × List ℕ)) (c seed : ℕ) → pairs (keys_at keys (rest_of (graph_of r keys c seed))) ≢ [] → (other : ℕ) → rest_of (graph_of r keys c other) ≢ []
 none_works r keys c seed some other nil =
     let edges : List (List ℕ) = graph_of r keys c seed in

@@ -73,7 +73,7 @@ steps_on k m s0 s t i a b =
 pub steps_all : (k m s s0 before i len : ℕ) → s0 ≤ before + 8 * (k * m) → s + 8 * (k * m) ≤ s0 + 8 * (k * m) * i → i ≤ len → s ≤ before + 8 * (k * m) * len
 steps_all k m s s0 before i len a b up = omega (arith, mul-le-mul_left (8 * (k * m)) up)
 
--- one more seed that leaves a rest
+-- one more seed that leaves a nonempty residual graph
 pub left_more : (P : ℕ → Type 0) (i j : ℕ) → ((j : ℕ) → j < i → P j) → P i → j < i + 1 → P j
 left_more P i j h p l = go (cases_lt j i) where
   go : (j < i) ⊎ (i ≤ j) → P j
@@ -97,7 +97,7 @@ left_is : (xs : List ℕ) → xs ≢ [] → nat_eq (length xs) 0 ≡ false
 left_is [] h = absurd (h refl)
 left_is (x ∷ xs) h = ne_eqb (length (x ∷ xs)) 0 (λ z. absurd (omega arith))
 
--- the seed at a place is the first, for all before it leave a rest
+-- the seed at a place is the first, for all before it leave a nonempty residual graph
 pub chosen_at : (r : Rule) (keys : List (ℕ × List ℕ)) (c i : ℕ) (seeds : List ℕ) → i < length seeds → rest_of (graph_of r keys c (get_or seeds i 0)) ≡ []
     → ((j : ℕ) → j < i → rest_of (graph_of r keys c (get_or seeds j 0)) ≢ []) → first_seed r keys c seeds ≡ Some (get_or seeds i 0)
 chosen_at r keys c i seeds l none left = find_at (is_peeled r keys c) seeds i l (peeled_is _ none) (λ j m. left_is _ (left j m))

@@ -1,4 +1,4 @@
--- What a build over numbered keys gives.
+-- The result of a build over numbered keys.
 use Rattle.std.specs.Prelude.{◌≡◌, ℕ, ◌+◌, ◌*◌, ◌≤◌, List, [], length, Some}
 use Rattle.cm_spec.specs.Rounds.{rest_of}
 use Rattle.cm_spec.specs.Rule.{Rule}
@@ -8,8 +8,8 @@ use Rattle.cm_spec.specs.Built.{graph_of, cells_under, first_seed, IsFirst}
 abbrev pub IsGiven : Rule → List (ℕ × List ℕ) → ℕ → ℕ → List ℕ → Type 0
 IsGiven r keys c seed cells = (rest_of (graph_of r keys c seed) ≡ []) × (cells ≡ cells_under r keys c seed)
 
--- a build took the first seed of a list with an empty 2-core and gave its cells, in at most 8 steps for each of an edge's k
--- ends and each seed that it tried
+-- a build took the first seed of a list with an empty 2-core and returned its cells, in at most 8 steps for each of an edge's k ends
+-- and each seed that it tried
 pub record IsBuilt (r : Rule) (keys : List (ℕ × List ℕ)) (c : ℕ) (seeds : List ℕ) (m seed : ℕ) (cells : List ℕ) (k before after : ℕ) : Type 0 where
   pub place : ℕ
   pub many : m ≡ length keys

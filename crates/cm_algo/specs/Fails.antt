@@ -1,4 +1,4 @@
--- Why a build was refused.
+-- Why a build fails.
 use Rattle.std.specs.Prelude.{◌≡◌, ◌≢◌, ℕ, ◌<◌, ◌≤◌, List, [], All, length, slice_index, is_some, None, Some, Result, Ok, Err}
 use Rattle.cm_algorithm.specs.declared.algorithm.Algorithm.{Algorithm}
 use Rattle.cm_outer.specs.declared.key_pass.KeyFault.{KeyFault}
@@ -14,13 +14,13 @@ use Rattle.cm_witness.specs.declared.certificate.GatherFault.TheVariants as gath
 use Rattle.cm_algo.specs.declared.fault.BuildFault.{BuildFault}
 use Rattle.cm_algo.specs.declared.fault.BuildFault.TheVariants.{Memory, NoKeys, Cored, Key, Changed}
 
--- the fault of a build that is refused for one of its passes
+-- the fault of a build that fails in one of its passes
 abbrev pub build_fault_of : GatherFault → BuildFault
 build_fault_of gather_fault.Memory = Memory
 build_fault_of (gather_fault.Key fault) = Key fault
 build_fault_of (gather_fault.Changed first now) = Changed first now
 
--- `Key Read` exactly where the count of the keys' faults rose
+-- `Key Read` exactly if the count of the keys' faults rose
 abbrev pub HasBuildCause : {T : Type 0} → ℕ → ℕ → Result T BuildFault → Type 0
 HasBuildCause before now (Ok x) = now ≡ before
 HasBuildCause before now (Err Memory) = now ≡ before
@@ -29,13 +29,13 @@ HasBuildCause before now (Err (Cored made)) = now ≡ before
 HasBuildCause before now (Err (Key fault)) = HasKeyCause {T = Unit {0}} before now (Err fault)
 HasBuildCause before now (Err (Changed first again)) = now ≡ before
 
--- a fault of a pass over told keys: the one at their end, unless the source has failed
+-- a fault of a pass over known keys: the one at their end, unless the source has failed
 abbrev pub IsToldFault : Told → KeyFault → Type 0
 IsToldFault told Read = Unit {0}
 IsToldFault told (TooLong line) = told.fault ≡ Some (TooLong line)
 IsToldFault told TooMany = told.fault ≡ Some TooMany
 
--- the numbers of a build's refusal, by how many keys its last pass gave: none for `NoKeys`
+-- the numbers of a build's failure, by how many keys its last pass took: none for `NoKeys`
 abbrev pub HasNumbers : ℕ → BuildFault → Type 0
 HasNumbers place Memory = Unit {0}
 HasNumbers place NoKeys = place ≡ 0
@@ -53,12 +53,12 @@ abbrev pub HasForm : Algorithm → ℕ → BuildFault → Type 0
 HasForm algorithm seed (Cored made) = (made.algorithm ≡ algorithm) × (made.seed ≡ seed) × (made.place ≡ None) × All (λ e. is_some e.third ≡ has_third algorithm) made.edges.items
 HasForm algorithm seed fault = Unit {0}
 
--- a build was refused with a certificate that has equal keys
+-- a build failed with a certificate that has equal keys
 abbrev pub FoundEqual : BuildFault → Type 0
 FoundEqual (Cored made) = made.equal.items ≢ []
 FoundEqual fault = ⊥
 
--- the refusals of a build over told keys: they never change, and what is refused is so by the keys alone
+-- the failures of a build over known keys: the keys never change, and a failure depends on them alone
 abbrev pub FailsBuild : Rule → Told → ℕ → List ℕ → BuildFault → Type 0
 FailsBuild r told c seeds Memory = Unit {0}
 FailsBuild r told c seeds NoKeys = (told.keys ≡ []) × (told.fault ≡ None)

@@ -1,10 +1,10 @@
--- What the next of some keys gives when it is hashed.
+-- What the next of some keys yields when it is hashed.
 use Rattle.std.specs.Prelude.{◌≡◌, ℕ, List, [], ◌∷◌, drop, Option, None, Some, Result, Ok, Err}
 use Rattle.cm_outer.specs.declared.key_pass.KeyFault.{KeyFault}
 use Rattle.cm_outer.specs.Passes.{Told, Ends, GivesKey}
 use Rattle.cm_spec.specs.Lookup2.{words}
 
--- The words of the next of the told keys, or what comes after the last.
+-- The hash values of the next of the known keys, or what comes after the last.
 abbrev pub GivesWords : Told → ℕ → ℕ → ℕ → Result (Option (List ℕ)) KeyFault → Type 0
 GivesWords told before now seed (Ok (Some hashed)) = (k : ℕ × List ℕ) × (drop before told.keys ≡ k ∷ drop now told.keys) × (hashed ≡ words k.1 seed)
 GivesWords told before now seed (Ok None) = Ends told before None

@@ -1,4 +1,4 @@
-//! Why a build was refused.
+//! Why a build failed.
 ghost use Rattle.std.specs.Prelude.{◌≡◌};
 ghost use Rattle.cm_algo.specs.declared.fault.BuildFault.TheVariants as build_fault;
 ghost use Rattle.cm_algo.specs.Fails.{build_fault_of};
@@ -11,14 +11,14 @@ use cm_witness::{Certificate, GatherFault};
 pub enum BuildFault {
     /// Out of memory.
     Memory,
-    /// The first pass gave no key.
+    /// The first pass had no key.
     NoKeys,
-    /// Under every seed the graph has a 2-core with an edge; here is that of the first seed.
+    /// Under every seed the graph has a 2-core with an edge; this is that of the first seed.
     Cored(Certificate),
-    /// A pass of the keys was refused.
+    /// A pass over the keys failed.
     Key(KeyFault),
-    /// The first pass gave `first` keys, and a later one `now`: all that it had where it had fewer, else one more than `first`,
-    /// where it stops.
+    /// The first pass had `first` keys, and a later one `now`: all of its keys if they are fewer, else one more than `first`, where it
+    /// stops.
     Changed { first: u32, now: u32 },
 }
 

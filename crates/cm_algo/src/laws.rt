@@ -1,4 +1,4 @@
-//! A law of what peeling leaves of the graphs of keys.
+//! A law of the residual graphs of keys.
 ghost use Rattle.std.specs.Prelude.{◌≡◌, ◌≢◌, ℕ, ◌<◌, List, length, Contains};
 ghost use Rattle.cm_spec.specs.Built.{graph_of, key_at};
 ghost use Rattle.cm_spec.specs.Rounds.{rest_of};

@@ -16,8 +16,8 @@ use cm_outer::{KeyBuf, KeyFault, KeyPass, MAX_KEYS};
 use cm_scheme::{Divisor, Scheme};
 use cm_witness::GatherFault;
 
-/// How many keys there are, from 0 to `MAX_KEYS`: the keys are passed once from the start. The buffer is for its use. Fails exactly as
-/// the pass does.
+/// How many keys there are, from 0 to `MAX_KEYS`: the keys are passed once from the start. The buffer is scratch space. Fails exactly
+/// as the pass does.
 pub fn count_all<P: KeyPass>(keys: &mut P, key: &mut KeyBuf) -> Result<u32, KeyFault>
     ensures told { P.told keys.new ≡ P.told keys.old }
     ensures cause { HasKeyCause (P.faults keys.old) (P.faults keys.new) result }
@@ -28,7 +28,7 @@ pub fn count_all<P: KeyPass>(keys: &mut P, key: &mut KeyBuf) -> Result<u32, KeyF
 {
     keys.rewind()?;
     let mut count = 0;
-    // Each turn but the last has a key at least.
+    // Each turn except the last passes at least one key.
     for turn in 0..MAX_KEYS + 1 {
         count += keys.skip();
         if !keys.next(key)? {
@@ -39,7 +39,7 @@ pub fn count_all<P: KeyPass>(keys: &mut P, key: &mut KeyBuf) -> Result<u32, KeyF
     unreachable!()
 }
 
-/// The words of the next key under a seed, or none at the end. The buffer is for its use.
+/// The hash values of the next key under a seed, or none at the end. The buffer is scratch space.
 #[inline(never)]
 fn read_words<P: KeyPass>(
     keys: &mut P,
@@ -61,7 +61,7 @@ fn read_words<P: KeyPass>(
     }
 }
 
-/// Adds the edge of a key by its words, and its tag where tags are kept. There is room for both.
+/// Adds the edge of a key by its hash values, and its tag if tags are kept. There is room for both.
 #[inline(always)]
 fn add_key<S: Scheme<K>, const K: usize>(
     scheme: &S,
@@ -86,8 +86,8 @@ fn add_key<S: Scheme<K>, const K: usize>(
     }
 }
 
-/// Adds the edge of the next key under a seed, and its tag where tags are kept, if the whole key is in the buffer of the pass: it
-/// is hashed where it stands. If it isn't, nothing changes. There is room for both.
+/// Hashes the next key in place, if it is buffered, and adds its edge under a seed, and its tag if tags are kept. If it isn't, nothing
+/// changes. There is room for both.
 #[inline(always)]
 fn add_at_hand<S: Scheme<K>, P: KeyPass, const K: usize>(
     scheme: &S,
@@ -124,8 +124,8 @@ fn add_at_hand<S: Scheme<K>, P: KeyPass, const K: usize>(
     true
 }
 
-/// The edges of the keys, which are to be `m`, and their tags where tags are kept. There is room for all of them, so that no
-/// memory is taken. The buffer is for its use.
+/// The edges of the keys, which are to be `m`, and their tags if tags are kept. There is room for all of them, so no memory is taken.
+/// The buffer is scratch space.
 pub(crate) fn hash_all<S: Scheme<K>, P: KeyPass, const K: usize>(
     scheme: &S,
     keys: &mut P,

@@ -22,14 +22,14 @@ use cm_witness::{Certificate, GatherFault, gather};
 use std::alloc::Global;
 use std::sync::ledger::Ledger;
 
-/// A graph with a 2-core, and what peeling leaves of it.
+/// A graph with a 2-core, and its residual graph.
 #[derive(Drop)]
 struct Left<const K: usize> {
     edges: Edges<K>,
     peeled: Peeled<K>,
 }
 
-/// One seed: the cells, or the graph if it has a 2-core. The buffer is for its use.
+/// One seed: the cells, or the graph if it has a 2-core. The buffer is scratch space.
 fn attempt<S: Scheme<K>, I: Incidence<K> + Drop, P: KeyPass, const K: usize, L: Ledger>(
     alloc: Global,
     scheme: &S,
@@ -71,7 +71,7 @@ fn attempt<S: Scheme<K>, I: Incidence<K> + Drop, P: KeyPass, const K: usize, L: 
     }
 }
 
-/// The certificate of the graph that a seed left. The keys are passed once.
+/// The certificate of the residual graph under a seed. The keys are passed once.
 fn certify<S: Scheme<K>, P: KeyPass, const K: usize>(
     alloc: Global,
     scheme: &S,
@@ -100,10 +100,10 @@ fn certify<S: Scheme<K>, P: KeyPass, const K: usize>(
     )
 }
 
-/// The cells of the first seed of a list whose graph has an empty 2-core. The keys are passed once to be counted, and once for
-/// each seed that is tried. If the first seed leaves a 2-core, one more pass gathers its certificate, which is returned if no
-/// seed works; if two of its keys are equal, no other seed is tried. The ratio `c` is in millionths. After a refusal the keys may
-/// be rewound and used again.
+/// The cells of the first seed of a list whose graph has an empty 2-core. The keys are passed once to be counted, and once for each
+/// seed that is tried. If the first seed leaves a 2-core, one more pass gathers its certificate, which is returned if no seed works; if
+/// two of its keys are equal, no other seed is tried. The ratio `c` is in millionths. After a failure the keys may be rewound and used
+/// again.
 pub fn build<S: Scheme<K>, I: Incidence<K> + Drop, P: KeyPass, const K: usize, L: Ledger>(
     alloc: Global,
     scheme: &S,
@@ -131,7 +131,7 @@ pub fn build<S: Scheme<K>, I: Incidence<K> + Drop, P: KeyPass, const K: usize, L
     build_with::<S, I, P, K, L>(alloc, scheme, keys, &mut key, c, seeds, steps)
 }
 
-/// `build` with a buffer for its keys, which many builds may share: making one clears its 64 KiB.
+/// `build` with a buffer for its keys, which many builds may share: creating one clears its 64 KiB.
 pub fn build_with<S: Scheme<K>, I: Incidence<K> + Drop, P: KeyPass, const K: usize, L: Ledger>(
     alloc: Global,
     scheme: &S,
@@ -210,8 +210,8 @@ fn build_counted<S: Scheme<K>, I: Incidence<K> + Drop, P: KeyPass, const K: usiz
     build_later::<S, I, P, K, L>(alloc, scheme, keys, key, m, c, seeds, certificate, steps)
 }
 
-/// The cells of the first seed that works after the first of the list, which left this certificate without equal keys. `steps` has
-/// counted those of the first.
+/// The cells of the first seed that works after the first of the list. The first one left this certificate, without equal keys. `steps`
+/// has counted those of the first.
 fn build_later<S: Scheme<K>, I: Incidence<K> + Drop, P: KeyPass, const K: usize, L: Ledger>(
     alloc: Global,
     scheme: &S,

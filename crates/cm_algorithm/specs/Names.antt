@@ -3,7 +3,7 @@ use Rattle.std.specs.Prelude.{ℕ, List, codes}
 use Rattle.cm_algorithm.specs.declared.algorithm.Algorithm.{Algorithm}
 use Rattle.cm_algorithm.specs.declared.algorithm.Algorithm.TheVariants.{Chm, Bdz, BdzPh, Brz}
 
--- the word for an algorithm, on the command line and in reports
+-- the name of an algorithm, in command lines and reports
 abbrev pub name_of : Algorithm → List ℕ
 name_of Chm = codes "chm"
 name_of Bdz = codes "bdz"

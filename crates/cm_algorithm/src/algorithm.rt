@@ -11,7 +11,7 @@ pub enum Algorithm {
     /// A minimal perfect hash over hypergraphs with three ends an edge, with sampled ranks: Botelho, Pagh, Ziviani, "Simple
     /// and space-efficient minimal perfect hash functions", 2007.
     Bdz,
-    /// The perfect hash of the same paper, without ranks: its numbers go beyond the number of keys.
+    /// The perfect hash of BDZ without ranks: its numbers go beyond the number of keys.
     BdzPh,
     /// A minimal perfect hash for keys that don't fit in memory, which splits them into buckets: Botelho, Pagh, Ziviani,
     /// "Perfect hashing for data management applications", 2007.
@@ -31,7 +31,7 @@ impl Algorithm {
         }
     }
 
-    /// The algorithm that has this name, and none for another text.
+    /// The algorithm that has this name, or none for another text.
     pub fn from_name(name: &str) -> Option<Algorithm>
         ensures known { IfSome result (λ algorithm. name.now ≡ name_of algorithm) }
         ensures found { (algorithm : Algorithm) → name.now ≡ name_of algorithm → result ≡ Some algorithm }

@@ -1,4 +1,4 @@
-//! The algorithms, by the names that command lines and reports give them.
+//! The algorithms, by their names in command lines and reports.
 #![tactic(auto)]
 
 mod algorithm;

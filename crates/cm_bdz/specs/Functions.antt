@@ -11,7 +11,7 @@ pub record IsThirds (n : ℕ) : Type 0 where
   pub some : 0 < third
   pub is : n ≡ 3 * third
 
--- of some ends the one at the position that their cells add up to, modulo 3
+-- of some ends, the one whose position is the sum of their cells, modulo 3
 abbrev pub chosen_end : List ℕ → List ℕ → ℕ
 chosen_end cells ends = slice_index ends (sum_by (slice_index cells) ends % 3)
 
@@ -27,7 +27,7 @@ pub record Bdz : Type 0 where
   pub shift : ℕ
   pub cells : List ℕ
 
--- the rank of a vertex among those whose cells are not 3, and none where its cell is 3
+-- the rank of a vertex among those whose cells are not 3, and none if its cell is 3
 abbrev pub ranked : List ℕ → ℕ → Option ℕ
 ranked cells v = if slice_index cells v == 3 then None else Some (rank_of 3 cells v)
 

@@ -1,4 +1,4 @@
-//! What functions by BDZ and BDZ_PH answer.
+//! What functions by BDZ and BDZ_PH return.
 ghost use Rattle.std.specs.Prelude.{ℕ, List, Option, Some, length};
 ghost use Rattle.cm_bdz.specs.Functions.{bdz_answer, bdz_ph_answer};
 ghost use Rattle.cm_bdz.specs.Places.{bdz_place};

@@ -16,9 +16,9 @@ use std::marker::Model;
 /// Why parts make no function.
 #[derive(Clone, Copy, Debug, PartialEq, Eq)]
 pub enum PartsFault {
-    /// Want of memory for the ranks.
+    /// Out of memory for the ranks.
     Memory,
-    /// The cells that are not idle are not as many as the keys.
+    /// The number of cells that are not idle differs from the number of keys.
     BadCount,
 }
 
@@ -65,7 +65,7 @@ fn count_busy(cells: &Crumbs) -> u32
     cells.count_busy(3, 0, cells.len())
 }
 
-/// Why there is no function where memory is wanting for the ranks: a wrong count is told before that.
+/// Why there is no function if memory runs out for the ranks. A wrong count takes precedence.
 fn fault_without_ranks(built: &Built<Crumbs>) -> PartsFault
     ensures { result ≡ PartsFault.BadCount ↔ count_by (is_busy 3) (⟦<Crumbs as Cells>⟧.cells built.now.cells) ≢ built.now.m }
 {
@@ -77,9 +77,9 @@ fn fault_without_ranks(built: &Built<Crumbs>) -> PartsFault
 }
 
 impl Bdz {
-    /// The function of what a build gave: from 1 to 16,777,216 keys, a ratio from 1,000,000 to 10,000,000 millionths, as many
-    /// cells as the graph has vertices, of which as many are not 3 as there are keys, and ranks of every `2^b`-th cell, with b
-    /// from 3 to 10. `BadCount` is answered exactly where that number is another.
+    /// The function of a build's result: from 1 to 16,777,216 keys, a ratio from 1,000,000 to 10,000,000 millionths, and as many cells
+    /// as the graph has vertices, with ranks of every `2^b`-th cell, with b from 3 to 10. Returns `BadCount` exactly if the number of
+    /// cells that are not 3 differs from the number of keys.
     pub fn from_built(alloc: Global, built: Built<Crumbs>, b: u8) -> Result<Bdz, PartsFault>
         requires keys { (1 ≤ built.m) × (built.m ≤ 16777216) }
         requires ratio { IsRatio built.c }
@@ -93,7 +93,7 @@ impl Bdz {
         ensures counted { count_by (is_busy 3) (⟦<Crumbs as Cells>⟧.cells built.cells) ≢ built.m → result ≡ Err PartsFault.BadCount }
         ensures bad_count { result ≡ Err PartsFault.BadCount → count_by (is_busy 3) (⟦<Crumbs as Cells>⟧.cells built.cells) ≢ built.m }
     {
-        // The ranks end with the count, so that the cells are looked at once.
+        // The ranks yield the count, so the cells are read once.
         let Ok(ranks) = RankTable::build(alloc, &built.cells, 3, b) else {
             return Err(fault_without_ranks(&built));
         };
@@ -132,7 +132,7 @@ impl Bdz {
         self.built.seed
     }
 
-    /// Every `2^b`-th cell has its rank kept.
+    /// The rank of every `2^b`-th cell is kept.
     pub fn b(&self) -> u8
         ensures shift { result ≡ self.now.shift }
         ensures within { (3 ≤ result) × (result ≤ 10) }

@@ -10,7 +10,7 @@ use cm_bits::Cells;
 use cm_lookup2::words;
 use cm_scheme::{Divisor, Place};
 
-/// Where a key is looked for. The number of cells is three times a number above 0.
+/// Where a key is looked up. The number of cells is three times a number above 0.
 fn place_of<C: Cells>(cells: &C, key: &[u8], seed: u32) -> Place
     requires size { IsThirds (length (C.cells cells.now)) }
     ensures place { result ≡ bdz_place (lookup2.words key.now seed) (length (C.cells cells.now)) }
@@ -18,8 +18,8 @@ fn place_of<C: Cells>(cells: &C, key: &[u8], seed: u32) -> Place
     place_in(words(key, seed), &Divisor::new(cells.len() / 3))
 }
 
-/// Of the three ends of a place the one at the position that their cells add up to, modulo 3. The number of cells is three times
-/// a number above 0, and cells are below 4 or less.
+/// Of the three ends of a place, the one whose position is the sum of their cells, modulo 3. The number of cells is three times a
+/// number above 0, and cells are below 4 or less.
 pub fn chosen_among<C: Cells>(cells: &C, place: &Place) -> u32
     requires size { IsThirds (length (C.cells cells.now)) }
     requires bound { C.bound_of cells.now ≤ 4 }

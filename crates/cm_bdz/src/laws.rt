@@ -9,8 +9,8 @@ ghost use Rattle.cm_spec.specs.Rule.{IsCount, IsRatio};
 
 use cm_scheme::cells_solve;
 
-/// The functions of keys under a seed by which peeling removes every edge give no two of the keys the same number. Those of
-/// BDZ are below the number of keys, so they are all numbers below it; those of BDZ_PH are below the number of vertices.
+/// If peeling removes every edge of the keys under a seed, the functions under this seed return different numbers for any two of the
+/// keys. Those of BDZ are below the number of keys, so they are all numbers below it; those of BDZ_PH are below the number of vertices.
 pub fn answers_apart()
     ensures bdz { (keys : List (ℕ × List ℕ)) (c seed shift : ℕ) → IsCount (length keys) → IsRatio c → rest_of (graph_of bdz_rule keys c seed) ≡ [] → AnswersApart keys (bdz_answer (bdz_under keys c seed shift)) (length keys) }
     ensures bdz_ph { (keys : List (ℕ × List ℕ)) (c seed : ℕ) → IsCount (length keys) → IsRatio c → rest_of (graph_of bdz_ph_rule keys c seed) ≡ [] → AnswersApart keys (λ key. Some (bdz_ph_answer (bdz_ph_under keys c seed) key)) (length (cells_under bdz_ph_rule keys c seed)) }

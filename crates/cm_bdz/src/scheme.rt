@@ -25,7 +25,7 @@ fn vertices(m: u32, c: u32) -> u32
     3 * third as u32
 }
 
-/// The ends for the words of a key over three thirds of the vertices, which have as many as this number: one in each.
+/// The ends for the hash values of a key, one in each third of the vertices. `third` is the number of vertices in a third.
 fn triple(words: [u32; 3], third: &Divisor) -> [u32; 3]
     requires room { 3 * third.now < 2 ^ 32 }
     ensures edge { result ≡ bdz_edge words (3 * third.now) }
@@ -38,7 +38,7 @@ fn triple(words: [u32; 3], third: &Divisor) -> [u32; 3]
     ]
 }
 
-/// Where a function over three thirds of the vertices, which have as many as this number, looks for a key of these words.
+/// Where a function looks up a key of these hash values. `third` is a third of its number of vertices.
 pub fn place_in(words: [u32; 3], third: &Divisor) -> Place
     requires room { 3 * third.now < 2 ^ 32 }
     ensures place { result ≡ bdz_place words (3 * third.now) }
@@ -62,7 +62,7 @@ pub trait Variant {
     fn algorithm() -> Algorithm
         ensures algorithm { result ≡ named };
 
-    /// What cells are below.
+    /// The bound: all cells are below it.
     fn bound() -> u32
         ensures bound { result ≡ bound };
 
@@ -77,7 +77,7 @@ pub trait Variant {
     ghost ends: { HasEnds 3 named };
 }
 
-/// Edges of three ends, whose cells add up to the position of the key's own vertex, modulo 3: BDZ where they are `RANKED`, else BDZ_PH.
+/// Edges of three ends, whose cells add up to the position of the key's own vertex, modulo 3: BDZ if they are `RANKED`, else BDZ_PH.
 #[derive(Clone, Copy, Drop)]
 pub struct TripleScheme<const RANKED: bool> {}
 

@@ -12,7 +12,7 @@ passes_both f m n j k e l h = passes (f j) n k (passes (λ a. all_below (f a) n)
 passes_all : (f : ℕ → ℕ → ℕ → Bool) (m n o i j k : ℕ) → all_below (λ a. all_below (λ b. all_below (f a b) o) n) m ≡ true → i < m → j < n → k < o → f i j k ≡ true
 passes_all f m n o i j k e l h g = passes_both (f i) n o j k (passes (λ a. all_below (λ b. all_below (f a b) o) n) m i e l) h g
 
--- whether two tests answer alike
+-- whether two tests agree
 abbrev both_or_neither : Bool → Bool → Bool
 both_or_neither true b = b
 both_or_neither false b = not b

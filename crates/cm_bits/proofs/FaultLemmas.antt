@@ -5,7 +5,7 @@ use Rattle.std.proofs.Common.{arith, ap, sym, ◌∙◌, inl, inr}
 use Rattle.std.proofs.lemmas.Bool.{cases_lt, lt-ltb, le-ltb, cond-true, cond-false}
 use Rattle.std.proofs.lemmas.List.Sums.{position_or_len_is}
 
--- what a search for the first that passes a test tells
+-- what a search for the first that passes a test shows
 pub found : (f : ℕ → Bool) (bs : List ℕ) (k : ℕ) → position f bs ≡ Some k → (position_or_len f bs ≡ k) × (k < length bs)
 found f bs k e = elim (cases_lt (position_or_len f bs) (length bs)) [
   | inl a ↦

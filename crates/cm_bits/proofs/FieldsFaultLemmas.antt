@@ -84,7 +84,7 @@ sound_cells : (w n bound number : ℕ) → n ≤ position_or_len (λ c. nat_le b
 sound_cells w n bound number h k l =
     leb-false bound _ (fails_before_first (λ c. nat_le bound c) (field_cells w n number) k 0 (omega (arith, length-field_cells w n number)))
 
--- the last byte where the cells do not end with a byte
+-- the last byte if the cells do not end with a byte
 pub padding_last : (w n : ℕ) (bytes : List ℕ) → length bytes ≡ fields_len w n → ((k : ℕ) → slice_index bytes k < 256) → n * w % 8 ≢ 0 → bytes_number bytes / (2 ^ w) ^ n ≡ slice_index bytes (length bytes - 1) / 2 ^ (n * w % 8)
 padding_last w n bytes len h ne =
     let last : length bytes - 1 ≡ n * w / 8 = omega arith in

@@ -226,7 +226,7 @@ shifted_is v s w low short h =
     let small : 2 ^ s * v ≤ 2 ^ s * 2 ^ w = mul-le-mul_left (2 ^ s) h in
     mod-eq_of_lt (omega arith)
 
--- a part is below a bound where both are moved up
+-- a part is below a bound exactly if it is with both shifted up
 pub part_below : (x s w m b : ℕ) → s < 34 → w ≤ 26 → m + 1 ≡ 2 ^ w → b ≤ 2 ^ w → (bit_and x (m * 2 ^ s % 2 ^ 64) < b * 2 ^ s % 2 ^ 64) ↔ (x / 2 ^ s % (m + 1) < b)
 part_below x s w m b low short e h =
     let p : ℕ = x / 2 ^ s % 2 ^ w in

@@ -92,7 +92,7 @@ puts at x old ys l e =
           ∙ (let same : at + (8 + (k - at - 8)) ≡ k = omega arith in ap (slice_index old) same);
     }
 
--- the same in a `Vec`, whose room past its elements is not looked at
+-- the same in a `Vec`, whose room past its elements is not read
 pub puts_back : (at x len : ℕ) (old ys : List ℕ) → at + 8 ≤ length old → len ≡ length old → ys ≡ to_le_bytes w64 x → PutsWindow at x old (take len (put_mid at (at + 8 - at) old ys ++ drop (length (put_mid at (at + 8 - at) old ys)) old))
 puts_back at x len old ys l n e =
     let put : PutsWindow at x old (put_mid at (at + 8 - at) old ys) = puts at x old ys l e in

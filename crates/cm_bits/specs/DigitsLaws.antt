@@ -20,7 +20,7 @@ digits_sum-same d f g (suc n) h =
     let e : f n ≡ g n = h n (omega arith) in
     rw e (ap (λ s. s + g n * d ^ n) (digits_sum-same d f g n (λ i l. h i (omega arith))))
 
--- digits below the base give a number below its power
+-- digits below the base form a number below its power
 pub digits_sum-lt : (d : ℕ) (f : ℕ → ℕ) (n : ℕ) → ((i : ℕ) → i < n → f i < d) → digits_sum d f n < d ^ n
 unfolding digits_sum
 digits_sum-lt d f zero h = rw (pow-zero d) (omega arith)
@@ -55,7 +55,7 @@ digit-digits_sum d f (suc n) (suc i) p h l =
     (digit_up d (f 0) (digits_sum d (λ i. f (suc i)) n) i p (h 0 (omega arith))
     ∙ digit-digits_sum d (λ i. f (suc i)) n i p (λ j m. h (suc j) (omega arith)) (omega arith))
 
--- the digits of a number give it back
+-- a number is the sum of its digits
 pub digits_sum-digits : (d n b : ℕ) → 0 < d → b < d ^ n → digits_sum d (λ i. b / d ^ i % d) n ≡ b
 unfolding digits_sum
 digits_sum-digits d zero b p h = let one : d ^ 0 ≡ 1 = pow-zero d in omega arith

@@ -8,7 +8,7 @@ use Rattle.cm_bits.specs.Bound.{AllBelow}
 use Rattle.cm_bits.specs.Fault.{fault_of}
 use Rattle.cm_bits.specs.declared.fault.ImageFault.TheVariants.{BadCell, BadPadding}
 
--- no fault where the lowest cell at fault is past the n cells and the padding is 0
+-- no fault if the lowest cell at fault is past the n cells and the padding is 0
 pub no_fault : (n first padding last : ℕ) → n ≤ first → padding ≡ 0 → fault_of n first padding last ≡ None
 no_fault n first padding last a b = rw (b, le-ltb first n a) refl
 

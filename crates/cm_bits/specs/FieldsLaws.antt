@@ -30,7 +30,7 @@ field_cells-at w n number i l = get_or-map-range_with_len _ 0 n i i 0 l (omega a
 pub field_room_for : (w n number : ℕ) → n ≤ MAX_CELLS → length (field_cells w n number) ≤ MAX_CELLS
 field_room_for w n number h = omega (arith, length-field_cells w n number)
 
--- the number of cells gives these
+-- the number of cells is read as these cells
 pub field_cells-fields_number : (w n : ℕ) (xs : List ℕ) → length xs ≡ n → AllBelow (2 ^ w) xs → field_cells w n (fields_number w xs) ≡ xs
 unfolding fields_number
 field_cells-fields_number w n xs e b =
@@ -51,12 +51,12 @@ fields_fit w n =
     let l : w * n ≤ 8 * fields_len w n = omega arith in
     rw (a, b) (pow-le-pow_right (lit< tt) l)
 
--- cells of one number are one list
+-- lists of cells with one number are equal
 pub same_fields : (w : ℕ) (xs ys : List ℕ) → length xs ≡ length ys → AllBelow (2 ^ w) xs → AllBelow (2 ^ w) ys → fields_number w xs ≡ fields_number w ys → xs ≡ ys
 same_fields w xs ys n a b e =
     sym (field_cells-fields_number w (length xs) xs refl a) ∙ ap (field_cells w (length xs)) e ∙ field_cells-fields_number w (length xs) ys (sym n) b
 
--- equal images of as many cells of w bits are of equal lists
+-- lists of cells of w bits with one length are equal if their images are
 pub same_fields_image : (w : ℕ) (xs ys : List ℕ) → length xs ≡ length ys → AllBelow (2 ^ w) xs → AllBelow (2 ^ w) ys → ((q : ℕ) → q < fields_len w (length xs) → fields_byte w xs q ≡ fields_byte w ys q) → xs ≡ ys
 unfolding fields_byte
 same_fields_image w xs ys n a b e =
@@ -83,7 +83,7 @@ width-fits b h =
           absurd (omega (arith, leb-false b (2 ^ 26) last))
     ]
 
--- equal images of as many fields of one bound are of equal lists
+-- lists of fields with one length and bound are equal if their images are
 pub same_fields_bound : (b : ℕ) (xs ys : List ℕ) → b ≤ MAX_FIELD_BOUND → length xs ≡ length ys → AllBelow b xs → AllBelow b ys → ((q : ℕ) → q < fields_len (width_of b) (length xs) → fields_byte (width_of b) xs q ≡ fields_byte (width_of b) ys q) → xs ≡ ys
 same_fields_bound b xs ys h n a l e =
     let w = width-fits b h in

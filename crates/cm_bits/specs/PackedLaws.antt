@@ -72,7 +72,7 @@ cell_is_digit d p xs k h q b =
     digit-digits_sum d (λ i. slice_index xs (p * (k / p) + i)) p (k % p) h (λ i l. cell_lt d xs h b _) (mod_below k p q)
     ∙ ap (slice_index xs) (div-add-mod k p)
 
--- equal packed bytes of as many cells are of equal lists
+-- lists of packed cells with one length are equal if their bytes are
 pub same_packed : (d p : ℕ) (xs ys : List ℕ) → 0 < d → 0 < p → length xs ≡ length ys → AllBelow d xs → AllBelow d ys → ((q : ℕ) → q < packed_len p (length xs) → packed_byte d p xs q ≡ packed_byte d p ys q) → xs ≡ ys
 same_packed d p xs ys h q n a b e =
     ext_get_or 0 xs ys n (λ k l.

@@ -13,7 +13,7 @@ use Rattle.cm_bits.specs.Fault.{plain_cell, plain_fault}
 use Rattle.cm_bits.specs.DigitsLaws.{digits_sum-same, digits_sum-digits, same_from_digits}
 use Rattle.cm_bits.specs.FaultLaws.{no_fault}
 
--- equal plain bytes of as many numbers below 2 ^ 32 are of equal lists
+-- lists of numbers below 2 ^ 32 with one length are equal if their plain bytes are
 pub plain_image : (xs ys : List ℕ) → length xs ≡ length ys → ((k : ℕ) → k < length xs → slice_index xs k < 2 ^ 32) → ((k : ℕ) → k < length ys → slice_index ys k < 2 ^ 32) → ((q : ℕ) → q < 4 * length xs → plain_byte xs q ≡ plain_byte ys q) → xs ≡ ys
 unfolding plain_byte
 plain_image xs ys n a b h =
@@ -23,7 +23,7 @@ plain_image xs ys n a b h =
     let part : (4 * k + i) % 4 ≡ i = omega arith in
     rw (place, part) at (h (4 * k + i) (omega arith))))
 
--- equal plain bytes of as many cells of one bound are of equal lists
+-- lists of cells with one length and bound are equal if their plain bytes are
 pub same_plain : (b : ℕ) (xs ys : List ℕ) → b < 2 ^ 32 → length xs ≡ length ys → AllBelow b xs → AllBelow b ys → ((q : ℕ) → q < 4 * length xs → plain_byte xs q ≡ plain_byte ys q) → xs ≡ ys
 same_plain b xs ys f n h l e =
     plain_image xs ys n (λ k m. omega (arith, h k m)) (λ k m. omega (arith, l k m)) e

@@ -9,7 +9,7 @@ pub fn first_byte_from(bytes: &[u8], low: u32) -> Option<usize>
     bytes.iter().position(|b| *b as u32 >= low)
 }
 
-// The largest byte, or 0 where there is none.
+// The largest byte, or 0 if there is none.
 fn largest(bytes: &[u8]) -> u8
     ensures { (k : ℕ) → slice_index bytes.now k ≤ result }
 {
@@ -22,7 +22,7 @@ fn largest(bytes: &[u8]) -> u8
     most
 }
 
-// The place of the first byte that is at least `low`, fast where there is none: the largest of many bytes is found at once.
+// The place of the first byte that is at least `low`. Fast if there is none: the largest of many bytes is found at once.
 pub fn rare_byte_from(bytes: &[u8], low: u32) -> Option<usize>
     ensures { result ≡ position (λ b. nat_le low b) bytes.now }
 {
@@ -32,7 +32,7 @@ pub fn rare_byte_from(bytes: &[u8], low: u32) -> Option<usize>
     first_byte_from(bytes, low)
 }
 
-/// The number that the eight bytes from place `at` on make, the first the lowest.
+/// The little-endian number of the eight bytes from place `at` on.
 #[inline]
 #[tactic(auto, unfolding(crate::specs::Held::window_at, cm_spec::specs::Image::digits_sum))]
 pub fn window(bytes: &[u8], at: usize) -> u64
@@ -51,7 +51,7 @@ pub fn window(bytes: &[u8], at: usize) -> u64
     ])
 }
 
-// Makes eight bytes from a place on those of a number.
+// Writes a number to eight bytes from a place on, little-endian.
 #[inline]
 pub fn put_window(bytes: &mut Vec<u8>, at: usize, number: u64)
     requires { at + 8 ≤ length bytes.old.items }
@@ -69,7 +69,7 @@ pub fn ones(width: u32) -> u32
     (1 << width) - 1
 }
 
-// The part from bit `shift` on that a mask of the lowest bits leaves.
+// The bits of a number from bit `shift` on that a mask of the lowest bits selects.
 #[inline]
 pub fn part(number: u64, shift: u64, mask: u32) -> u32
     requires shift { shift < 8 }
@@ -79,7 +79,7 @@ pub fn part(number: u64, shift: u64, mask: u32) -> u32
     ((number >> shift) & mask as u64) as u32
 }
 
-// Whether a part of that many bits is below the bound. The number isn't shifted but the mask and the bound, which a loop does once.
+// Whether such a part is below the bound. The mask and the bound are shifted instead of the number: a loop does that once.
 #[inline]
 pub fn is_part_below(number: u64, shift: u64, mask: u32, bound: u32) -> bool
     requires shift { shift < 34 }
@@ -90,7 +90,7 @@ pub fn is_part_below(number: u64, shift: u64, mask: u32, bound: u32) -> bool
     number & ((mask as u64) << shift) < (bound as u64) << shift
 }
 
-// The number with another such part.
+// The number with such a part replaced.
 #[inline]
 pub fn with_part(number: u64, shift: u64, mask: u32, value: u32) -> u64
     requires shift { shift < 8 }

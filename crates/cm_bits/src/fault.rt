@@ -1,7 +1,7 @@
 /// Why bytes are no image of a table.
 #[derive(Clone, Copy, Debug, PartialEq, Eq)]
 pub enum ImageFault {
-    /// Memory was wanting.
+    /// Out of memory.
     Memory,
     /// The lowest cell at fault, from 0.
     BadCell { cell: u32 },

@@ -136,7 +136,7 @@ fn image_bytes(n: u32, width: u32) -> u64
     (n as u64 * width as u64).div_ceil(8)
 }
 
-// The bytes, with room for as many more as a table keeps.
+// A copy of the bytes, with room for `SPARE` more.
 fn with_room(alloc: Global, bytes: &[u8]) -> Result<Vec<u8>, AllocError>
     requires { length bytes.now < 2 ^ 60 }
     ensures { IfOk result (λ v. v.items ≡ bytes.now) }
@@ -146,7 +146,7 @@ fn with_room(alloc: Global, bytes: &[u8]) -> Result<Vec<u8>, AllocError>
     Ok(copy)
 }
 
-// The bytes, and as many zeros after them as a table keeps.
+// The bytes with `SPARE` zeros appended.
 fn with_spare(bytes: Vec<u8>) -> Result<Vec<u8>, AllocError>
     requires { length bytes.items < 2 ^ 60 }
     ensures { IfOk result (λ v. v.items ≡ bytes.items ++ replicate 8 0) }
@@ -156,7 +156,7 @@ fn with_spare(bytes: Vec<u8>) -> Result<Vec<u8>, AllocError>
     Ok(held)
 }
 
-// Cell i of bytes with spare ones after them.
+// Cell i of bytes with spare bytes after them.
 #[inline]
 fn cell(bytes: &[u8], i: u32, width: u32, mask: u32) -> u32
     requires width { width ≤ 26 }
@@ -169,7 +169,7 @@ fn cell(bytes: &[u8], i: u32, width: u32, mask: u32) -> u32
     part(window(bytes, (bit / 8) as usize), bit % 8, mask)
 }
 
-// How many cells of `width` bits lie whole in the zero bytes that bytes begin with.
+// How many whole cells of `width` bits lie in the leading zero bytes.
 fn clear_cells(bytes: &[u8], width: u32) -> u64
     requires some { 0 < width }
     requires room { length bytes.now < 2 ^ 60 }
@@ -182,7 +182,7 @@ fn clear_cells(bytes: &[u8], width: u32) -> u64
     8 * zeros as u64 / width as u64
 }
 
-// Whether two cells one after another are below the bound, the first from this bit of the bytes from `at` on.
+// Whether two adjacent cells are below the bound. The first begins at this bit of the bytes from `at` on.
 #[inline]
 fn is_pair_below(held: &[u8], at: usize, bit: u64, width: u32, mask: u32, bound: u32) -> bool
     requires width { width ≤ 26 }
@@ -196,7 +196,8 @@ fn is_pair_below(held: &[u8], at: usize, bit: u64, width: u32, mask: u32, bound:
     part(both, shift, mask) < bound && is_part_below(both, shift + width as u64, mask, bound)
 }
 
-// How many groups of eight cells, which begin with a byte, have cells below the bound alone. All do before group `first`.
+// How many of the leading groups of eight cells, which begin with a byte, have only cells below the bound. All groups before `first`
+// do.
 fn groups_below(held: &[u8], first: u32, n: u32, width: u32, bound: u32) -> u32
     requires width { width ≤ 26 }
     requires bound { bound ≤ 2 ^ width }
@@ -252,7 +253,7 @@ fn bad_cell(held: &[u8], n: u32, width: u32, bound: u32) -> Option<u32>
     None
 }
 
-// Why bytes, which `held` has with zeros after them, are no image of n cells. All that is held are bytes.
+// Why bytes are no image of n cells. `held` is these bytes with zeros after them. Each element of `held` is a byte.
 fn fault_in(held: &[u8], bytes: &[u8], n: u32, width: u32, bound: u32) -> Option<ImageFault>
     requires room { n ≤ MAX_CELLS }
     requires some { 0 < width }
@@ -277,7 +278,7 @@ fn fault_in(held: &[u8], bytes: &[u8], n: u32, width: u32, bound: u32) -> Option
     None
 }
 
-// The least width from 1 on whose numbers serve the bound.
+// The least width, from 1 on, whose numbers serve the bound.
 fn width(bound: u32) -> u32
     requires { bound ≤ MAX_FIELD_BOUND }
     ensures { result ≡ width_of bound }

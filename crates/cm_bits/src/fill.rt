@@ -4,7 +4,7 @@ ghost use Rattle.std.specs.Prelude.{◌≡◌, ◌<◌, ◌≤◌, replicate, If
 use crate::{Cells, MAX_CELLS};
 use std::alloc::{AllocError, Global};
 
-/// A table of n cells that all hold the value. Refused only for want of memory.
+/// A table of n cells that all hold the value. Fails only if memory runs out.
 pub fn filled<C: Cells + Drop>(
     alloc: Global,
     n: u32,

@@ -31,10 +31,10 @@ pub const MAX_CELLS: u32 = 671_088_645;
 /// The highest bound of `Fields`: its cells have at most 26 bits.
 pub const MAX_FIELD_BOUND: u32 = 67_108_864;
 
-/// How many bytes a table may keep past those of its image. Where a vector has room for so many more, `from_bytes` moves none.
+/// How many bytes a table may keep after those of its image. If a vector has room for this many more, `from_bytes` moves none.
 pub const SPARE: usize = 8;
 
-/// A table of cells: a list of numbers below a bound, neither of whose length and bound a call changes.
+/// A table of cells: a list of numbers below a bound. No call changes its length or its bound.
 ///
 /// Cells and bytes are counted from 0. Only `zeroed`, `from_image` and `from_bytes` take memory.
 pub trait Cells: Sized {
@@ -58,7 +58,7 @@ pub trait Cells: Sized {
     // Why bytes are no image of n cells of a bound: the lowest cell at fault, or else padding that is not zero.
     ghost image_fault: { ℕ → ℕ → List ℕ → Option ImageFault };
 
-    /// A table of n cells, all of them 0. Refused only for want of memory.
+    /// A table of n cells, all of them 0. Fails only if memory runs out.
     fn zeroed(alloc: Global, n: u32, bound: u32) -> Result<Self, AllocError>
         requires room { n ≤ MAX_CELLS }
         requires fit { fits bound }
@@ -69,7 +69,7 @@ pub trait Cells: Sized {
     fn len(&self) -> u32
         ensures { result ≡ length (cells self.now) };
 
-    /// What each cell is below.
+    /// The bound: each cell is below it.
     fn bound(&self) -> u32
         ensures { result ≡ bound_of self.now };
 
@@ -78,7 +78,7 @@ pub trait Cells: Sized {
         requires { i < length (cells self.now) }
         ensures { result ≡ slice_index (cells self.now) i };
 
-    /// Makes cell i the value, and leaves all other cells as they are.
+    /// Sets cell i to the value. All other cells stay as they are.
     fn set(&mut self, i: u32, value: u32)
         requires index { i < length (cells self.old) }
         requires below { value < bound_of self.old }
@@ -102,7 +102,7 @@ pub trait Cells: Sized {
         requires { i < image_size (length (cells self.now)) (bound_of self.now) }
         ensures { result ≡ image_byte (bound_of self.now) (cells self.now) i };
 
-    /// The table of n cells whose image the bytes are. Refused for want of memory, or with the fault of the bytes.
+    /// The table of n cells whose image is these bytes. Fails if memory runs out, or with the fault of the bytes.
     fn from_image(alloc: Global, n: u32, bound: u32, bytes: &[u8]) -> Result<Self, ImageFault>
         requires room { n ≤ MAX_CELLS }
         requires fit { fits bound }
@@ -113,7 +113,7 @@ pub trait Cells: Sized {
         ensures image { IfOk result (λ t. bytes.now ≡ list_of (image_byte bound (cells t)) (image_size n bound)) }
         ensures fault { IfErr result (λ e. (e ≡ Memory) ⊎ (image_fault n bound bytes.now ≡ Some e)) };
 
-    /// The same of bytes that are handed over. A table that keeps its image keeps these bytes, and so takes no memory if the
+    /// Like `from_image`, of bytes that it takes over. A table that keeps its image keeps these bytes, and takes no memory if the
     /// vector has room for `SPARE` more.
     fn from_bytes(alloc: Global, n: u32, bound: u32, bytes: Vec<u8>) -> Result<Self, ImageFault>
         requires room { n ≤ MAX_CELLS }
@@ -131,7 +131,7 @@ pub trait Cells: Sized {
     // The numbers are below the bound.
     ghost in_bound: { (t : Self) → AllBelow (bound_of t) (cells t) };
 
-    // There are at most as many as a table may have.
+    // There are at most `MAX_CELLS` of them.
     ghost in_room: { (t : Self) → length (cells t) ≤ MAX_CELLS };
 
     // The table has a bound that the type serves.
@@ -140,7 +140,7 @@ pub trait Cells: Sized {
     // The byte of a cell is one of the image.
     ghost cell_inside: { (b n i : ℕ) → fits b → i < n → cell_place b i < image_size n b };
 
-    // Equal images of as many cells of one bound are of equal lists.
+    // Lists of one length and bound are equal if their images are.
     ghost same_from_image: { (b : ℕ) (xs ys : List ℕ) → fits b → length xs ≡ length ys → AllBelow b xs → AllBelow b ys → ((q : ℕ) → q < image_size (length xs) b → image_byte b xs q ≡ image_byte b ys q) → xs ≡ ys };
 
     // The image of a list has no fault.

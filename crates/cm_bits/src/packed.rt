@@ -33,7 +33,7 @@ pub trait Packing {
         requires { i < PER_BYTE }
         ensures { result ≡ byte / BASE ^ i % BASE };
 
-    /// The byte with another digit i.
+    /// The byte with digit i replaced.
     fn with_digit(byte: u8, i: u32, digit: u32) -> u8
         requires place { i < PER_BYTE }
         requires whole { byte < FULL }

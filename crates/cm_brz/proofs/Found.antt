@@ -136,7 +136,7 @@ none_passes p (x ∷ xs) none = go (cases_Bool (p x)) (λ f. none_passes p xs (r
   go (inl t) later = absurd (none-some x (sym (rw t at none)))
   go (inr f) later = at_each f (later f)
 
--- where no seed splits the keys, each leaves an overfull bucket
+-- if no seed splits the keys, each leaves an overfull bucket
 pub all_overfull : (keys : List (ℕ × List ℕ)) (k : ℕ) (seeds : List ℕ) → split_of keys k seeds ≡ None → AllOverfull keys k seeds
 all_overfull keys k seeds none = λ i l.
     let seed : ℕ = get_or seeds i 0 in

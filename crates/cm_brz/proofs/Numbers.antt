@@ -185,7 +185,7 @@ answered f key j n e is = ap (λ (x : ℕ). answer_of_bucket f x key) e ∙ ap (
 some_is : (a b : ℕ) → Some a ≡ Some b → a ≡ b
 some_is a b e = cc
 
--- where the numbers of two keys are the same, so are their buckets
+-- if the numbers of two keys are the same, so are their buckets
 same_bucket : (xs : List Bucket) (i j n m : ℕ) → i < length xs → j < length xs → n < (get_or xs i no_bucket).size → m < (get_or xs j no_bucket).size → offset_of xs i + n ≡ offset_of xs j + m → i ≡ j
 same_bucket xs i j n m l h a b e = go (cases_order i j) where
   go : (i ≡ j) ⊎ ((i < j) ⊎ (j < i)) → i ≡ j

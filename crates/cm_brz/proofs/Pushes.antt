@@ -65,7 +65,7 @@ pushes_built f after keys c seeds m seed cells many built first e = record {
   first = λ _. first;
 }
 
--- a function with one bucket more is the same but for its buckets
+-- a function with one bucket more is the same except for its buckets
 pub same_but_buckets : (first f after : Brz) (keys : List (ℕ × List ℕ)) (c : ℕ) (seeds : List ℕ) → f ≡ record first { buckets = f.buckets } → PushesBucket f after keys c seeds → after ≡ record first { buckets = after.buckets }
 same_but_buckets first f after keys c seeds e h =
     let more : f.buckets ++ h.bucket ∷ [] ≡ after.buckets = sym (ap (λ (x : Brz). x.buckets) h.pushed) in

@@ -8,7 +8,7 @@ use Rattle.cm_brz.specs.Records.{Record, records_of}
 abbrev pub key_of : Record → ℕ × List ℕ
 key_of r = (r.line, r.key)
 
--- of the keys of a bucket these were read, and the records after so many are left
+-- of the keys of a bucket these were read, and the records after this many are left
 pub record AreRead (held : List (ℕ × List ℕ)) (count bucket : ℕ) (records : List Record) : Type 0 where
   pub all_is : held ++ map key_of (drop count (records_of bucket records)) ≡ keys_in_bucket records bucket
 
@@ -26,7 +26,7 @@ read_more held more count before now next bucket line key records h at then_at g
 pub all_read : (held : List (ℕ × List ℕ)) (count before bucket : ℕ) (records : List Record) → AreRead held count bucket records → before ≡ count → drop before (records_of bucket records) ≡ [] → held ≡ keys_in_bucket records bucket
 all_read held count before bucket records h at none = sym (append-nil held) ∙ (ap (λ (xs : List Record). held ++ map key_of xs) (sym none ∙ ap (λ (n : ℕ). drop n (records_of bucket records)) at) ∙ h.all_is)
 
--- how many are left where a record comes, and where none does
+-- how many are left if a record comes, and if none does
 pub more_left : (before : ℕ) (rs rest : List Record) (r : Record) → drop before rs ≡ r ∷ rest → before < length rs
 more_left before rs rest r e = omega (arith, length-drop before rs, ap length e)
 

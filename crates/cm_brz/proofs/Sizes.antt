@@ -63,7 +63,7 @@ sum_of_zeros sizes n e = ap sum e ∙ (sum_by-replicate (λ (x : ℕ). x) n 0 �
 pub count_within : (sizes : List ℕ) (b : ℕ) → b < length sizes → get_or sizes b 0 ≤ sum sizes
 count_within sizes b l = get_or-le-sum_by (λ (x : ℕ). x) sizes b 0 l
 
--- a seed splits the keys where no bucket has too many, and not where one has
+-- a seed splits the keys if no bucket has too many, and not if one has
 pub splits : (keys : List (ℕ × List ℕ)) (k s : ℕ) → ((j : ℕ) → j < k → size_of_bucket keys k s j ≤ MAX_BUCKET) → is_split keys k s ≡ true
 splits keys k s h = list_all-from_AllPass (λ (j : ℕ). leb (size_of_bucket keys k s j) MAX_BUCKET) (range_with_len 0 k) (λ i d l.
     let low : i < k = omega (arith, length-range_with_len 0 k) in

@@ -23,7 +23,7 @@ some_of : {A : Type 0} (o : Option A) → is_some o ≡ true → (x : A) × (o �
 some_of None is = absurd (false≢true is)
 some_of (Some x) is = (x, refl)
 
--- what holds of some contents holds where they are known
+-- what holds of some contents holds if they are known
 pub where_known : {A : Type 0} (o : Option A) (P : Type 0) → is_some o ≡ true → ForSome o (λ _. P) → P
 where_known o P is all = let some = some_of o is in all some.0 some.1
 
@@ -34,7 +34,7 @@ given_record records bucket before now count key (Some line) gives is =
     let r : Record = record { bucket = bucket; line = line; key = key } in
     gives ∙ ap (λ (n : ℕ). r ∷ drop n (records_of bucket records)) (sym is)
 
--- of the bucket asked last so many were given
+-- of the bucket read last this many were read
 pub given_is : (s : Store) (bucket : ℕ) → s.bucket ≡ bucket → given_of s bucket ≡ s.given
 given_is s bucket is = ap (λ (b : Bool). cond b s.given 0) (eq-eqb bucket s.bucket (sym is))
 

@@ -106,7 +106,7 @@ building_undamaged keys_of k c split seeds (Changed first now) h d = d
 building_undamaged keys_of k c split seeds SpillFailed h d = d
 building_undamaged keys_of k c split seeds (SpillDamaged offset expected found) h d = h
 
--- the refusal for an overfull bucket
+-- the failure for an overfull bucket
 pub refuses : (told : Told) (c b seed bucket count : ℕ) (seeds : List ℕ) (e : BrzFault) → told.fault ≡ None → seed ≡ slice_index seeds 0 → split_of told.keys (bucket_count (length told.keys) b) seeds ≡ None → IsLowestOver told.keys (bucket_count (length told.keys) b) seed bucket count → RefusesOverfull told (bucket_count (length told.keys) b) seed bucket count e → FailsBrz told c b seeds e
 refuses told c b seed bucket count seeds Memory whole first none lowest h = tt
 refuses told c b seed bucket count seeds NoKeys whole first none lowest h = absurd h

@@ -3,7 +3,7 @@ use Rattle.std.specs.Prelude.{◌<◌, ◌≤◌, ◌+◌, ◌-◌, ℕ, List, [
 use Rattle.cm_brz.specs.declared.bucket_keys.Spot.{Spot}
 use Rattle.cm_outer.specs.declared.key_pass.TheConstants.{MAX_KEY_LEN}
 
--- keys with their lines, and how many of them the pass has given
+-- keys with their lines, and how many of them the pass has yielded
 pub record BucketPass : Type 0 where
   pub keys : List (ℕ × List ℕ)
   pub given : ℕ
@@ -28,7 +28,7 @@ keyed_in bytes s = (s.line, take (s.until - s.from) (drop s.from bytes))
 abbrev pub IsKeyIn : List ℕ → Spot → Type 0
 IsKeyIn bytes s = (s.from ≤ s.until) × (s.until ≤ length bytes) × (s.until ≤ s.from + MAX_KEY_LEN)
 
--- keys whose bytes stand among these, by rising lines, so many at most; some of them were given
+-- keys whose bytes stand among these, by rising lines, at most `most` of them; some of them were yielded
 pub record IsBucketPass (most : ℕ) (bytes : List ℕ) (spots : List Spot) (given : ℕ) : Type 0 where
   pub stand : All (IsKeyIn bytes) spots
   pub rise : LinesRise (map (keyed_in bytes) spots)

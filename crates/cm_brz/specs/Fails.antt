@@ -1,4 +1,4 @@
--- Why a build by BRZ was refused.
+-- Why a build by BRZ fails.
 use Rattle.std.specs.Prelude.{◌≡◌, ◌≢◌, ℕ, ◌<◌, ◌≤◌, List, [], All, length, slice_index, is_some, true, None, Some, Result, Err}
 use Rattle.cm_algo.specs.Fails.{IsToldFault, ShowsCore}
 use Rattle.cm_algorithm.specs.declared.algorithm.Algorithm.TheVariants as algorithm
@@ -23,13 +23,13 @@ use Rattle.cm_witness.specs.declared.certificate.GatherFault.TheVariants as gath
 use Rattle.cm_witness.specs.declared.certificate.InBucket.{InBucket}
 use Rattle.cm_witness.specs.declared.certificate.Pair.{Pair}
 
--- the fault of a build that is refused for one of its passes
+-- the fault of a build that fails in one of its passes
 abbrev pub brz_fault_of : GatherFault → BrzFault
 brz_fault_of gather_fault.Memory = Memory
 brz_fault_of (gather_fault.Key fault) = Key fault
 brz_fault_of (gather_fault.Changed first now) = Changed first now
 
--- the same for a refusal of the store
+-- the same for a fault of the store
 abbrev pub store_fault_of : StoreFault → BrzFault
 store_fault_of store_fault.Memory = Memory
 store_fault_of store_fault.Failed = SpillFailed
@@ -40,18 +40,18 @@ abbrev pub put_fault_of : PutFault → BrzFault
 put_fault_of (put_fault.Key fault) = Key fault
 put_fault_of (put_fault.Store fault) = store_fault_of fault
 
--- `Key Read` exactly where the count of the keys' faults rose
+-- `Key Read` exactly if the count of the keys' faults rose
 abbrev pub HasKeysCause : {T : Type 0} → ℕ → ℕ → Result T BrzFault → Type 0
 HasKeysCause before now (Err (Key fault)) = HasKeyCause {T = Unit {0}} before now (Err fault)
 HasKeysCause before now result = now ≡ before
 
--- `SpillFailed` exactly where the count of the spill's faults rose
+-- `SpillFailed` exactly if the count of the spill's faults rose
 abbrev pub HasSpillCause : {T : Type 0} → ℕ → ℕ → Result T BrzFault → Type 0
 HasSpillCause before now (Err SpillFailed) = (before ≤ now) × Rose before now
 HasSpillCause before now result = now ≡ before
 
--- every seed of the list leaves a bucket with more keys than one may have; under the first seed this is the lowest such bucket,
--- which has so many keys, and these are the equal ones among them
+-- every seed of the list leaves a bucket with more keys than one may have; under the first seed this is the lowest such bucket, with
+-- its number of keys and the equal ones among them
 pub record IsOverfull (keys : List (ℕ × List ℕ)) (k : ℕ) (seeds : List ℕ) (seed bucket count : ℕ) (equal : List Pair) : Type 0 where
   pub none : split_of keys k seeds ≡ None
   pub first : seed ≡ slice_index seeds 0
@@ -73,7 +73,7 @@ pub record IsCoredBucket (keys : List (ℕ × List ℕ)) (k c : ℕ) (seeds : Li
   pub earlier : (j : ℕ) → j < place.bucket → is_some (bucket_from (keys_of_bucket keys k place.split j) c seeds) ≡ true
   pub cored : IsCoredIn (keys_of_bucket keys k place.split place.bucket) c seeds place made
 
--- the refusals of a build over keys with known contents: they never change, and what is refused is so by the keys alone
+-- the failures of a build over known keys: the keys never change, and a failure depends on them alone
 abbrev pub FailsBrz : Told → ℕ → ℕ → List ℕ → BrzFault → Type 0
 FailsBrz told c b seeds Memory = Unit {0}
 FailsBrz told c b seeds NoKeys = (told.keys ≡ []) × (told.fault ≡ None)
@@ -84,8 +84,8 @@ FailsBrz told c b seeds (Changed first now) = ⊥
 FailsBrz told c b seeds SpillFailed = Unit {0}
 FailsBrz told c b seeds (SpillDamaged offset expected found) = Unit {0}
 
--- what a refusal has, whatever the keys are: numbers of `Changed` and of damage that differ, an overfull bucket of the first seed,
--- and a certificate of the first seed in a bucket, with three ends an edge
+-- what a failure has, whatever the keys are: numbers of `Changed` and of damage that differ, an overfull bucket of the first seed, and
+-- a certificate of the first seed in a bucket, with three ends an edge
 abbrev pub HasBrzForm : List ℕ → BrzFault → Type 0
 HasBrzForm seeds (Overfull seed bucket count equal) = (seed ≡ slice_index seeds 0) × (MAX_BUCKET < count)
 HasBrzForm seeds (Cored made) = (made.algorithm ≡ algorithm.Brz) × (made.seed ≡ slice_index seeds 0) × (is_some made.place ≡ true) × All (λ e. is_some e.third ≡ true) made.edges.items
@@ -93,7 +93,7 @@ HasBrzForm seeds (Changed first now) = first ≢ now
 HasBrzForm seeds (SpillDamaged offset expected found) = expected ≢ found
 HasBrzForm seeds fault = Unit {0}
 
--- a pass that puts keys with known contents into a store refuses for these alone
+-- a pass that puts known keys into a store fails only for these reasons
 abbrev pub FailsPassing : Told → BrzFault → Type 0
 FailsPassing told Memory = Unit {0}
 FailsPassing told (Key fault) = IsToldFault told fault
@@ -108,7 +108,7 @@ HasPassingForm (Changed first now) = first ≢ now
 HasPassingForm SpillFailed = Unit {0}
 HasPassingForm fault = ⊥
 
--- the build of a bucket refuses for these alone
+-- the build of a bucket fails only for these reasons
 abbrev pub FailsBucket : List (ℕ × List ℕ) → ℕ → List ℕ → InBucket → BrzFault → Type 0
 FailsBucket keys c seeds place Memory = Unit {0}
 FailsBucket keys c seeds place (Cored made) = HasBrzForm seeds (Cored made) × IsCoredIn keys c seeds place made
@@ -121,7 +121,7 @@ pub record IsCoredAt (keys_of : ℕ → List (ℕ × List ℕ)) (k c split : ℕ
   pub earlier : (j : ℕ) → j < bucket → is_some (bucket_from (keys_of j) c seeds) ≡ true
   pub cored : IsCoredIn (keys_of bucket) c seeds (record { split = split; bucket = bucket }) made
 
--- the build of all buckets from a store with known contents refuses for these alone
+-- the build of all buckets from a store with known contents fails only for these reasons
 abbrev pub FailsBuckets : (ℕ → List (ℕ × List ℕ)) → ℕ → ℕ → ℕ → List ℕ → BrzFault → Type 0
 FailsBuckets keys_of k c split seeds Memory = Unit {0}
 FailsBuckets keys_of k c split seeds (Cored made) = IsCoredAt keys_of k c split seeds made
@@ -141,7 +141,7 @@ abbrev pub IsDamage : BrzFault → Type 0
 IsDamage (SpillDamaged offset expected found) = Unit {0}
 IsDamage fault = ⊥
 
--- the refusal for an overfull bucket, with this seed, bucket and number of keys, over keys with known contents
+-- the failure for an overfull bucket, with this seed, bucket and number of keys, over known keys
 abbrev pub RefusesOverfull : Told → ℕ → ℕ → ℕ → ℕ → BrzFault → Type 0
 RefusesOverfull told k s j n Memory = Unit {0}
 RefusesOverfull told k s j n (Overfull seed bucket count equal) = (seed ≡ s) × (bucket ≡ j) × (count ≡ n) × (equal.items ≡ pairs (keys_of_bucket told.keys k s j))

@@ -8,18 +8,18 @@ use Rattle.cm_witness.specs.declared.certificate.GatherFault.{GatherFault}
 use Rattle.cm_witness.specs.declared.certificate.GatherFault.TheVariants.{Memory, Key, Changed}
 use Rattle.cm_witness.specs.declared.certificate.Pair.{Pair}
 
--- there are so many keys, with no fault at their end
+-- there are m keys, with no fault at their end
 pub record AreCounted (m : ℕ) (told : Told) : Type 0 where
   pub many : length told.keys ≡ m
   pub whole : told.fault ≡ None
 
--- the refusals of a later pass over keys with known contents: it never finds another number of them
+-- the failures of a later pass over known keys: it never finds another number of them
 abbrev pub FailsAgain : Told → GatherFault → Type 0
 FailsAgain told Memory = Unit {0}
 FailsAgain told (Key fault) = IsToldFault told fault
 FailsAgain told (Changed first now) = ⊥
 
--- what a refusal has, whatever the keys are: two numbers that differ
+-- what a failure has, whatever the keys are: two numbers that differ
 abbrev pub HasTwo : GatherFault → Type 0
 HasTwo Memory = Unit {0}
 HasTwo (Key fault) = Unit {0}

@@ -23,7 +23,7 @@ records_under keys k split = map (record_of k split) keys
 abbrev pub HaveSizes : List Record → List ℕ → ℕ → Type 0
 HaveSizes records sizes k = (j : ℕ) → j < k → length (records_of j records) ≡ slice_index sizes j
 
--- the count of the keys' faults rose exactly where the pass refused for one, and that of the store's where it did
+-- the count of the keys' faults rose exactly if the pass failed for one, and that of the store's exactly if the store did
 abbrev pub HasPutCause : {T : Type 0} → ℕ → ℕ → ℕ → ℕ → Result T PutFault → Type 0
 HasPutCause keys keys' store store' (Ok x) = (keys' ≡ keys) × (store' ≡ store)
 HasPutCause keys keys' store store' (Err (Key fault)) = HasKeyCause {T = Unit {0}} keys keys' (Err fault) × (store' ≡ store)
@@ -34,7 +34,7 @@ abbrev pub IsPutFault : PutFault → Type 0
 IsPutFault (Key fault) = Unit {0}
 IsPutFault (Store fault) = NotDamaged fault
 
--- a refusal of the keys, if their contents are known
+-- a failure of the keys, if they are known
 abbrev pub FailsPut : Told → PutFault → Type 0
 FailsPut told (Key fault) = IsToldFault told fault
 FailsPut told (Store fault) = Unit {0}
@@ -69,7 +69,7 @@ HasTwoNumbers store_fault.Memory = Unit {0}
 HasTwoNumbers store_fault.Failed = Unit {0}
 HasTwoNumbers (store_fault.Damaged offset expected found) = expected ≢ found
 
--- a bucket of which so many records were put gave another number of them; the last one given ends at this offset
+-- a bucket of which this many records were put returned another number of them; the last one read ends at this offset
 abbrev pub IsMiscount : ℕ → ℕ → ℕ → StoreFault → Type 0
 IsMiscount put given end store_fault.Memory = Unit {0}
 IsMiscount put given end store_fault.Failed = ⊥

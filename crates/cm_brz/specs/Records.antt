@@ -6,7 +6,7 @@ pub use Rattle.cm_spill.specs.Records.{Record}
 abbrev pub records_of : ℕ → List Record → List Record
 records_of bucket records = filter (λ r. r.bucket == bucket) records
 
--- the next of a bucket's records after so many of them, with its line and its key, or none exactly if none is left
+-- the next of a bucket's records after this many of them, with its line and its key, or none exactly if none is left
 abbrev pub GivesRecord : List Record → ℕ → ℕ → List ℕ → Option ℕ → ℕ → Type 0
 GivesRecord records bucket before key None now = drop before (records_of bucket records) ≡ []
 GivesRecord records bucket before key (Some line) now = drop before (records_of bucket records) ≡ record { bucket = bucket; line = line; key = key } ∷ drop now (records_of bucket records)

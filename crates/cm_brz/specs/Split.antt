@@ -33,7 +33,7 @@ pub record IsFirstOver (sizes : List ℕ) (bucket count : ℕ) : Type 0 where
   pub over : MAX_BUCKET < count
   pub lowest : (j : ℕ) → j < bucket → slice_index sizes j ≤ MAX_BUCKET
 
--- the lowest bucket under a seed that has more keys than one may have, with so many
+-- the lowest bucket under a seed that has more keys than one may have, with its number of keys
 pub record IsLowestOver (keys : List (ℕ × List ℕ)) (k split bucket count : ℕ) : Type 0 where
   pub within : bucket < k
   pub is : count ≡ size_of_bucket keys k split bucket

@@ -1,4 +1,4 @@
--- Why a store refuses.
+-- Why a store fails.
 use Rattle.std.specs.Prelude.{◌≡◌, ◌≢◌, ℕ, ◌≤◌, Result, Ok, Err}
 use Rattle.cm_brz.specs.declared.store.StoreFault.{StoreFault}
 use Rattle.cm_brz.specs.declared.store.StoreFault.TheVariants.{Memory, Failed, Damaged}
@@ -6,7 +6,7 @@ use Rattle.cm_outer.specs.Causes.{Rose}
 use Rattle.cm_spill.specs.declared.fault.SpillError.{SpillError}
 use Rattle.cm_spill.specs.declared.fault.SpillError.TheVariants as spill
 
--- The count never falls, and a call returns `Failed` exactly where it rose.
+-- The count never falls, and a call returns `Failed` exactly if it rose.
 abbrev pub HasStoreCause : {T : Type 0} → ℕ → ℕ → Result T StoreFault → Type 0
 HasStoreCause before now (Ok x) = now ≡ before
 HasStoreCause before now (Err Memory) = now ≡ before
@@ -19,13 +19,13 @@ NotDamaged Memory = Unit {0}
 NotDamaged Failed = Unit {0}
 NotDamaged (Damaged offset expected found) = ⊥
 
--- what a call that gives keys back may refuse: it takes no memory, and a damage has two numbers that differ
+-- how a call that reads keys back may fail: it takes no memory, and a damage has two numbers that differ
 abbrev pub IsReadFault : StoreFault → Type 0
 IsReadFault Memory = ⊥
 IsReadFault Failed = Unit {0}
 IsReadFault (Damaged offset expected found) = expected ≢ found
 
--- what a store over a spill refuses where its spill does
+-- how a store over a spill fails if its spill does
 abbrev pub IsFaultOf : SpillError → StoreFault → Type 0
 IsFaultOf spill.Memory fault = fault ≡ Memory
 IsFaultOf spill.Failed fault = fault ≡ Failed

@@ -18,8 +18,8 @@ struct Spot {
     until: usize,
 }
 
-/// The keys of one bucket with their lines, and a pass over them: each is at hand, and no call refuses. It is used again for
-/// bucket after bucket, and keeps its memory.
+/// The keys of one bucket with their lines, and a pass over them: each key is buffered, and no call fails. It is used again for bucket
+/// after bucket, and keeps its memory.
 #[derive(Drop)]
 pub(crate) struct BucketKeys {
     bytes: Vec<u8>,
@@ -51,7 +51,7 @@ impl BucketKeys {
         }
     }
 
-    /// Forgets the keys, and keeps their memory.
+    /// Removes the keys, and keeps their memory.
     pub(crate) fn clear(&mut self)
         ensures none { self.new.keys ≡ [] }
     {
@@ -60,7 +60,7 @@ impl BucketKeys {
         self.given = 0;
     }
 
-    /// Adds a key of a later line. Refuses, and changes nothing, where memory runs out.
+    /// Adds a key of a later line. Fails, and changes nothing, if memory runs out.
     pub(crate) fn push(&mut self, line: u32, key: &[u8]) -> Result<(), AllocError>
         requires few { length self.old.keys < MOST }
         requires rises { last_line self.old.keys < line }

@@ -32,7 +32,7 @@ use cm_witness::{Certificate, InBucket};
 use std::alloc::Global;
 use std::sync::ledger::Ledger;
 
-/// The damage of a store that gave another number of records of a bucket than were put.
+/// The fault of a store that returned another number of records of a bucket than were put.
 fn miscounted<B: Store>(store: &B, put: u32, found: u32) -> StoreFault
     ensures damaged { result ≡ store_fault.Damaged (B.end store.now) put found }
 {
@@ -43,7 +43,7 @@ fn miscounted<B: Store>(store: &B, put: u32, found: u32) -> StoreFault
     }
 }
 
-/// Reads the keys of a bucket from the store, where so many were put. The buffer is for its use.
+/// Reads the keys of a bucket from the store. `size` of them were put. The buffer is scratch space.
 fn read_bucket<B: Store>(
     store: &mut B,
     bucket: u32,
@@ -68,7 +68,7 @@ fn read_bucket<B: Store>(
     ensures undamaged { (records : List Record) → B.holds store.old records → length (records_of bucket records) ≡ size → IfErr result NotDamaged }
     ensures fault { IfErr result HasTwoNumbers }
 
-    // If the store may still be used, all is well with its records except their number.
+    // If the store is still usable, only the number of its records is wrong.
     ensures miscounted { IfErr result (λ e. B.usable store.new ≡ true → IsMiscount size (B.given store.new bucket) (B.end store.new) e) }
 {
     held.clear();
@@ -106,7 +106,7 @@ fn in_bucket(certificate: Certificate, place: InBucket) -> Certificate
     }
 }
 
-/// Builds the function of a bucket's keys, of which there is one at least. The buffer is for its use.
+/// Builds the function of a bucket's keys, of which there is one at least. The buffer is scratch space.
 fn build_bucket<L: Ledger>(
     alloc: Global,
     held: &mut BucketKeys,
@@ -141,7 +141,7 @@ fn build_bucket<L: Ledger>(
         Err(BuildFault::Cored(certificate)) => {
             Err(BrzFault::Cored(in_bucket(certificate, place)))
         }
-        // The keys are in memory: there is one, and each pass gives all of them.
+        // The keys are in memory: there is one at least, and each pass yields all of them.
         Err(_) => unreachable!(),
     }
 }
@@ -166,7 +166,7 @@ fn push_bucket(parts: &mut BrzParts, size: u32, seed: u32, cells: Crumbs) -> Res
     }
 }
 
-/// Builds the function of a bucket's keys and adds it. A bucket without keys has none. The buffer is for its use.
+/// Builds the function of a bucket's keys and adds it. A bucket without keys has none. The buffer is scratch space.
 fn add_bucket<L: Ledger>(
     alloc: Global,
     held: &mut BucketKeys,
@@ -198,7 +198,7 @@ fn add_bucket<L: Ledger>(
     Ok(())
 }
 
-/// Reads each bucket's keys from the store, and builds and adds its function, one bucket after another. The buffer is for its use.
+/// Reads each bucket's keys from the store, and builds and adds its function, one bucket after another. The buffer is scratch space.
 pub(crate) fn build_buckets<B: Store, L: Ledger>(
     alloc: Global,
     store: &mut B,

@@ -17,13 +17,14 @@ use cm_spill::Runs;
 use std::alloc::Global;
 use std::sync::ledger::Ledger;
 
-/// The function by BRZ of the keys of a pass: the first seed of the list by which no bucket has more than `MAX_BUCKET` keys splits them
-/// into buckets of `b` on average, from `MIN_WIDTH` to `MAX_WIDTH`, and each bucket takes the first seed of the list whose graph by BDZ
-/// has an empty 2-core. The ratio `c` is in millionths. The keys are passed once to be counted, and once for each seed that is tried
-/// for the split. Then they are passed once more: all of them are put into the spill, which is empty, through a buffer of so many
-/// bytes, from `MIN_BYTES` to `MAX_BYTES`, and are read from it bucket by bucket; or, if no seed splits them, the equal keys of the
-/// lowest overfull bucket are gathered. The function doesn't depend on the buffer. The spill is returned as the last call left it, and
-/// after a refusal the keys may be rewound and used again.
+/// The function by BRZ of the keys of a pass. The first seed of the list under which no bucket has more than `MAX_BUCKET` keys splits
+/// them into buckets of `b` on average, from `MIN_WIDTH` to `MAX_WIDTH`. Each bucket takes the first seed of the list whose graph by
+/// BDZ has an empty 2-core. The ratio `c` is in millionths.
+///
+/// The keys are passed once to be counted, and once for each seed that is tried for the split. Then they are passed once more: all of
+/// them are put into the spill, which is empty, through a buffer of `buffer` bytes, from `MIN_BYTES` to `MAX_BYTES`, and are read from
+/// it bucket by bucket; or, if no seed splits them, the equal keys of the lowest overfull bucket are gathered. The function doesn't
+/// depend on the buffer. The spill is returned as the last call left it, and after a failure the keys may be rewound and used again.
 pub fn brz<P: KeyPass, S: Spill, L: Ledger>(
     alloc: Global,
     keys: &mut P,

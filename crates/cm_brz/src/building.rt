@@ -26,7 +26,7 @@ use cm_scheme::Divisor;
 use std::alloc::Global;
 use std::sync::ledger::Ledger;
 
-/// Puts the next key into the store, and returns its bucket, or none at the end. The buffer is for its use.
+/// Puts the next key into the store, and returns its bucket, or none at the end. The buffer is scratch space.
 fn put_next<P: KeyPass, B: Store>(
     alloc: Global,
     keys: &mut P,
@@ -62,7 +62,7 @@ fn put_next<P: KeyPass, B: Store>(
     Ok(Some(bucket))
 }
 
-/// The first bucket for which another number of keys was put than was counted.
+/// The first bucket whose number of keys put differs from the number counted.
 fn find_other(sizes: &[u32], put: &[u32]) -> Option<usize>
     requires long { length put.now ≡ length sizes.now }
     ensures some { IfSome result (λ j. (j < length sizes.now) × (slice_index sizes.now j ≢ slice_index put.now j)) }
@@ -78,7 +78,7 @@ fn find_other(sizes: &[u32], put: &[u32]) -> Option<usize>
 }
 
 /// Puts all keys, which are to be `m`, into the store in one pass, each with its bucket and its line, and counts those of each bucket.
-/// The buffer is for its use.
+/// The buffer is scratch space.
 fn put_each<P: KeyPass, B: Store>(
     alloc: Global,
     keys: &mut P,
@@ -128,7 +128,7 @@ fn put_each<P: KeyPass, B: Store>(
 }
 
 /// Puts all keys into the store, each with its bucket and its line, in one pass, and compares: the keys are to be `m`, and each bucket
-/// is to have as many as were counted. The buffer is for its use.
+/// is to have as many as were counted. The buffer is scratch space.
 fn put_keys<P: KeyPass, B: Store>(
     alloc: Global,
     keys: &mut P,
@@ -167,7 +167,7 @@ fn put_keys<P: KeyPass, B: Store>(
     }
 }
 
-/// `put_keys`, and then the store is sealed.
+/// Like `put_keys`, and then seals the store.
 fn put_all<P: KeyPass, B: Store>(
     alloc: Global,
     keys: &mut P,
@@ -201,7 +201,7 @@ fn put_all<P: KeyPass, B: Store>(
     Ok(())
 }
 
-/// The refusal for an overfull bucket, with the equal keys in it. The keys are passed once more. The buffer is for its use.
+/// The fault of an overfull bucket, with its equal keys. The keys are passed once more. The buffer is scratch space.
 fn refuse_overfull<P: KeyPass>(
     alloc: Global,
     keys: &mut P,
@@ -250,7 +250,7 @@ struct Splitting {
     sizes: Vec<u32>,
 }
 
-/// The split of keys that were counted, into buckets of `b` keys on average. The buffer is for its use.
+/// The split of keys that were counted, into buckets of `b` keys on average. The buffer is scratch space.
 fn split_keys<P: KeyPass>(
     alloc: Global,
     keys: &mut P,
@@ -291,7 +291,7 @@ fn split_keys<P: KeyPass>(
     }
 }
 
-/// The function of `m` keys that were put into the store by their buckets. The buffer is for its use.
+/// The function of `m` keys that were put into the store by their buckets. The buffer is scratch space.
 fn build_function<B: Store, L: Ledger>(
     alloc: Global,
     store: &mut B,
@@ -340,7 +340,7 @@ fn build_function<B: Store, L: Ledger>(
     Ok(parts.finish())
 }
 
-/// `brz_over` of keys that were counted. The buffer is for its use.
+/// `brz_over` of keys that were counted. The buffer is scratch space.
 fn brz_counted<P: KeyPass, B: Store, L: Ledger>(
     alloc: Global,
     keys: &mut P,
@@ -392,8 +392,8 @@ fn brz_counted<P: KeyPass, B: Store, L: Ledger>(
     }
 }
 
-/// The function by BRZ of the keys of a pass: the first seed of the list by which no bucket has more than `MAX_BUCKET` keys splits them
-/// into buckets of `b` on average, and each bucket takes the first seed of the list whose graph by BDZ has an empty 2-core. The ratio
+/// The function by BRZ of the keys of a pass. The first seed of the list under which no bucket has more than `MAX_BUCKET` keys splits
+/// them into buckets of `b` on average. Each bucket takes the first seed of the list whose graph by BDZ has an empty 2-core. The ratio
 /// `c` is in millionths. The keys wait for their buckets in the store, which is new. They are passed once to be counted, once for each
 /// seed that is tried for the split, and once to be put into the store, or to gather the equal keys of an overfull bucket.
 pub(crate) fn brz_over<P: KeyPass, B: Store, L: Ledger>(

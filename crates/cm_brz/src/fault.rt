@@ -9,7 +9,7 @@ use cm_outer::KeyFault;
 use cm_witness::{Certificate, GatherFault, Pair};
 use std::alloc::AllocError;
 
-/// Why a build by BRZ was refused.
+/// Why a build by BRZ failed.
 #[derive(Drop)]
 pub enum BrzFault {
     /// Out of memory.
@@ -26,16 +26,16 @@ pub enum BrzFault {
     },
     /// In one bucket, the lowest, every seed of the list leaves a 2-core: this is that of the first seed.
     Cored(Certificate),
-    /// A pass over the keys refused.
+    /// A pass over the keys failed.
     Key(KeyFault),
-    /// A later pass gave another number of keys, in all or for one bucket: so many were counted first, and so many now.
+    /// A later pass had another number of keys, in all or for one bucket: `first` were counted first, and `now` later.
     Changed {
         first: u32,
         now: u32,
     },
     /// The spill failed.
     SpillFailed,
-    /// What the spill gave back is not what was put: an offset in bytes, and the expected and the found number.
+    /// What was read from the spill is not what was put: an offset in bytes, and the expected and the found number.
     SpillDamaged {
         offset: u64,
         expected: u64,
@@ -46,9 +46,9 @@ pub enum BrzFault {
 /// Why a key was not put into a store.
 #[derive(Clone, Copy, Debug, PartialEq, Eq)]
 pub(crate) enum PutFault {
-    /// The pass over the keys refused.
+    /// The pass over the keys failed.
     Key(KeyFault),
-    /// The store refused.
+    /// The store failed.
     Store(StoreFault),
 }
 

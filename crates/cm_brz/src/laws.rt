@@ -15,8 +15,8 @@ ghost use Rattle.cm_witness.specs.declared.certificate.Pair.{Pair};
 
 use cm_bdz::answers_apart;
 
-/// The function of keys gives no two of them the same number, and all numbers are below the number of keys. Its buckets have all of
-/// the keys.
+/// The function of keys returns different numbers for any two of them, and all numbers are below the number of keys. Its buckets have
+/// all of the keys.
 pub fn numbers_apart()
     ensures apart { (keys : List (ℕ × List ℕ)) (c b : ℕ) (seeds : List ℕ) (f : Brz) → 1 ≤ length keys → length keys ≤ 67108864 → IsRatio c → 1 ≤ b → IsBrzOf keys c b seeds f → AnswersApart keys (brz_answer f) (length keys) }
     ensures all { (keys : List (ℕ × List ℕ)) (c b : ℕ) (seeds : List ℕ) (f : Brz) → 1 ≤ length keys → 1 ≤ b → IsBrzOf keys c b seeds f → keys_in f.buckets ≡ length keys }
@@ -24,9 +24,9 @@ pub fn numbers_apart()
     answers_apart();
 }
 
-/// What a build gives or shows is what is computed from the keys alone: the function of the seed that splits them; the lowest bucket
+/// What a build returns or reports can be computed from the keys alone: the function of the seed that splits them; the lowest bucket
 /// for which no seed works, with its report; or, if no seed splits the keys, the lowest overfull bucket under the first seed, with its
-/// report. Then each seed leaves an overfull bucket. A bucket of keys shows that there are some.
+/// report. If no seed splits the keys, each leaves an overfull bucket. If there is a bucket, there are keys.
 pub fn verdicts()
     ensures function { (keys : List (ℕ × List ℕ)) (c b : ℕ) (seeds : List ℕ) (f : Brz) → IsBrzOf keys c b seeds f → f ≡ brz_under keys c b f.split seeds }
     ensures none { (keys : List (ℕ × List ℕ)) (c b : ℕ) (seeds : List ℕ) (f : Brz) → IsBrzOf keys c b seeds f → first_cored keys (bucket_count (length keys) b) c f.split seeds ≡ None }

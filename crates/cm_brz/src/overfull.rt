@@ -14,7 +14,7 @@ use cm_witness::{EqualKeys, GatherFault, Pair};
 use std::alloc::Global;
 
 /// Passes the next key, and notes it with its line if it is of this bucket. Returns whether it is, or none at the end. The buffer is
-/// for its use.
+/// scratch space.
 fn note_next<P: KeyPass>(
     alloc: Global,
     keys: &mut P,
@@ -44,7 +44,7 @@ fn note_next<P: KeyPass>(
 }
 
 /// The equal keys of an overfull bucket, as the first line that has the key and a later one, in the order of the later ones. The keys,
-/// which were counted, are passed once; of equal ones of the bucket one is kept. The buffer is for its use.
+/// which were counted, are passed once; of equal ones of the bucket one is kept. The buffer is scratch space.
 pub(crate) fn gather_equal<P: KeyPass>(
     alloc: Global,
     keys: &mut P,

@@ -32,8 +32,7 @@ fn write_head<O: Sink>(
 }
 
 /// Writes the report on an overfull bucket: the seed of the split, the bucket, from 0, and its number of keys, and then each pair of
-/// equal keys, each in a line of its own. Takes no memory. Fails exactly where the sink does, which has then taken a prefix of the
-/// text.
+/// equal keys, each in a line of its own. Takes no memory. Fails exactly if the sink does, which has then taken a prefix of the text.
 pub fn write_overfull<O: Sink>(
     seed: u32,
     bucket: u32,

@@ -58,7 +58,7 @@ fn read_bucket<P: KeyPass>(
     }
 }
 
-/// The bucket of the next key, or none at the end. A key at hand isn't copied. The buffer is for its use.
+/// The bucket of the next key, or none at the end. A buffered key isn't copied. The buffer is scratch space.
 #[inline(always)]
 fn next_bucket<P: KeyPass>(
     keys: &mut P,
@@ -106,7 +106,7 @@ fn find_overfull(sizes: &[u32]) -> Option<Overfull>
     None
 }
 
-/// Counts the keys of each bucket in one pass over all keys, which are to be `m`. The buffer is for its use.
+/// Counts the keys of each bucket in one pass over all keys, which are to be `m`. The buffer is scratch space.
 pub(crate) fn count_buckets<P: KeyPass>(
     keys: &mut P,
     key: &mut KeyBuf,
@@ -181,9 +181,9 @@ fn try_seed<P: KeyPass>(
     }
 }
 
-/// The first seed of the list by which no bucket has more keys than it may have, with so many buckets for the `m` keys; or, if there
-/// is none, the lowest bucket that has more under the first seed. The keys are passed once for each seed that is tried. Of a seed
-/// that was found the table has the number of keys of each bucket. The buffer is for its use.
+/// The first seed of the list under which no bucket has more keys than it may have, with this many buckets for the `m` keys; or, if
+/// there is none, the lowest bucket that has more under the first seed. The keys are passed once for each seed that is tried. If a seed
+/// is found, the table has the number of keys of each bucket. The buffer is scratch space.
 pub(crate) fn choose_split<P: KeyPass>(
     keys: &mut P,
     key: &mut KeyBuf,

@@ -6,14 +6,14 @@ ghost use Rattle.cm_brz.specs.Stores.{HasStoreCause, IsReadFault, NotDamaged};
 use cm_outer::{KeyBuf, MAX_KEY_LEN};
 use std::alloc::Global;
 
-/// Why a store refused.
+/// Why a store failed.
 #[derive(Clone, Copy, Debug, PartialEq, Eq)]
 pub(crate) enum StoreFault {
-    /// There was too little memory.
+    /// Out of memory.
     Memory,
     /// What keeps the keys failed.
     Failed,
-    /// What was given back is not what was put: at this offset in bytes a number is not the expected one.
+    /// What was read is not what was put: at this offset in bytes a number is not the expected one.
     Damaged {
         offset: u64,
         expected: u64,
@@ -21,7 +21,7 @@ pub(crate) enum StoreFault {
     },
 }
 
-/// Keys that are put by rising lines, and then given back bucket by bucket, those of a bucket by rising lines.
+/// Keys that are put by rising lines, and then read bucket by bucket, those of a bucket by rising lines.
 pub(crate) trait Store {
     /// These records were put, in this order, and the contents of what keeps them are known.
     ghost holds: { Self → List Record → Type 0 };
@@ -32,7 +32,7 @@ pub(crate) trait Store {
     /// How often what keeps them has failed.
     ghost faults: { Self → ℕ };
 
-    /// No call has refused.
+    /// No call has failed.
     ghost usable: { Self → Bool };
 
     /// All keys were put.
@@ -41,19 +41,19 @@ pub(crate) trait Store {
     /// The line of the key put last, and 0 before the first.
     ghost put_last: { Self → ℕ };
 
-    /// This bucket may be asked: the one that was asked last, and the one after it once it has no further key.
+    /// This bucket may be read: the one that was read last, and the one after it once it has no further key.
     ghost may_ask: { Self → ℕ → Type 0 };
 
-    /// How many keys of a bucket were given, where it is the one that was asked last or a later one.
+    /// How many keys of a bucket were read, if it is the one that was read last or a later one.
     ghost given: { Self → ℕ → ℕ };
 
     /// The line of the last of these keys, and 0 before the first.
     ghost given_last: { Self → ℕ → ℕ };
 
-    /// The offset after the record that was given last of the bucket asked last, and 0 before the first.
+    /// The offset after the record that was read last of the bucket read last, and 0 before the first.
     ghost end: { Self → ℕ };
 
-    /// Puts a key with its bucket and its line, which is above those put before. After a refusal nothing may be put or asked.
+    /// Puts a key with its bucket and its line, which is above those put before. After a failure nothing may be put or read.
     fn put(&mut self, alloc: Global, bucket: u32, line: u32, key: &[u8]) -> Result<(), StoreFault>
         requires usable { IsTrue (usable self.old) }
         requires open { sealed self.old ≡ false }
@@ -69,7 +69,7 @@ pub(crate) trait Store {
         ensures cause { HasStoreCause (faults self.old) (faults self.new) result }
         ensures fault { IfErr result NotDamaged };
 
-    /// Ends the keys. From then on buckets are asked, from 0 on. After a refusal none may be.
+    /// Ends the keys. From then on buckets are read, from 0 on. After a failure none may be.
     fn seal(&mut self, alloc: Global) -> Result<(), StoreFault>
         requires usable { IsTrue (usable self.old) }
         requires open { sealed self.old ≡ false }
@@ -84,8 +84,8 @@ pub(crate) trait Store {
         ensures cause { HasStoreCause (faults self.old) (faults self.new) result }
         ensures fault { IfErr result NotDamaged };
 
-    /// Puts the next key of a bucket into the buffer and returns its line, or returns None where the bucket has no further key.
-    /// Takes no memory, and finds no damage where the contents are known. After a refusal nothing may be asked.
+    /// Puts the next key of a bucket into the buffer and returns its line, or returns None if the bucket has no further key. Takes no
+    /// memory, and finds no damage if the contents are known. After a failure nothing may be read.
     fn next_of(&mut self, bucket: u32, key: &mut KeyBuf) -> Result<Option<u32>, StoreFault>
         requires usable { IsTrue (usable self.old) }
         requires sealed { sealed self.old ≡ true }
@@ -102,7 +102,7 @@ pub(crate) trait Store {
         ensures ended { IfOk result (λ line. IfNone line (given_last self.new bucket ≡ given_last self.old bucket)) }
         ensures later { OnOk result ((j : ℕ) → bucket < j → (given self.new j ≡ 0) × (given_last self.new j ≡ 0)) }
 
-        // The same bucket may be asked again, and the next one once there is no further key.
+        // The same bucket may be read again, and the next one once there is no further key.
         ensures again { OnOk result (may_ask self.new bucket) }
         ensures next { IfOk result (λ line. IfNone line (may_ask self.new (bucket + 1))) }
         ensures sealed { OnOk result (sealed self.new ≡ true) }
@@ -111,7 +111,7 @@ pub(crate) trait Store {
         ensures cause { HasStoreCause (faults self.old) (faults self.new) result }
         ensures fault { IfErr result IsReadFault };
 
-    /// The offset in bytes after the record that was given last of the bucket asked last, and 0 before the first.
+    /// The offset in bytes after the record that was read last of the bucket read last, and 0 before the first.
     fn read_end(&self) -> u64
         ensures end { result ≡ end self.now };
 }

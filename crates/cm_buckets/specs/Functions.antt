@@ -31,11 +31,11 @@ pub record Brz : Type 0 where
 abbrev pub bucket_count : ℕ → ℕ → ℕ
 bucket_count m b = (m + (b - 1)) / b
 
--- the bucket of a key, of k: the third word of its hash under the split's seed with all bits flipped, modulo k
+-- the bucket of a key, of k: the third of its hash values under the split's seed with all bits flipped, modulo k
 abbrev pub bucket_of : List ℕ → ℕ → ℕ → ℕ
 bucket_of key split k = slice_index (words key (bit_xor split 4294967295)) 2 % k
 
--- how many cells a bucket of so many keys has
+-- how many cells a bucket of `size` keys has
 abbrev pub bucket_cells : ℕ → ℕ → ℕ
 bucket_cells size ratio = if size == 0 then 0 else bdz_size size ratio
 
@@ -47,7 +47,7 @@ keys_in buckets = sum_by (λ b. b.size) buckets
 abbrev pub offset_of : List Bucket → ℕ → ℕ
 offset_of buckets j = keys_in (take j buckets)
 
--- what an index past the end would give
+-- the value of an index past the end
 abbrev pub no_bucket : Bucket
 no_bucket = record { size = 0; seed = 0; cells = [] }
 

@@ -10,7 +10,7 @@ pub record Kept : Type 0 where
   pub offset : ℕ
   pub bucket : Bucket
 
--- what an index past the end would give
+-- the value of an index past the end
 abbrev pub none_kept : Kept
 none_kept = record { offset = 0; bucket = no_bucket }
 

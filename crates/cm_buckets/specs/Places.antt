@@ -1,4 +1,4 @@
--- Where a function by BRZ looks for the number of a key.
+-- Where a function by BRZ looks up the number of a key.
 use Rattle.std.specs.Prelude.{ℕ, ◌++◌, List, [], ◌∷◌, length, slice_index_or, ◌==◌, if◌then◌else◌}
 use Rattle.cm_buckets.specs.Functions.{Brz, Bucket, bucket_of, no_bucket}
 use Rattle.cm_spec.specs.Bdz.{bdz_edge}

@@ -7,8 +7,8 @@ use Rattle.cm_spec.specs.Cells.{is_busy}
 abbrev pub with_bucket : Brz → Bucket → Brz
 with_bucket f bucket = record f { buckets = f.buckets ++ bucket ∷ [] }
 
--- a bucket that can't be the next one: its cells that are not 3 are not as many as its keys, or the buckets have more keys than
--- the function then, or, with the last of them, fewer
+-- a bucket that can't be the next one: the number of its cells that are not 3 differs from that of its keys, or the buckets then have
+-- more keys than the function, or, with the last of them, fewer
 abbrev pub Miscounts : Brz → Bucket → Type 0
 Miscounts f bucket =
     (count_by (is_busy 3) bucket.cells ≢ bucket.size)

@@ -1,4 +1,4 @@
-//! What functions by BRZ answer.
+//! What functions by BRZ return.
 ghost use Rattle.std.specs.Prelude.{ℕ, List, Option, length};
 ghost use Rattle.cm_buckets.specs.Functions.{brz_answer};
 ghost use Rattle.cm_buckets.specs.Places.{brz_place};

@@ -12,7 +12,7 @@ use cm_rank::Counted;
 use cm_scheme::{Divisor, Place};
 use std::marker::Model;
 
-/// A bucket and how many keys lie in the buckets before it, with all that an answer reads side by side.
+/// A bucket and how many keys lie in the buckets before it. All that an answer reads lies side by side.
 #[derive(Drop)]
 pub(crate) struct Held {
     cells: Crumbs,
@@ -53,7 +53,7 @@ fn third_of(size: u8, cells: &Crumbs) -> Divisor
 }
 
 impl Held {
-    /// A bucket of so many keys, after `offset` keys in the buckets before it. Unless it is empty, the number of its cells is three
+    /// A bucket of `size` keys, after `offset` keys in the buckets before it. Unless it is empty, the number of its cells is three
     /// times a number above 0.
     pub(crate) fn new(size: u8, seed: u32, offset: u32, cells: Crumbs) -> Held
         requires thirds { size ≢ 0 → IsThirds (length (⟦<Crumbs as Cells>⟧.cells cells)) }

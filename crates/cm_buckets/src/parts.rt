@@ -42,8 +42,8 @@ impl Model for BrzParts {
     ghost invariant = { λ p. AreKept (record { keys = p.m; ratio = p.c; width = p.b; split = p.split; buckets = buckets_of p.kept.items }) p.kept.items p.count p.held };
 }
 
-/// Makes room for one bucket more, of `count`: for as many more as there are, but never for more than are still to come, so that
-/// the last bucket leaves no room over.
+/// Makes room for one bucket more, of `count`: for as many more as there are, but at most for those still to come, so that no room is
+/// left over after the last bucket.
 fn make_room(kept: &mut Vec<Held>, count: u32) -> Result<(), AllocError>
     ensures kept { kept.new.items ≡ kept.old.items }
 {
@@ -91,8 +91,8 @@ impl BrzParts {
         }
     }
 
-    /// Whether this can't be the next bucket: its cells that are not 3 are other in number than its keys, the buckets have more keys
-    /// than the function then, or this is the last one and they have fewer.
+    /// Whether this can't be the next bucket: the number of its cells that are not 3 differs from its number of keys, the buckets then
+    /// have more keys than the function, or this is the last one and they have fewer.
     fn miscounts(&self, size: u8, cells: &Crumbs) -> bool
         ensures { IsTrue result ↔ Miscounts self.now (record { size = size; seed = 0; cells = ⟦<Crumbs as Cells>⟧.cells cells.now }) }
     {
@@ -101,8 +101,8 @@ impl BrzParts {
     }
 
     /// Adds the next bucket: its number of keys, the seed of their hash and the cells of their function by BDZ; seed 0 and no cells if
-    /// it has no key. `BadCount` comes exactly if the cells that are not idle are other in number than the keys, if the buckets have
-    /// more keys than the function then, or if this is the last bucket and they have fewer. A refusal changes nothing.
+    /// it has no key. Returns `BadCount` exactly if the number of cells that are not idle differs from that of the keys, if the buckets
+    /// then have more keys than the function, or if this is the last bucket and they have fewer. A failure changes nothing.
     pub fn push(&mut self, size: u8, seed: u32, cells: Crumbs) -> Result<(), PartsFault>
         requires room { length self.old.buckets < bucket_count self.old.keys self.old.width }
         requires cells { length (⟦<Crumbs as Cells>⟧.cells cells) ≡ bucket_cells size self.old.ratio }
@@ -205,7 +205,7 @@ impl BrzParts {
         requires all { length self.buckets ≡ bucket_count self.keys self.width }
         ensures whole { result ≡ self }
     {
-        // Its invariant says that it is one.
+        // The invariant says that it is a function.
         let _ = &self.kept;
         Brz::of(self)
     }

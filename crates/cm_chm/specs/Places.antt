@@ -1,4 +1,4 @@
--- Where a function looks for the number of a key.
+-- Where a function looks up the number of a key.
 use Rattle.std.specs.Prelude.{ℕ, ◌++◌, List, [], ◌∷◌}
 use Rattle.cm_spec.specs.Chm.{Chm, chm_edge, chm_size}
 use Rattle.cm_spec.specs.Lookup2.{words}

@@ -1,4 +1,4 @@
-//! What a CHM function answers.
+//! What a CHM function returns.
 ghost use Rattle.std.specs.Prelude.{ℕ, List, Option, Some};
 ghost use Rattle.cm_chm.specs.Places.{chm_place};
 ghost use Rattle.cm_spec.specs.Chm.{chm_answer};

@@ -36,8 +36,8 @@ impl Model for Chm {
 }
 
 impl Chm {
-    /// The function of what a build gave: from 1 to 16,777,216 keys, a ratio from 1,000,000 to 10,000,000 millionths, and as
-    /// many cells below the number of keys as the graph has vertices.
+    /// The function of a build's result: from 1 to 16,777,216 keys, a ratio from 1,000,000 to 10,000,000 millionths, and as many cells
+    /// below the number of keys as the graph has vertices.
     pub fn from_built(built: Built<Fields>) -> Chm
         requires keys { (1 ≤ built.m) × (built.m ≤ 16777216) }
         requires ratio { IsRatio built.c }

@@ -8,7 +8,7 @@ ghost use Rattle.cm_spec.specs.Rule.{IsCount, IsRatio};
 
 use cm_scheme::cells_solve;
 
-/// The function of keys under a seed by which peeling removes every edge answers each of the keys with its number.
+/// If peeling removes every edge of the keys under a seed, the function under this seed returns the number of each key.
 pub fn answers_numbers()
     ensures { (keys : List (ℕ × List ℕ)) (c seed : ℕ) → IsCount (length keys) → IsRatio c → rest_of (graph_of chm_rule keys c seed) ≡ [] → AnswersNumbers keys (chm_under keys c seed) }
 {

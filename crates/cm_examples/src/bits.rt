@@ -65,7 +65,7 @@ fn has_image<C: Cells + Drop>(
     Ok(())
 }
 
-/// Bytes are refused with a fault.
+/// Reading the bytes fails with this fault.
 fn has_fault<C: Cells + Drop>(
     rt: &impl Abort,
     alloc: Global,
@@ -156,7 +156,7 @@ fn bytes_of_cells(rt: HostRuntime) {
     expect_equal(&rt, &Plain::cell_byte(9, 3), &12);
 }
 
-/// Makes each cell the value, and looks at the image.
+/// Sets each cell to the value, and checks the image.
 fn has_filled_image<C: Cells + Drop>(
     rt: &impl Abort,
     alloc: Global,

@@ -8,7 +8,7 @@ use cm_words::{BuildJob, Job, TestJob, UsageFault, read_words};
 use std::alloc::{AllocError, Global};
 use std::test::Fail;
 
-/// The words of a line, which single blanks part.
+/// The arguments of a line, separated by single blanks.
 fn words_of(alloc: Global, line: &str) -> Result<Vec<String>, AllocError> {
     let mut words = Vec::new(alloc);
     for word in line.split(' ') {

@@ -29,7 +29,7 @@ fn next<P: KeyPass>(alloc: Global, keys: &mut P, key: &mut KeyBuf) -> Result<Str
     }
 }
 
-/// The line of the last key, and how the keys end. Lines that are whole in the buffer are skipped.
+/// The line of the last key, and how the keys end. Whole lines in the buffer are skipped.
 fn pass_all<P: KeyPass>(
     alloc: Global,
     keys: &mut P,
@@ -52,7 +52,7 @@ fn pass_all<P: KeyPass>(
     String::from_str(alloc, "unusable")
 }
 
-/// Whether a key is at hand. It is put into the buffer and passed.
+/// Whether a key is buffered. If so, it is copied and passed.
 fn pass<P: KeyPass>(keys: &mut P, key: &mut KeyBuf) -> bool {
     if !keys.usable() {
         return false;
@@ -67,7 +67,7 @@ fn pass<P: KeyPass>(keys: &mut P, key: &mut KeyBuf) -> bool {
     fits
 }
 
-/// The key at hand.
+/// The buffered key.
 fn at_hand<P: KeyPass>(
     alloc: Global,
     keys: &mut P,
@@ -80,7 +80,7 @@ fn at_hand<P: KeyPass>(
     }
 }
 
-/// How many keys are at hand, one after another.
+/// How many keys are buffered, one after another.
 fn count_at_hand<P: KeyPass>(
     alloc: Global,
     keys: &mut P,
@@ -106,7 +106,7 @@ fn rewind<P: KeyPass>(alloc: Global, keys: &mut P) -> Result<String, AllocError>
     }
 }
 
-/// What the calls show, one after another: n(ext), p(ass all), a(t hand), h: count those at hand, s(kip), r(ewind).
+/// What the calls show, one after another: n(ext), p(ass all), a: the buffered key, h: count the buffered keys, s(kip), r(ewind).
 fn shown<P: KeyPass>(alloc: Global, keys: &mut P, calls: &str) -> Result<String, AllocError> {
     let mut key = KeyBuf::new();
     let mut text = String::new(alloc);
@@ -153,7 +153,7 @@ fn lines_of_small_files(rt: HostRuntime) -> Result<(), Fail> {
         ("a\nb\nc\n", Some(2), "nnn", "1=a; 2=b; end; "),
         ("a\nb\nc\n", Some(9), "prn", "3 keys; start; 1=a; "),
         ("a\n", Some(0), "n", "end; "),
-        // Lines that are whole in the buffer are at hand, but for those past the first.
+        // If its whole line is in the buffer, a key is buffered, except past the first lines.
         (
             "a\nbc\n\nd",
             None,
@@ -161,7 +161,7 @@ fn lines_of_small_files(rt: HostRuntime) -> Result<(), Fail> {
             "none; 1=a; bc; ; none; 4=d; none; ",
         ),
         ("a\nb\nc\n", Some(2), "naan", "1=a; b; none; end; "),
-        // The same lines may be skipped, but not near the last line that is looked at.
+        // The same lines may be skipped, but not near the last line to read.
         (
             "a\nbc\n\nd",
             None,

@@ -4,7 +4,7 @@ use std::test::Fail;
 
 const TEXT: &[u8] = b"abcdefghijklmnopqrstuvwxyz";
 
-/// The words of the first 2, 3, .. and 24 letters of the text under the seed 7, by another program: a tail of each length,
+/// The hash values of the first 2, 3, .. and 24 letters of the text under the seed 7, by another program: a tail of each length,
 /// without a block and after one.
 const PREFIXES: [[u32; 3]; 23] = [
     [0x829a_81d6, 0x90c0_1304, 0xdf8c_c24b],

@@ -2,7 +2,7 @@ use crate::equal::{expect_equal, expect_text};
 use cm_algorithm::Algorithm;
 use std::test::Fail;
 
-/// The four words, each with its algorithm.
+/// The four names, each with its algorithm.
 const NAMES: [(&str, Algorithm); 4] = [
     ("chm", Algorithm::Chm),
     ("bdz", Algorithm::Bdz),

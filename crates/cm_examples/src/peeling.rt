@@ -87,8 +87,8 @@ fn add(edges: &mut Edges<2>, first: u32, second: u32) -> Result<bool, AllocError
     }
 }
 
-/// Whether these are the levels and pivots of all edges (0 for the pivot of an edge that is left), the removed edges in order,
-/// and what is left.
+/// Whether these are the levels and pivots of all edges (0 for the pivot of an edge that is left), the removed edges in order, and the
+/// residual graph.
 fn gives<const K: usize>(
     peeled: &Peeled<K>,
     m: u32,
@@ -158,8 +158,8 @@ fn peels_a_triple<I: Incidence<3> + Drop>(
     Ok(())
 }
 
-/// Seventy edges that share a vertex, more than a narrow word counts: with an end of their own each, they go in one round, and
-/// where they are all equal, they stay.
+/// Seventy edges that share a vertex, more than a narrow word counts. With an end of their own each, they go in one round; if they are
+/// all equal, they stay.
 fn peels_a_crown<I: Incidence<2> + Drop>(rt: &impl Abort, alloc: Global) -> Result<(), AllocError> {
     let mut spread = Edges::<2>::new(alloc, 71);
     let mut equal = Edges::<2>::new(alloc, 71);
@@ -214,7 +214,7 @@ fn is_path_peeled(peeled: &Peeled<2>, m: u32) -> bool
     true
 }
 
-/// A `peel` that looks at every edge in every round does not end here.
+/// A `peel` that reads every edge in every round does not end here.
 #[test]
 fn long_path(rt: HostRuntime) -> Result<(), Fail> {
     let mut edges = Edges::<2>::with_capacity(rt.alloc(), 1_000_001, 1_000_000)?;

@@ -44,7 +44,7 @@ fn table_of<C: Cells>(alloc: Global, values: &[u32], bound: u32) -> Result<C, Al
     Ok(cells)
 }
 
-/// Checks the ranks of a table of these cells, and that there are so many entries.
+/// Checks the ranks of a table of these cells, and the number of its entries.
 fn check<C: Counted + Drop>(
     rt: &impl Abort,
     alloc: Global,
@@ -113,7 +113,7 @@ fn long_table(rt: HostRuntime) -> Result<(), Fail> {
     Ok(())
 }
 
-/// A table of n cells of all values that a mask of the lowest bits leaves, in no order.
+/// A table of n cells of all values within a mask of the lowest bits, in no order.
 fn scattered<C: Cells>(alloc: Global, n: u32, bound: u32, mask: u32) -> Result<C, AllocError>
     requires room { n ≤ 3000 }
     requires fit { C.fits bound }
@@ -229,7 +229,7 @@ fn counts_by_cells(rt: HostRuntime) -> Result<(), Fail> {
     Ok(())
 }
 
-/// A table that counts how often its cells are looked at.
+/// A table that counts how often its cells are read.
 #[derive(Drop)]
 struct Watched<C: Cells + Drop> {
     table: C,
@@ -312,7 +312,7 @@ impl<C: Cells + Drop> Cells for Watched<C> {
 
 impl<C: Cells + Drop> Counted for Watched<C> {}
 
-/// A table of ranks looks at each cell once, and a rank at less than `2^b` cells.
+/// A table of ranks reads each cell once, and a rank reads less than `2^b` cells.
 fn looks_at_few(
     rt: &impl Abort,
     alloc: Global,

@@ -9,7 +9,7 @@ use cm_scheme::{Answers, Built, answer};
 use std::alloc::{AllocError, Global};
 use std::test::Fail;
 
-/// A function of m keys over nine cells, all of them 3 but for those of these vertices, which are 0.
+/// A function of m keys over nine cells, all of them 3 except those of these vertices, which are 0.
 fn function(alloc: Global, m: u32, zeros: &[u32]) -> Result<Result<Bdz, PartsFault>, AllocError>
     requires keys { (1 ≤ m) × (m ≤ 2) }
 {

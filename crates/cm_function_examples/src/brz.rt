@@ -1,4 +1,4 @@
-//! Functions by BRZ: builds through a spill in memory, dumps, and reports of refused builds.
+//! Functions by BRZ: builds through a spill in memory, dumps, and reports of failed builds.
 ghost use Rattle.std.specs.Prelude.{◌≡◌, ◌<◌, ◌≤◌, [], length};
 ghost use Rattle.cm_spill.specs.declared.runs.TheConstants.{MAX_BYTES, MIN_BYTES};
 
@@ -23,7 +23,7 @@ const BRZ_TWO: [u8; 32] = [
     0, 0, 0, 0, 2, 0, 0, 0, 0, 0xc3, 0xff, 3,
 ];
 
-/// What a byte less, more or another one makes of it: the length, the place, the byte and the fault.
+/// What a change of this dump causes: its length, the place of the changed byte, the byte and the fault.
 const CHANGES: [(usize, usize, u8, LoadFault); 14] = [
     (32, 9, 63, LoadFault::BadField { at: 9 }),
     (32, 9, 176, LoadFault::BadField { at: 9 }),
@@ -44,7 +44,7 @@ const CHANGES: [(usize, usize, u8, LoadFault); 14] = [
     (32, 15, 2, LoadFault::BadField { at: 12 }),
 ];
 
-// What a command line takes as the average size of a bucket is what a build by BRZ takes.
+// The command line and builds by BRZ have the same limits of the average size of a bucket.
 const _: () = prove!(cm_numbers::MIN_WIDTH == MIN_WIDTH as u32);
 
 const _: () = prove!(cm_numbers::MAX_WIDTH == MAX_WIDTH as u32);
@@ -63,7 +63,7 @@ const RECORDS_TWO: [u8; 21] = [
     0, 0, 0, 0, 1, 0, 0, 0, 0, 0, 0, 0, 0, 0, 2, 0, 0, 0, 1, 0, b'a',
 ];
 
-/// What a build makes, with the spill that it used.
+/// The result of a build, with the spill that it used.
 type Made = (Result<cm_brz::Brz, BrzFault>, MemSpill);
 
 /// Builds with the ratio 1.23, and with steps that nobody reads.

@@ -45,7 +45,7 @@ fn empty(alloc: Global, algorithm: Algorithm, seed: u32) -> Certificate
     }
 }
 
-/// Checks what a sink with so much room holds of a certificate: its text, or the prefix for which there is room.
+/// Checks what a sink with this much room holds of a certificate: its text, or the prefix for which there is room.
 fn check(
     rt: &impl Abort,
     alloc: Global,

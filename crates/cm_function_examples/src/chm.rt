@@ -10,7 +10,7 @@ use cm_scheme::{Answers, Built, answer};
 use std::alloc::{AllocError, Global};
 use std::test::Fail;
 
-/// The function of these parts, with n cells that are all 0 but for one that is 1.
+/// The function of these parts, with n cells that are all 0 except one that is 1.
 fn function(
     alloc: Global,
     m: u32,

@@ -45,7 +45,7 @@ const PH_TWO: [u8; 26] = [
     0, 0, 0, 0, 0,
 ];
 
-/// What a byte more or another one makes of `CHM_ONE`: rows of `check_changes`.
+/// What changes of `CHM_ONE` cause: rows of `check_changes`.
 const CHM_CHANGES: [(usize, usize, u8, LoadFault); 17] = [
     (25, 0, b'c', LoadFault::BadMagic),
     (25, 7, b'2', LoadFault::BadMagic),
@@ -122,7 +122,7 @@ pub(crate) fn source_of(alloc: Global, bytes: &[u8], fails: &[u64]) -> Result<Me
     Ok(MemSource::new(bytes.to_vec(alloc)?, fails.to_vec(alloc)?, Vec::new(alloc)))
 }
 
-/// Why these bytes give no function, or that they do.
+/// Why no function can be loaded from these bytes, or that one can.
 pub(crate) fn fault_of(
     alloc: Global,
     bytes: &[u8],
@@ -152,7 +152,7 @@ pub(crate) fn changed(
     Ok(all)
 }
 
-/// Whether the bytes are the dump of the function that they give.
+/// Whether the bytes are the dump of the function that is loaded from them.
 pub(crate) fn is_saved_again(alloc: Global, bytes: &[u8]) -> Result<bool, AllocError> {
     let mut source = source_of(alloc, bytes, &[])?;
     let Ok(function) = load(alloc, &mut source) else {
@@ -163,7 +163,7 @@ pub(crate) fn is_saved_again(alloc: Global, bytes: &[u8]) -> Result<bool, AllocE
     Ok(is_saved && out.bytes() == bytes && saved_len(&function) == bytes.len() as u64)
 }
 
-/// Compares the faults of a dump of which so many bytes are there, and one is changed: its length, the place, the byte and the
+/// Compares the faults of a dump that is cut or extended to this length, with one byte changed: the length, the place, the byte and the
 /// fault of each row.
 fn check_changes(
     rt: &impl Abort,
@@ -183,7 +183,7 @@ fn check_changes(
     Ok(())
 }
 
-/// What the answers of a function are below.
+/// The span of a function.
 fn span<A: Answers>(function: &A) -> u32 {
     function.span()
 }
@@ -272,7 +272,7 @@ fn images(rt: HostRuntime) -> Result<(), Fail> {
         // A bad cell comes before padding, wherever they stand, and before a byte that follows.
         (30, [(26, 0x1c), (28, 2)], LoadFault::BadCell { at: 26 }),
         (30, [(25, 0), (28, 2)], LoadFault::BadPadding { at: 28 }),
-        // An image that is cut off is not looked into.
+        // An image that is cut off is not checked.
         (
             28,
             [(25, 0x80), (26, 0x1f)],

@@ -115,7 +115,7 @@ fn edge(line: u32, first: u32, second: u32) -> CoreEdge {
     }
 }
 
-/// Gathers all of five edges but the second, and checks what is returned with no key at hand after another, and with some and all.
+/// Gathers all of five edges except the second, and checks the result with none, some and all of the next keys buffered.
 fn check(rt: &impl Abort, alloc: Global, edges: &Edges<2>, case: &Case) -> Result<(), AllocError> {
     let shown = [edge(1, 0, 1), edge(3, 1, 2), edge(4, 2, 0), edge(5, 0, 1)];
     for at_hand in [0, 1, 1000] {

@@ -18,7 +18,7 @@ use std::test::Fail;
 /// How many keys there are: each has 14 bytes, and its record in a spill 24.
 const KEYS: u32 = 100_000;
 
-/// So many seeds serve each bucket.
+/// These seeds suffice for each bucket.
 const SEEDS: [u32; 32] = [
     0, 1, 2, 3, 4, 5, 6, 7, 8, 9, 10, 11, 12, 13, 14, 15, 16, 17, 18, 19, 20, 21, 22, 23, 24, 25,
     26, 27, 28, 29, 30, 31,
@@ -27,7 +27,7 @@ const SEEDS: [u32; 32] = [
 /// How many bytes the spill has room for.
 const ROOM: usize = 4_194_304;
 
-/// What a build makes, with the spill that it used.
+/// The result of a build, with the spill that it used.
 type Made = (Result<cm_brz::Brz, BrzFault>, MemSpill);
 
 /// Builds over the keys with the usual ratio and size of buckets, and with steps that nobody reads.

@@ -3,7 +3,7 @@ ghost use Rattle.std.specs.Prelude.{◌≡◌, ◌<◌, ◌≤◌, None, length,
 
 use cm_outer::{KeyBuf, KeyFault, KeyPass, MAX_KEY_LEN, MAX_KEYS};
 
-/// The keys of a list, one a line, with a fault after them or none. After a key that `next` gave, some more are at hand.
+/// The keys of a list, one a line, with a fault after them or none. After a key that `next` returned, some more are buffered.
 #[derive(Drop)]
 pub struct Listed<'a> {
     keys: &'a [&'a [u8]],

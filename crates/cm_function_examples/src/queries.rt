@@ -7,7 +7,7 @@ use std::alloc::{AllocError, Global};
 use std::process::Abort;
 use std::test::Fail;
 
-/// Answers a key of fewer than four bytes with its length, and knows no other.
+/// Returns the length of a key of fewer than four bytes, and none for another key.
 struct Lengths {}
 
 impl Answers for Lengths {
@@ -36,7 +36,7 @@ impl Answers for Lengths {
     }
 }
 
-/// What a query is asked over memory with so much room, and what it has to answer and to write.
+/// The input of a query over memory with this much room, and what it has to return and to write.
 #[derive(Drop)]
 struct Case<'a> {
     keys: &'a [&'a [u8]],
@@ -69,7 +69,7 @@ impl<'a> Case<'a> {
     }
 }
 
-/// Checks a case with no key at hand after another, and with some and all.
+/// Checks a case with none, some and all of the next keys buffered.
 fn check(rt: &impl Abort, alloc: Global, case: &Case) -> Result<(), AllocError> {
     for at_hand in [0, 1, 2, 1000] {
         check_at_hand(rt, alloc, case, at_hand)?;

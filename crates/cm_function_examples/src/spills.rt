@@ -1,4 +1,4 @@
-//! Records put into a store of sorted runs and given back.
+//! Records put into a store of sorted runs and read from it.
 ghost use Rattle.std.specs.Prelude.{◌≡◌, ◌≤◌, [], IfOk, OnOk, None, true, false};
 ghost use Rattle.std.specs.Option.{ForSome};
 ghost use Rattle.cm_spill.specs.Stores.{IsNextBucket};
@@ -111,7 +111,7 @@ fn put_two<P: Spill>(runs: &mut Runs<P>) -> Result<(), SpillError>
     runs.seal()
 }
 
-/// What a store over a spill gives after two records were put, and the spill.
+/// What a store over a spill returns after two records were put, and the spill.
 fn give_two<P: Spill>(alloc: Global, text: &mut String, spill: P) -> P
     requires empty { ForSome (P.told spill) (λ known. known ≡ []) }
 {
@@ -143,7 +143,7 @@ fn two_records(rt: HostRuntime) -> Result<(), Fail> {
     Ok(())
 }
 
-/// What a store gives of the two records if a byte of the spill is read as another.
+/// What a store returns of the two records if a byte of the spill is read as another.
 fn give_damaged(alloc: Global, offset: u64, byte: u8) -> Result<String, AllocError> {
     let mut text = String::new(alloc);
     let spill = Damaged {
@@ -203,7 +203,7 @@ fn put_long<P: Spill>(runs: &mut Runs<P>) -> Result<(), SpillError>
     runs.seal()
 }
 
-/// What a store with a buffer of this many bytes gives of the long records, and then their lines in the order in which they stand in
+/// What a store with a buffer of this many bytes returns of the long records, and then their lines in the order in which they stand in
 /// the spill.
 fn give_long(alloc: Global, bytes: u32) -> Result<String, AllocError>
     requires bytes { (65545 ≤ bytes) × (bytes ≤ 1073741824) }
@@ -228,7 +228,7 @@ fn give_long(alloc: Global, bytes: u32) -> Result<String, AllocError>
     Ok(text)
 }
 
-/// With a small buffer each record is a run, and with a large one they are a run by bucket. Either gives the same records.
+/// With a small buffer each record is a run, and with a large one they are a run by bucket. Both return the same records.
 #[test]
 fn long_records(rt: HostRuntime) -> Result<(), Fail> {
     let alloc = rt.alloc();

@@ -118,7 +118,7 @@ module _ {chains : List Chain} {next : List ℕ} {slots : List (List (Option ℕ
       let b : 1 ≤ times (before_in q (chain_of next x.first (suc (x.degree - 1)))) (chain_of next x.first (suc (x.degree - 1))) = before_is_there q x.first (chain_of next (get_or next x.first 0) (x.degree - 1)) in
       subst (λ n. 1 ≤ times (before_in q (chain_of next x.first n)) (chain_of next x.first n)) e b
 
--- with a place taken out, where what is left of its chain is known
+-- with a place taken out, if what is left of its chain is known
 chained_less : (h : Half) (less more : List (List (Option ℕ))) (chains : List Chain) (next next' : List ℕ) (x : Chain) (first : ℕ)
     → AreNext less more h → AreChained chains next more → h.vertex < length chains → x ≡ get_or chains h.vertex x → length next' ≡ length next
     → ((p : ℕ) → times p (chain_of next' first (x.degree - 1)) + cond (eqb h.place p) 1 0 ≡ times p (chain_from next x))
@@ -136,7 +136,7 @@ chained_less h less more chains next next' x first n a within is same cut kept =
 pub degree_is_suc : {h : Half} {less more : List (List (Option ℕ))} {chains : List Chain} {next : List ℕ} (x : Chain) → AreNext less more h → AreChained chains next more → h.vertex < length chains → x ≡ get_or chains h.vertex x → x.degree ≡ suc (x.degree - 1)
 degree_is_suc {h} x n a within is = omega (arith, degree_is a h.vertex x within is, count_here n)
 
--- taken out where it is the first of its chain
+-- taken out if it is the first of its chain
 chained_less_first : (h : Half) (less more : List (List (Option ℕ))) (chains : List Chain) (next : List ℕ) (x : Chain)
     → AreNext less more h → AreChained chains next more → h.vertex < length chains → x ≡ get_or chains h.vertex x → x.first ≡ h.place
     → AreChained (set chains h.vertex (record { degree = x.degree - 1; first = get_or next h.place 0 })) next less
@@ -152,7 +152,7 @@ chained_less_first h less more chains next x n a within is here =
     old : (p : ℕ) → times p (chain_from next x) ≡ cond (eqb q p) 1 0 + times p (chain_of next (get_or next q 0) (x.degree - 1))
     old p = ap (times p) chain ∙ times-cons p q (chain_of next (get_or next q 0) (x.degree - 1))
 
--- taken out where another is before it
+-- taken out if another is before it
 chained_less_later : (h : Half) (less more : List (List (Option ℕ))) (chains : List Chain) (next : List ℕ) (x : Chain)
     → AreNext less more h → AreChained chains next more → h.vertex < length chains → x ≡ get_or chains h.vertex x → x.first ≢ h.place
     → AreChained (set chains h.vertex (record { degree = x.degree - 1; first = x.first })) (set next (before_in h.place (chain_from next x)) (get_or next h.place 0)) less
@@ -238,7 +238,7 @@ lone_first l chains next slots v x is a h read free =
     let p = place_one_chained v chains next slots x a within read one in
     (p.0 ∙ ap (λ l. place_of l v) is, p.1 ∙ ap (λ l. sole_of l v) is)
 
--- where nothing is linked yet
+-- if nothing is linked yet
 pub chained_none : (n m : ℕ) (chains : List Chain) (next : List ℕ) → chains ≡ replicate n (record { degree = 0; first = 0 }) → length next ≡ 4 * m → m ≤ 67108864 → n < 4294967296 → AreChained chains next (replicate m [])
 chained_none n m chains next are long few fits = record {
   few = rw length-replicate few;

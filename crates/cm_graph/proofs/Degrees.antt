@@ -22,7 +22,7 @@ one_le true b h = let one : cond {A = ℕ} b 1 0 ≡ 1 = ap one_if (h refl) in o
 one_le false true h = omega arith
 one_le false false h = omega arith
 
--- where each element of a list that passes has one at its place in the other that passes
+-- if each element of a list that passes has one at its place in the other that passes
 count_le : {X : Type 0} (f : X → Bool) (xs ys : List X) (d : X) → length xs ≤ length ys → ((i : ℕ) → i < length xs → f (get_or xs i d) ≡ true → f (get_or ys i d) ≡ true) → count_by f xs ≤ count_by f ys
 count_le f [] ys d h pass = omega arith
 count_le f (x ∷ xs) [] d h pass = absurd (omega (arith, h))

@@ -1,4 +1,4 @@
--- What is listed of one vertex more: its place is written in any case, and counted where its half-edge is alone.
+-- What is listed of one vertex more: its place is written in any case, and counted if its half-edge is alone.
 use Rattle.std.proofs.Common.{◌≡◌, ◌+◌, ◌<◌, ℕ, zero, suc, Bool, true, false, cond, eqb, List, [], ◌∷◌, ◌++◌, length, set, take, map, filter, sym, refl, ap, ◌∙◌, arith}
 use Rattle.std.proofs.lemmas.List.{take_more_set, take-set, map-append, append-nil}
 use Rattle.std.proofs.lemmas.List.Elements.{filter-append}

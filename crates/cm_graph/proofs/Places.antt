@@ -66,7 +66,7 @@ place_within p v slots h = go (cases_lt (p / 4) (length slots)) where
   go (inl within) = (within, omega (arith, within, place_is p))
   go (inr past) = absurd (false≢true (sym (ap (λ slot. lies_in v (get_or slot (p % 4) None)) (get_or_past slots (p / 4) [] past)) ∙ h))
 
--- where one element passes, it is the one found
+-- if one element passes, it is the one found
 pub count_at : {X : Type 0} (test : X → Bool) (xs : List X) (i : ℕ) (d : X) → i < length xs → test (get_or xs i d) ≡ true → 1 ≤ count_by test xs
 count_at test [] i d h pass = absurd (omega arith)
 count_at test (x ∷ xs) zero d h pass = omega (arith, sum_by-cons (λ y. cond (test y) 1 0) x xs, ap (λ (b : Bool). cond {A = ℕ} b 1 0) pass)

@@ -33,7 +33,7 @@ touched_at v (x ∷ xs) h = go (cases_Bool (lies_in v x)) (touched_at v xs) wher
   go (inl here) ih = ap (λ b. get_or (x ∷ xs) (cond (not b) (1 + position_or_len (lies_in v) xs) 0) None) here ∙ lies_is v x here
   go (inr later) ih = ap (λ b. get_or (x ∷ xs) (cond (not b) (1 + position_or_len (lies_in v) xs) 0) None) later ∙ (ap (λ n. get_or (x ∷ xs) n None) (let e : 1 + position_or_len (lies_in v) xs ≡ suc (position_or_len (lies_in v) xs) = omega arith in e) ∙ ih (ap (λ b. b || slot_touches v xs) (sym later) ∙ h))
 
--- where the one slot has each position of v that the other has, and the other way round, both touch v or none does
+-- if the one slot has each position of v that the other has, and the other way round, both touch v or none does
 pub same_touch : (v : ℕ) (a b : List (Option ℕ)) → ((i : ℕ) → get_or a i None ≡ Some v → get_or b i None ≡ Some v) → ((i : ℕ) → get_or b i None ≡ Some v → get_or a i None ≡ Some v) → slot_touches v a ≡ slot_touches v b
 same_touch v a b to from = go (cases_Bool (slot_touches v a)) (cases_Bool (slot_touches v b)) where
   go : (slot_touches v a ≡ true) ⊎ (slot_touches v a ≡ false) → (slot_touches v b ≡ true) ⊎ (slot_touches v b ≡ false) → slot_touches v a ≡ slot_touches v b
@@ -144,7 +144,7 @@ module _ {less more : List (List (Option ℕ))} {h : Half} (n : AreNext less mor
   pub count_other : (v : ℕ) → v ≢ h.vertex → count_by (slot_touches v) more ≡ count_by (slot_touches v) less
   count_other v ne = omega (arith, counts n v, ap (λ (b : Bool). cond {A = ℕ} b 1 0) (touches_other n v ne))
 
--- where nothing is linked
+-- if nothing is linked
 pub bare_half : (m e i v : ℕ) → half_at (replicate m []) e i ≡ Some v → ⊥
 bare_half m e i v is = go (cases_lt e m) where
   go : (e < m) ⊎ (m ≤ e) → ⊥

@@ -177,7 +177,7 @@ place_one vertices slots u x k within is one =
     let all : x.places ≡ at_place u 0 slots = word_places vertices slots u x k within is ∙ o.0 in
     (all, omega (arith, all, few))
 
--- where nothing is linked yet
+-- if nothing is linked yet
 pub kept_none : (n m : ℕ) (vertices : List Vertex) → vertices ≡ replicate n (record { degree = 0; places = 0 }) → m ≤ 67108864 → n < 4294967296 → AreKept vertices (replicate m [])
 kept_none n m vertices are few fits = record {
   few = rw length-replicate few;

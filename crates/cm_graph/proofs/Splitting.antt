@@ -118,7 +118,7 @@ module _ (buckets : Buckets) (b : ℕ) (v : Vec Half Global) (within : b < lengt
   waiting_changed : (q : ℕ) → times_waiting q (set buckets b v) + times_in q (waiting_in buckets b) ≡ times_waiting q buckets + times_in q v.items
   waiting_changed q = ap (λ (xs : List (List Half)). sum_by (times_in q) xs + times_in q (waiting_in buckets b)) (map-set items buckets b v) ∙ sum_by-set (times_in q) (map items buckets) b v.items [] inside
 
--- how many wait, with one fewer and with one more in a bucket, and where none does
+-- how many wait, with one fewer and with one more in a bucket, and if none does
 module _ (buckets : Buckets) (b : ℕ) (v : Vec Half Global) (h : Half) (within : b < length buckets) where
   count_changed : count_waiting (set buckets b v) + length (waiting_in buckets b) ≡ count_waiting buckets + length v.items
   count_changed = ap (λ (xs : List (List Half)). sum_by length xs + length (waiting_in buckets b)) (map-set items buckets b v) ∙ sum_by-set length (map items buckets) b v.items [] (inside buckets b v within)
@@ -259,7 +259,7 @@ module _ {k n : ℕ} {edges : List (List ℕ)} {l : Links} {buckets : Buckets} (
         let none : cond {A = ℕ} (eqb h.place q) 1 0 ≡ 0 = ap (λ x. cond {A = ℕ} x 1 0) (ne_eqb h.place q other) in
         omega (arith, pushed_more q, s.once q, none)
 
--- where nothing is linked and nothing waits
+-- if nothing is linked and nothing waits
 module _ (k n : ℕ) (edges : List (List ℕ)) (buckets : Buckets) (none : (b : ℕ) → waiting_in buckets b ≡ []) where
   bare_times : (q : ℕ) → times_of q (replicate (length edges) []) buckets ≡ 0
   bare_times q = omega (arith, none_in q (map items buckets) none, zero_of (half_at (replicate (length edges) []) (q / 4) (q % 4)) (λ v is. bare_half (length edges) (q / 4) (q % 4) v is))
@@ -285,7 +285,7 @@ module _ (k n : ℕ) (edges : List (List ℕ)) (buckets : Buckets) (none : (b : 
     short e (inl below) = subst (λ (slot : List (Option ℕ)). length slot ≤ k) (sym (get_or-replicate (length edges) e [] [] below)) (omega arith)
     short e (inr past) = subst (λ (slot : List (Option ℕ)). length slot ≤ k) (sym (get_or_past slots e [] (omega (arith, past, length-replicate (length edges) (let z : List (Option ℕ) = [] in z))))) (omega arith)
 
--- where all are added, and nothing waits
+-- if all are added, and nothing waits
 module _ {k n : ℕ} {edges : List (List ℕ)} {l : Links} {buckets : Buckets} (s : AreSplit k n edges l buckets) (f : AreFirst k (4 * length edges) l.slots buckets) (none : (b : ℕ) → waiting_in buckets b ≡ []) where
   half_there : (e j : ℕ) → e < length edges → j < k → half_at l.slots e j ≡ Some (get_or (ends_at edges e) j 0)
   half_there e j below position =

@@ -1,4 +1,4 @@
--- What is seen of an incidence with words of one width or the other, and which edges narrow words suffice for.
+-- Incidences with words of one width or the other as contracts see them, and which edges narrow words suffice for.
 use Rattle.std.specs.Prelude.{ℕ, ◌≤◌, Bool, true, false, List, length}
 use Rattle.cm_graph.specs.Graph.{Links, AreDegreesWithin, all_linked}
 use Rattle.cm_graph.specs.declared.xored.Table.{Table}

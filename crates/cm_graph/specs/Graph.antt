@@ -1,4 +1,4 @@
--- What is seen of a list of edges, and of the linked ones among them.
+-- A list of edges, and the linked ones among them, as contracts see them.
 use Rattle.std.specs.Prelude.{◌≡◌, ◌≢◌, ℕ, ◌+◌, ◌*◌, ◌/◌, ◌%◌, ◌<◌, ◌≤◌, Bool, false, ◌==◌, List, [], ◌∷◌, Option, None, Some, All, AllPairs, count_by, filter, map, slice_get, slice_index_or, slice_set}
 use Rattle.std.specs.List.{list_any, position_or_len}
 use Rattle.cm_spec.specs.Lists.{numbers_from}
@@ -16,8 +16,8 @@ IsWidth k = (2 ≤ k) × (k ≤ 3)
 
 -- A half-edge is an edge at one of its positions. Its place is 4 e + j: position j of the edge of number e.
 --
--- how many vertices there are, and for each edge number its half-edges: none where the edge is not linked, or else for each
--- position the end there, as long as that half-edge is not removed
+-- how many vertices there are, and for each edge number its half-edges: none if the edge is not linked, or else for each position the
+-- end there, as long as that half-edge is not removed
 pub record Links : Type 0 where
   pub vertices : ℕ
   pub slots : List (List (Option ℕ))
@@ -67,11 +67,11 @@ unlinked l e = record { vertices = l.vertices; slots = slice_set l.slots e [] }
 abbrev pub all_linked : ℕ → List (List ℕ) → Links
 all_linked n edges = record { vertices = n; slots = map halves_of edges }
 
--- the first linked edge that touches v: the one, where v has degree one
+-- the first linked edge that touches v: the only one if v has degree one
 abbrev pub sole_of : Links → ℕ → ℕ
 sole_of l v = position_or_len (slot_touches v) l.slots
 
--- the place of the half-edge in v, where v has degree one
+-- the place of the half-edge in v, if v has degree one
 abbrev pub place_of : Links → ℕ → ℕ
 place_of l v = 4 * sole_of l v + position_or_len (lies_in v) (slot_of l (sole_of l v))
 

@@ -10,10 +10,10 @@ use crate::steps::Steps;
 use std::alloc::{AllocError, Global};
 use std::sync::ledger::Ledger;
 
-/// How many vertices are in a block. Their words lie in the second cache together.
+/// How many vertices a block has. Their words fit in the L2 cache together.
 const BLOCK: u32 = 65_536;
 
-/// The most vertices whose half-edges are put into the words at once: below that, blocks gain nothing.
+/// Up to this many vertices, half-edges are put into the words directly: blocks gain nothing there.
 const MOST_DIRECT: u32 = 2_097_152;
 
 /// The least room of a bucket: with less, a bucket is emptied too often for its block to stay in the cache.
@@ -35,7 +35,7 @@ pub(crate) fn new_buckets(
     Ok(buckets)
 }
 
-/// Puts the half-edges of a bucket into the words. If there is no room for one of them, it returns false.
+/// Puts the half-edges of a bucket into the words. Returns false if there is no room for one of them.
 fn empty_bucket<const K: usize, S: Halves, L: Ledger>(
     store: &mut S,
     buckets: &mut Vec<Vec<Half>>,
@@ -68,7 +68,7 @@ fn empty_bucket<const K: usize, S: Halves, L: Ledger>(
     true
 }
 
-/// Adds a half-edge to the bucket of its vertex, which is emptied if it is full then. If there is no room in the words, it returns false.
+/// Adds a half-edge to the bucket of its vertex, which is emptied if it is full then. Returns false if there is no room in the words.
 fn add<const K: usize, S: Halves, L: Ledger>(
     store: &mut S,
     buckets: &mut Vec<Vec<Half>>,
@@ -94,7 +94,7 @@ fn add<const K: usize, S: Halves, L: Ledger>(
     Ok(empty_bucket(store, buckets, b, edges, steps))
 }
 
-/// Adds the half-edges of the edge of number `e`. If there is no room for one of them, it returns false.
+/// Adds the half-edges of the edge of number `e`. Returns false if there is no room for one of them.
 fn add_edge<const K: usize, S: Halves, L: Ledger>(
     store: &mut S,
     buckets: &mut Vec<Vec<Half>>,
@@ -126,7 +126,7 @@ fn add_edge<const K: usize, S: Halves, L: Ledger>(
     Ok(true)
 }
 
-/// Adds all half-edges to the buckets, and empties each that is full. If there is no room for one of them, it returns false.
+/// Adds all half-edges to the buckets, and empties each that is full. Returns false if there is no room for one of them.
 fn add_all<const K: usize, S: Halves, L: Ledger>(
     store: &mut S,
     buckets: &mut Vec<Vec<Half>>,
@@ -149,7 +149,7 @@ fn add_all<const K: usize, S: Halves, L: Ledger>(
     Ok(true)
 }
 
-/// Empties all buckets, with which all edges are linked. If there is no room for one of their half-edges, it returns false.
+/// Empties all buckets; then all edges are linked. Returns false if there is no room for one of their half-edges.
 fn empty_all<const K: usize, S: Halves, L: Ledger>(
     store: &mut S,
     buckets: &mut Vec<Vec<Half>>,
@@ -170,8 +170,8 @@ fn empty_all<const K: usize, S: Halves, L: Ledger>(
     true
 }
 
-/// Links all edges by blocks, where none is linked, with room for `room` half-edges in each bucket. If there is no room in the words
-/// for one of their half-edges, it returns false.
+/// Links all edges by blocks, with room for `room` half-edges in each bucket. No edge is linked before. Returns false if there is no
+/// room in the words for one of their half-edges.
 pub(crate) fn link_blocks<const K: usize, S: Halves, L: Ledger>(
     alloc: Global,
     store: &mut S,
@@ -193,8 +193,8 @@ pub(crate) fn link_blocks<const K: usize, S: Halves, L: Ledger>(
     Ok(empty_all(store, &mut buckets, edges, steps))
 }
 
-/// Links all edges, where none is linked: by blocks, if there are many vertices and room for enough half-edges of each block. If there
-/// is no room in the words for one of their half-edges, it returns false.
+/// Links all edges: by blocks, if there are many vertices and room for enough half-edges of each block. No edge is linked before.
+/// Returns false if there is no room in the words for one of their half-edges.
 pub(crate) fn link_all<const K: usize, S: Halves, L: Ledger>(
     alloc: Global,
     store: &mut S,

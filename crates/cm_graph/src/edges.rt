@@ -6,8 +6,8 @@ ghost use Rattle.cm_graph.specs.Graph.{Graph, IsWidth};
 use std::alloc::{AllocError, Global};
 use std::marker::Model;
 
-/// A list of edges with two or three ends each. Clauses see the number of vertices, the ends of each edge in order, and how
-/// many edges have room in any case.
+/// A list of edges with two or three ends each. Clauses see the number of vertices, the ends of each edge in order, and for how many
+/// edges there is room.
 #[derive(Drop)]
 pub struct Edges<const K: usize> {
     vertices: u32,
@@ -30,7 +30,7 @@ impl<const K: usize> Model for Edges<K> {
 /// What lends a list of edges. `Incidence::from_edges` asks for one by this bound, since no impl at a type that has `K` itself is proved
 /// to meet a method whose arguments name `K` before `Self`.
 pub trait EdgeList<const K: usize> {
-    /// What is seen of the list.
+    /// The list as contracts see it.
     ghost graph: { Self → Graph };
 
     /// The list.
@@ -62,7 +62,7 @@ impl<const K: usize> Edges<K> {
         }
     }
 
-    /// No edge yet, over `n` vertices, and room for `room` edges: their memory is taken here, so that none of them is refused.
+    /// No edge yet, over `n` vertices, and room for `room` edges. Their memory is taken here, so `push` doesn't fail within this room.
     pub fn with_capacity(alloc: Global, n: u32, room: u32) -> Result<Self, AllocError>
         requires width { IsWidth K }
         requires few { n ≤ 671088645 }
@@ -78,7 +78,7 @@ impl<const K: usize> Edges<K> {
         })
     }
 
-    /// One more edge. Where memory is wanting, nothing changes; it isn't wanting while there is room.
+    /// Adds an edge. If memory runs out, nothing changes. It doesn't run out while there is room.
     pub fn push(&mut self, ends: [u32; K]) -> Result<(), AllocError>
         requires room { length self.old.edges < 67108864 }
         requires edge { IsEdge self.old.vertices ends }
@@ -90,7 +90,7 @@ impl<const K: usize> Edges<K> {
         Ok(())
     }
 
-    /// One more edge, for which there is room.
+    /// Adds an edge, for which there is room.
     pub fn push_reserved(&mut self, ends: [u32; K])
         requires room { length self.old.edges < self.old.room }
         requires edge { IsEdge self.old.vertices ends }

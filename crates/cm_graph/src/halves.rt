@@ -24,8 +24,8 @@ pub(crate) trait Halves: Sized {
         ensures few { length result.each ≤ 67108864 }
         ensures vertices { (kept self.now).vertices < 4294967296 };
 
-    /// Adds a half-edge, with which the slots are `more`. If its vertex has the greatest degree already, it returns false, and nothing
-    /// changes.
+    /// Adds a half-edge, with which the slots are `more`. Returns false, and changes nothing, if its vertex has the greatest degree
+    /// already.
     fn put(&mut self, half: Half, more: Slots) -> bool
         requires vertex { half.vertex < (kept self.old).vertices }
         requires next { AreNext (kept self.old).slots more.each half }
@@ -45,14 +45,14 @@ pub(crate) trait Halves: Sized {
         requires { v < (kept self.now).vertices }
         ensures { result ≡ degree_of (kept self.now) v };
 
-    /// The place of the one half-edge in the vertex `v`. Where there isn't one, but none or more, it is any number.
+    /// The place of the one half-edge in the vertex `v`. If there isn't exactly one, it is any number.
     fn place_at(&self, v: u32) -> u32
         requires { v < (kept self.now).vertices }
         ensures place { is_free (kept self.now) v ≡ true → result ≡ place_of (kept self.now) v }
         ensures edge { is_free (kept self.now) v ≡ true → result / 4 ≡ sole_of (kept self.now) v };
 }
 
-/// Links the edge of number `e`. If there is no room for one of its half-edges, it returns false.
+/// Links the edge of number `e`. Returns false if there is no room for one of its half-edges.
 pub(crate) fn link_edge<const K: usize, S: Halves, L: Ledger>(
     store: &mut S,
     e: u32,
@@ -103,7 +103,7 @@ pub(crate) fn unlink_edge<const K: usize, S: Halves, L: Ledger>(
     }
 }
 
-/// Links all edges, where none is linked. If there is no room for one of their half-edges, it returns false.
+/// Links all edges. No edge is linked before. Returns false if there is no room for one of their half-edges.
 pub(crate) fn link_each<const K: usize, S: Halves, L: Ledger>(
     store: &mut S,
     edges: &Edges<K>,

@@ -16,7 +16,7 @@ pub struct Half {
     pub place: u32,
 }
 
-/// Which edges are linked, with their ends. Each look at one vertex ticks.
+/// Which edges are linked, with their ends. Each access to a vertex is a step.
 pub trait Incidence<const K: usize>: Sized {
     /// The number of vertices, and the half-edges of each linked edge by its number, however they are kept.
     ghost links: { Self → Links };
@@ -24,7 +24,7 @@ pub trait Incidence<const K: usize>: Sized {
     /// Whether further edges can be linked.
     ghost takes: { Self → Bool };
 
-    /// No edge linked, over `vertices` vertices, with edge numbers below `edges`. Refused only for want of memory.
+    /// No edge linked, over `vertices` vertices, with edge numbers below `edges`. Fails only if memory runs out.
     fn empty(alloc: Global, vertices: u32, edges: u32) -> Result<Self, AllocError>
         requires width { IsWidth K }
         requires vertices { vertices ≤ 671088645 }
@@ -32,8 +32,8 @@ pub trait Incidence<const K: usize>: Sized {
         ensures links { IfOk result (λ made. links made ≡ record { vertices = vertices; slots = replicate edges [] }) }
         ensures takes { IfOk result (λ made. takes made ≡ true) };
 
-    /// All of these edges linked, and no room promised for further ones. Refused only for want of memory. It looks at each end at most
-    /// twice.
+    /// All of these edges linked. No room for further ones is promised. Fails only if memory runs out. Accesses vertices at most twice
+    /// for each end.
     fn from_edges<E: EdgeList<K>, L: Ledger>(
         alloc: Global,
         edges: &E,
@@ -59,8 +59,8 @@ pub trait Incidence<const K: usize>: Sized {
         ensures takes { takes self.new ≡ takes self.old }
         ensures steps { steps.new ≡ steps.old + K };
 
-    /// Removes some half-edges, each listed once. Then it lists, for each of their vertices in turn that is left with one half-edge,
-    /// the place of that one, and says how many it listed.
+    /// Removes some half-edges, each listed once. Then, for each of their vertices in turn that is left with one half-edge, it lists
+    /// the place of that one. Returns how many it listed.
     fn remove<L: Ledger>(
         &mut self,
         halves: &[Half],
@@ -76,8 +76,8 @@ pub trait Incidence<const K: usize>: Sized {
         ensures places { take result places.new ≡ places_of (links self.new) halves.now }
         ensures steps { steps.new ≤ steps.old + 3 * length halves.now };
 
-    /// Looks at the vertices from `first` on, as many as `places` has room for, and lists the places of the half-edges that are alone in
-    /// one of them. It says how many it listed.
+    /// Reads the vertices from `first` on, as many as `places` has room for, and lists the places of the half-edges that are alone in
+    /// one of them. Returns how many it listed.
     fn list_alone<L: Ledger>(&self, first: u32, places: &mut [u32], steps: &mut Steps<L>) -> usize
         requires vertices { first + length places.old ≤ (links self.now).vertices }
         ensures few { result ≤ length places.old }

@@ -40,7 +40,7 @@ impl Model for Chains {
     ghost invariant = { λ x. AreChained x.chains.items x.next.items x.slots.each };
 }
 
-/// The place before this one in a chain that has it, but not first.
+/// The place before this one in a chain. The chain has it, but not first.
 fn before(next: &[u32], chain: Chain, place: u32) -> u32
     requires some { 0 < chain.degree }
     requires within { All (λ q. q < length next.now) (chain_from next.now chain) }
@@ -131,8 +131,8 @@ impl Halves for Chains {
 }
 
 /// A chain for each vertex, 8 bytes, and 16 bytes for each edge: position `j` of the edge `e` is the place `4 * e + j`, and each place
-/// has what follows it in the chain of the vertex there. To remove a half-edge takes a walk along the chain of its vertex, which no step
-/// counts.
+/// has what follows it in the chain of the vertex there. Removing a half-edge walks along the chain of its vertex; steps don't count
+/// that.
 #[derive(Drop)]
 pub struct Linked<const K: usize> {
     table: Chains,

@@ -25,7 +25,7 @@ impl Slots {
         Slots {}
     }
 
-    /// The same slots again.
+    /// The same slots.
     pub(crate) fn same(&self) -> Slots
         ensures { result.each ≡ self.now.each }
     {

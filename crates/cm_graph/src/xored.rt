@@ -59,7 +59,7 @@ fn wide_of<const K: usize, L: Ledger>(
 }
 
 impl Table {
-    /// All edges, in narrow words if these suffice. The narrow words are given back before wide ones are taken.
+    /// All edges, in narrow words if these suffice. The narrow words are freed before wide ones are allocated.
     fn from_edges<const K: usize, L: Ledger>(
         alloc: Global,
         edges: &Edges<K>,
@@ -170,8 +170,8 @@ impl Table {
     }
 }
 
-/// A degree and a xor for each vertex: `from_edges` takes 4 bytes for both where there are at most 16,777,216 edges, and at most 63
-/// of them in one vertex; else, and in `empty`, they take 8 bytes. Over more than 2,097,152 vertices `from_edges` takes 4 bytes an edge
+/// A degree and a xor for each vertex. `from_edges` takes 4 bytes for both if there are at most 16,777,216 edges, and at most 63 of
+/// them in one vertex; else, and in `empty`, they take 8 bytes. Over more than 2,097,152 vertices `from_edges` takes 4 bytes an edge
 /// more until it returns.
 #[derive(Drop)]
 pub struct Xored<const K: usize> {

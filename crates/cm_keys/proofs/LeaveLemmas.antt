@@ -24,7 +24,7 @@ left_first max longest end first bytes =
     let e = ap (keys_from max longest 1) (looked_at_first first (pieces end bytes)) in
     record { keys = ap (λ told. told.keys) e; count = omega (arith, ap (λ told. length told.keys) e); fault = ap (λ told. told.fault) e }
 
--- where more lines are looked at, the next is the first of them
+-- if more lines are read, the next is the first of them
 looked_at_next : (first : Option ℕ) (given : ℕ) (p : List ℕ) (ps : List (List ℕ)) → IsOpen first given → looked_at_after given first (p ∷ ps) ≡ p ∷ looked_at_after (given + 1) first ps
 looked_at_next None given p ps open_first = refl
 looked_at_next (Some first) given p ps open_first =
@@ -68,7 +68,7 @@ pub left_none : (max longest : ℕ) (first : Option ℕ) (given : ℕ) → keys_
 left_none max longest None given = refl
 left_none max longest (Some first) given = ap (keys_from max longest (given + 1)) (take_none (first - given))
 
--- no line more is looked at
+-- no line more is read
 pub left_done : (max longest first given : ℕ) (ps : List (List ℕ)) → first ≤ given → keys_after max longest (Some first) given ps ≡ record { keys = []; fault = None }
 left_done max longest first given ps all =
     let e : first - given ≡ 0 = omega (arith, all) in ap (λ (k : ℕ). keys_from max longest (given + 1) (take k ps)) e

@@ -12,7 +12,7 @@ use Rattle.cm_keys.proofs.NumberingLemmas.{lines_are_numbered}
 use Rattle.cm_keys.proofs.PieceLemmas.{no_line, none_some, some_same}
 use Rattle.cm_keys.proofs.LeaveLemmas.{left_first, left_key, left_long, left_many, left_none, leaves_key, leaves_lines, leaves_none}
 
--- What holds of the keys of told bytes.
+-- What holds of the keys of known bytes.
 pub from_told : (f : List ℕ → Told) (told : Option (List ℕ)) (P : Told → Type 0) → ForSome told (λ all. P (f all)) → ForSome (option_map f told) P
 from_told f None P h x is = absurd (none_some x is)
 from_told f (Some all) P h x is = subst P (some_same is) (h all refl)
@@ -42,7 +42,7 @@ pub key_leaves : (max longest end : ℕ) (first : Option ℕ) (given : ℕ) (tol
 key_leaves max longest end first given told told' place place' ready ready' key inv same t open_first few short x is =
     (key_given max longest end first given told told' place place' ready ready' key inv same t open_first few short x (rw (← t) is)).0
 
--- A key is the next of the told ones.
+-- A key is the next of the known ones.
 pub key_gives : (max longest end : ℕ) (first : Option ℕ) (given : ℕ) (told told' : Option (List ℕ)) (place place' : ℕ) (ready ready' key : List ℕ)
     → Leaves max longest end first given told place ready
     → option_map (pieces end) (left_bytes told place ready) ≡ option_map (λ rest. key ∷ pieces end rest) (left_bytes told' place' ready')
@@ -76,7 +76,7 @@ pub lines_leave : (max longest end : ℕ) (first : Option ℕ) (given count room
 lines_leave max longest end first given count room told told' place place' ready ready' inv t p takes few most within =
     rw t (rw p (lines_left max longest end first given count room told place ready ready' inv takes few most within))
 
--- The lines are the next of the told keys.
+-- The lines are the next of the known keys.
 pub lines_give : (max longest end : ℕ) (first : Option ℕ) (given count room : ℕ) (told : Option (List ℕ)) (place : ℕ) (ready ready' : List ℕ)
     → Leaves max longest end first given told place ready → TakesLines longest end ready ready' count
     → count ≤ room → given + room ≤ max → IsWithin first (given + room) → 0 < count
@@ -144,7 +144,7 @@ not_open : (given : ℕ) (first : Option ℕ) → IsFull first given → IsOpen 
 not_open given None full looked = full
 not_open given (Some n) full looked = omega (arith, full, looked)
 
--- Where no key is at hand, none of these bytes is one.
+-- If no key is buffered, none of these bytes is one.
 pub none_at_hand : (max longest end : ℕ) (pass : LinePass) (key : List ℕ) → NoneAtHand max end pass → IsAtHand max longest end pass key → ⊥
 none_at_hand max longest end pass key (inl full) (looked, few, left, takes) = not_open pass.given pass.first full looked
 none_at_hand max longest end pass key (inr (inl many)) (looked, few, left, takes) = omega (arith, many, few)

@@ -64,7 +64,7 @@ long_front longest front ps lt = is_long longest (with_front front ps) (omega (a
 pub same_byte : (end : ℕ) → (end == end) ≡ true
 same_byte end = grind arith
 
--- the rest of a line with its end
+-- the remainder of a line with its end
 pub front_whole : (end : ℕ) (key part left more : List ℕ) → HasNoEnd end part
     → with_front key (pieces end ((part ++ end ∷ left) ++ more)) ≡ (key ++ part) ∷ pieces end (left ++ more)
 front_whole end key part left more none =
@@ -84,7 +84,7 @@ none_some x e = grind (arith, e)
 pub some_same : {A : Type 0} {x y : A} → (let o : Option A = Some x in o) ≡ Some y → x ≡ y
 some_same e = grind (arith, e)
 
--- The same where the bytes may not be told.
+-- The same if the bytes may be unknown.
 
 pub told_whole : (end : ℕ) (key part left : List ℕ) (told : Option (List ℕ)) (place : ℕ) → HasNoEnd end part
     → option_map (λ rest. with_front key (pieces end rest)) (left_bytes told place (part ++ end ∷ left)) ≡ option_map (λ rest. (key ++ part) ∷ pieces end rest) (left_bytes told place left)
@@ -127,7 +127,7 @@ ready_split end buf start until n inside p =
     split_there end (ready_in buf start until) n inside p
     ∙ ap (λ (k : ℕ). take n (ready_in buf start until) ++ end ∷ drop k (ready_in buf start until)) e ∙ ap (λ (l : List ℕ). take n (ready_in buf start until) ++ end ∷ l) (sym (ready_after buf start until n inside))
 
--- the first line that waits whole
+-- the first whole line in the buffer
 pub line_taken : (end longest : ℕ) (buf : List ℕ) (start until n : ℕ) → n < length (ready_in buf start until) → Nowhere (Passes (is_byte end) (ready_in buf start until)) 0 n
     → Passes (is_byte end) (ready_in buf start until) n → until ≤ longest + 1
     → TakesPart longest end (ready_in buf start until) (ready_in buf (start + (n + 1)) until) [] (take n (ready_in buf start until)) Whole
@@ -152,7 +152,7 @@ drop_front : (end : ℕ) (part left : List ℕ) → drop (suc (length part)) (pa
 drop_front end [] left = refl
 drop_front end (b ∷ bs) left = drop_front end bs left
 
--- A line that waits whole is within what waits.
+-- A whole line in the buffer is within the buffered bytes.
 pub line_inside : (longest end len : ℕ) (ready left key : List ℕ) → TakesPart longest end ready left [] key Whole → length key ≡ len → len < length ready
 line_inside longest end len ready left key takes long =
     omega (arith, long, ap length takes.2, ap length takes.3, length-append takes.0 (end ∷ left))

@@ -1,4 +1,4 @@
--- Bytes that wait in a buffer before those of a source.
+-- Bytes in a buffer, before those of a source.
 use Rattle.std.specs.Prelude.{◌≡◌, ◌-◌, ◌+◌, ◌<◌, ◌≤◌, ◌++◌, ◌∷◌, [], ℕ, List, length, All, Option, Some, drop, take, Result, Ok, Err}
 use Rattle.std.specs.Option.{option_map}
 use Rattle.cm_outer.specs.declared.fault.Failed.{Failed}
@@ -8,11 +8,11 @@ use Rattle.cm_keys.specs.declared.buffered.Part.TheVariants.{Whole, More, Long}
 use Rattle.cm_keys.specs.declared.buffered.Line.{Line}
 use Rattle.cm_keys.specs.declared.buffered.Line.TheVariants as lines
 
--- what waits in the buffer
+-- the buffered bytes
 abbrev pub ready_in : List ℕ → ℕ → ℕ → List ℕ
 ready_in buf start until = take (until - start) (drop start buf)
 
--- what is left: the bytes that wait, and those that the source hasn't given
+-- what is left: the buffered bytes, and those that were not read from the source yet
 abbrev pub left_bytes : Option (List ℕ) → ℕ → List ℕ → Option (List ℕ)
 left_bytes told place ready = option_map (λ bytes. ready ++ drop place bytes) told
 
@@ -30,13 +30,13 @@ abbrev pub IsLong : ℕ → List (List ℕ) → Type 0
 IsLong longest [] = ⊥
 IsLong longest (p ∷ ps) = longest < length p
 
--- What a key was given of the bytes that wait: the rest of its line, all of them, or less than is there of the line.
+-- What a key took of the buffered bytes: all up to the end of its line, all of them, or not all of its line.
 abbrev pub TakesPart : ℕ → ℕ → List ℕ → List ℕ → List ℕ → List ℕ → Part → Type 0
 TakesPart longest end ready left old new Whole = (part : List ℕ) × HasNoEnd end part × (new ≡ old ++ part) × (ready ≡ part ++ end ∷ left) × (length new ≤ longest)
 TakesPart longest end ready left old new More = HasNoEnd end ready × (new ≡ old ++ ready) × (left ≡ []) × (0 < length ready) × (length new ≤ longest)
 TakesPart longest end ready left old new Long = (part : List ℕ) × (rest : List ℕ) × HasNoEnd end part × (ready ≡ part ++ rest) × (longest < length old + length part)
 
--- So many lines that wait whole pass with their ends.
+-- This many whole lines in the buffer pass with their ends.
 pub record TakesLines (longest end : ℕ) (ready left : List ℕ) (count : ℕ) : Type 0 where
   pub lines : List (List ℕ)
   pub many : length lines ≡ count

@@ -8,9 +8,8 @@ use Rattle.cm_keys.specs.Lines.{lines_of}
 use Rattle.cm_keys.specs.Buffering.{HasNoEnd, TakesPart}
 use Rattle.cm_keys.specs.declared.buffered.Part.TheVariants.{Whole}
 
--- what the source tells; how many lines are looked at, where not all; how many keys were given since the last rewind;
--- whether the source has come to its end with no byte left; whether a key may be asked for; the source's count of faults; the
--- bytes that were read and wait
+-- the known bytes of the source; how many lines are read, if not all; how many keys were yielded since the last rewind; whether the
+-- source has come to its end with no byte left; whether a key may be asked for; the source's count of faults; the buffered bytes
 pub record LinePass : Type 0 where
   pub bytes : Option (List ℕ)
   pub first : Option ℕ
@@ -24,39 +23,39 @@ pub record LinePass : Type 0 where
 abbrev pub new_pass : Option (List ℕ) → Option ℕ → ℕ → LinePass
 new_pass bytes first faults = record { bytes = bytes; first = first; given = 0; ended = false; usable = true; faults = faults; waiting = [] }
 
--- the keys of a pass: those of the bytes that its source tells
+-- the keys of a pass: those of the known bytes of its source
 abbrev pub keys_of : ℕ → ℕ → ℕ → LinePass → Option Told
 keys_of max longest end pass = option_map (lines_of max longest end pass.first) pass.bytes
 
--- A further line is looked at.
+-- A further line is read.
 abbrev pub IsOpen : Option ℕ → ℕ → Type 0
 IsOpen None given = Unit {0}
 IsOpen (Some first) given = given < first
 
--- All lines that are looked at were given.
+-- All lines to read were yielded.
 abbrev pub IsFull : Option ℕ → ℕ → Type 0
 IsFull None given = ⊥
 IsFull (Some first) given = first ≤ given
 
--- There is no further key: the first lines were given, or the source has come to its end with no byte left.
+-- There is no further key: the first lines were yielded, or the source has come to its end with no byte left.
 abbrev pub IsDone : LinePass → Type 0
 IsDone pass = IsFull pass.first pass.given ⊎ (pass.ended ≡ true)
 
--- The line at fault is looked at and is the one after the keys that were given, of which there are the most where it is too many.
+-- The line at fault is to be read and comes after the keys that were yielded, of which there are `max` if it is one too many.
 abbrev pub IsNextLine : ℕ → LinePass → KeyFault → Type 0
 IsNextLine max pass Read = Unit {0}
 IsNextLine max pass (TooLong line) = (line ≡ pass.given + 1) × (pass.given < max) × IsOpen pass.first pass.given
 IsNextLine max pass TooMany = (pass.given ≡ max) × IsOpen pass.first pass.given
 
--- These bytes are those of the next key, and they wait with their end.
+-- These bytes are those of the next key, and its whole line is in the buffer, with its end.
 abbrev pub IsAtHand : ℕ → ℕ → ℕ → LinePass → List ℕ → Type 0
 IsAtHand max longest end pass key = IsOpen pass.first pass.given × (pass.given < max) × (left : List ℕ) × TakesPart longest end pass.waiting left [] key Whole
 
--- No key is at hand: no further line is looked at, or there are the most keys, or the line that comes doesn't wait whole.
+-- No key is buffered: no further line is read, or there are `max` keys, or the next line is not whole in the buffer.
 abbrev pub NoneAtHand : ℕ → ℕ → LinePass → Type 0
 NoneAtHand max end pass = IsFull pass.first pass.given ⊎ ((max ≤ pass.given) ⊎ HasNoEnd end pass.waiting)
 
--- Not so many further lines may be keys.
+-- Fewer further lines than this may be keys.
 abbrev pub IsNearEnd : ℕ → ℕ → Option ℕ → ℕ → Type 0
 IsNearEnd max many None given = max < given + many
 IsNearEnd max many (Some first) given = (max < given + many) ⊎ (first < given + many)

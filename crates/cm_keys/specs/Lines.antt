@@ -3,22 +3,22 @@ use Rattle.std.specs.Prelude.{◌==◌, ◌+◌, ℕ, List, length, Option, None
 use Rattle.cm_outer.specs.Passes.{Told}
 use Rattle.cm_outer.specs.declared.key_pass.KeyFault.TheVariants.{TooLong, TooMany}
 
--- a byte before the first piece; where there is none it is a piece
+-- a byte before the first piece; if there is none, the byte is a piece
 abbrev pub push_first : ℕ → List (List ℕ) → List (List ℕ)
 push_first b [] = (b ∷ []) ∷ []
 push_first b (p ∷ ps) = (b ∷ p) ∷ ps
 
--- the bytes split at each byte `end`; the last piece counts only where it isn't empty
+-- the bytes split at each byte `end`; the last piece counts only if it isn't empty
 abbrev pub pieces : ℕ → List ℕ → List (List ℕ)
 pieces end [] = []
 pieces end (b ∷ bs) = if b == end then [] ∷ pieces end bs else push_first b (pieces end bs)
 
--- the lines that are looked at: the first ones, or all
+-- the lines to read: the first ones, or all
 abbrev pub looked_at : Option ℕ → List (List ℕ) → List (List ℕ)
 looked_at None lines = lines
 looked_at (Some first) lines = take first lines
 
--- one key more in front
+-- one more key at the start
 abbrev pub with_key : ℕ × List ℕ → Told → Told
 with_key key told = record { keys = key ∷ told.keys; fault = told.fault }
 

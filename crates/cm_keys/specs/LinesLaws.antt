@@ -23,10 +23,10 @@ LongestKeys = lines_of 9 2 10 None (97 ∷ 97 ∷ 10 ∷ 98 ∷ 98 ∷ []) ≡ r
 abbrev pub LongLine : Type 0
 LongLine = lines_of 9 2 10 None (97 ∷ 10 ∷ 98 ∷ 98 ∷ 98 ∷ 10 ∷ 97 ∷ 10 ∷ []) ≡ record { keys = (1, 97 ∷ []) ∷ []; fault = Some (TooLong 2) }
 
--- A line after the most lines is too many, also where it is too long.
+-- A line after the most lines is too many, also if it is too long.
 abbrev pub ManyLines : Type 0
 ManyLines = lines_of 2 2 10 None (10 ∷ 10 ∷ 97 ∷ 97 ∷ 97 ∷ []) ≡ record { keys = (1, []) ∷ (2, []) ∷ []; fault = Some TooMany }
 
--- With the number of lines given, no later one is looked at.
+-- With the number of lines given, no later one is read.
 abbrev pub FirstLines : Type 0
 FirstLines = lines_of 2 2 10 (Some 2) (10 ∷ 10 ∷ 97 ∷ 97 ∷ 97 ∷ []) ≡ record { keys = (1, []) ∷ (2, []) ∷ []; fault = None }

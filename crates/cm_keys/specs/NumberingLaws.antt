@@ -4,12 +4,12 @@ use Rattle.cm_outer.specs.Passes.{Told}
 use Rattle.cm_outer.specs.declared.key_pass.KeyFault.{KeyFault}
 use Rattle.cm_outer.specs.declared.key_pass.KeyFault.TheVariants.{Read, TooLong, TooMany}
 
--- The number is within the number of lines that are looked at, where it is given.
+-- The number is within the number of lines to read, if that is given.
 abbrev pub IsWithin : Option ℕ → ℕ → Type 0
 IsWithin None n = Unit {0}
 IsWithin (Some first) n = n ≤ first
 
--- After so many keys: a line that is too long is the next one, and there are too many after the most keys. No line is at fault by a read.
+-- After n keys: a line that is too long is the next one, and there are too many after the most keys. No line is at fault by a read.
 abbrev pub FollowsKeys : ℕ → ℕ → Option KeyFault → Type 0
 FollowsKeys max n None = Unit {0}
 FollowsKeys max n (Some Read) = ⊥

@@ -1,4 +1,4 @@
-// A source that is read by large pieces.
+// A source with a buffer.
 ghost use Rattle.std.specs.Prelude.{◌≡◌, ◌<◌, ◌≤◌, ◌++◌, ◌+◌, ℕ, List, [], true, false, Ok, IfOk, IfSome, IfNone, OnOk, length, drop};
 ghost use Rattle.std.specs.Option.{ForSome};
 ghost use Rattle.cm_outer.specs.Causes.{HasCause};
@@ -9,22 +9,22 @@ ghost use Rattle.cm_keys.specs.declared.buffered.TheConstants.{ROOM};
 use cm_outer::{Failed, KeyBuf, MAX_KEY_LEN, Source};
 use memchr::{memchr, memchr_iter, memrchr};
 
-/// How many bytes wait at most.
+/// The size of the buffer in bytes.
 pub const ROOM: usize = 65_536;
 
-/// What a key was given of the bytes that wait.
+/// What a key took of the buffered bytes.
 pub enum Part {
-    /// The rest of its line.
+    /// All up to the end of its line.
     Whole,
     /// All of them.
     More,
-    /// Not all that there is of its line.
+    /// Not all of its line: the key would be too long.
     Long,
 }
 
 /// What was read.
 pub enum Line {
-    /// A line within the longest key.
+    /// A line that isn't longer than the longest key.
     Key,
     /// The end, with no byte of a further line.
     End,
@@ -32,14 +32,14 @@ pub enum Line {
     TooLong,
 }
 
-/// A source whose bytes are read by pieces of some size.
+/// A source whose bytes are read into a buffer.
 pub struct Buffered<S: Source> {
     pub source: S,
-    /// The bytes from `start` to `until` wait.
+    /// The bytes from `start` to `until` are buffered.
     pub buf: [u8; ROOM],
     pub start: usize,
     pub until: usize,
-    /// The source has given all.
+    /// The source has come to its end.
     pub ended: bool,
     ghost in_order: { start ≤ until },
     ghost in_buf: { until ≤ ROOM },
@@ -89,7 +89,7 @@ impl<S: Source> Buffered<S> {
         self.source.rewind()
     }
 
-    /// Whether a byte is left. One that is waits then.
+    /// Whether a byte is left. If so, one is buffered.
     pub fn has_more(&mut self) -> Result<bool, Failed>
         ensures told { S.told self.new.source ≡ S.told self.old.source }
         ensures left { OnOk result (left_bytes (S.told self.new.source) (S.place self.new.source)
@@ -117,7 +117,7 @@ impl<S: Source> Buffered<S> {
         Ok(n > 0)
     }
 
-    /// Gives a key what waits of its line.
+    /// Appends the buffered bytes of a line to its key.
     fn take_part(&mut self, end: u8, key: &mut KeyBuf) -> Part
         requires waits { self.old.start < self.old.until }
         ensures source { self.new.source ≡ self.old.source }
@@ -157,7 +157,7 @@ impl<S: Source> Buffered<S> {
         ensures cause { HasCause (S.faults self.old.source) (S.faults self.new.source) result }
     {
         key.clear();
-        // Each part but the last has a byte at least.
+        // Each part except the last has at least one byte.
         for _ in 0..MAX_KEY_LEN + 1 {
             if !self.has_more()? {
                 if key.is_empty() {
@@ -174,7 +174,7 @@ impl<S: Source> Buffered<S> {
         unreachable!()
     }
 
-    /// A line that waits whole with its end, without the end.
+    /// The next line, without its end, if the whole line is in the buffer with its end.
     pub fn peek_line(&self, end: u8) -> Option<&[u8]>
         ensures line { IfSome result (λ line. (left : List ℕ)
             × TakesPart MAX_KEY_LEN end (ready_in self.now.buf self.now.start self.now.until) left [] line.now Part.Whole) }
@@ -188,7 +188,7 @@ impl<S: Source> Buffered<S> {
         Some(&ready[..n])
     }
 
-    /// Passes a line of so many bytes that waits whole, with its end.
+    /// Passes a line of `len` bytes, with its end. The whole line is in the buffer.
     pub fn pass_line(&mut self, len: usize)
         requires waits { len < length (ready_in self.old.buf self.old.start self.old.until) }
         ensures source { self.new.source ≡ self.old.source }
@@ -198,7 +198,7 @@ impl<S: Source> Buffered<S> {
         self.start += len + 1;
     }
 
-    /// Passes all lines that wait whole, with their ends, and answers how many.
+    /// Passes all whole lines in the buffer, with their ends, and returns how many.
     pub fn skip_lines(&mut self, end: u8) -> u32
         ensures source { self.new.source ≡ self.old.source }
         ensures ended { self.new.ended ≡ self.old.ended }

@@ -14,8 +14,8 @@ use std::marker::Model;
 /// The byte that ends a line.
 pub const LINE_END: u8 = 10;
 
-/// The lines of a source as keys. A line goes without the byte that ends it, and a last line without its end counts
-/// where it has a byte. Lines are numbered from 1.
+/// The lines of a source as keys. A key goes without the byte that ends its line, and a last line without its end counts if it has a
+/// byte. Lines are numbered from 1.
 pub struct Keys<S: Source> {
     bytes: Buffered<S>,
     first: Option<u32>,
@@ -47,7 +47,7 @@ impl<S: Source> Model for Keys<S> {
 }
 
 impl<S: Source> Keys<S> {
-    /// The lines of a source that stands at its start; with `first`, that many of them at most.
+    /// The lines of a source that stands at its start; with `first`, at most this many of them.
     pub fn new(source: S, first: Option<u32>) -> Keys<S>
         requires start { ForSome (S.told source) (λ _. S.place source ≡ 0) }
         ensures state { result ≡ new_pass (S.told source) first (S.faults source) }
@@ -66,7 +66,7 @@ impl<S: Source> Keys<S> {
         }
     }
 
-    /// Gives the source back, which may have given more bytes than those of the keys.
+    /// Returns the source. More bytes than those of the keys may have been read from it.
     pub fn into_source(self) -> S
         ensures told { S.told result ≡ self.bytes }
         ensures faults { S.faults result ≡ self.faults }
@@ -81,7 +81,7 @@ impl<S: Source> Keys<S> {
     }
 }
 
-/// Whether a further line is looked at.
+/// Whether a further line is read.
 fn is_open(first: Option<u32>, given: u32) -> bool
     ensures open { result ≡ true → IsOpen first given }
     ensures full { result ≡ false → IsFull first given }
@@ -92,7 +92,7 @@ fn is_open(first: Option<u32>, given: u32) -> bool
     }
 }
 
-/// Whether a further line may be a key: it is looked at, and there are not the most keys yet.
+/// Whether a further line may be a key: it is read, and there are fewer than `MAX_KEYS` keys yet.
 fn may_give(first: Option<u32>, given: u32) -> bool
     ensures open { result ≡ true → IsOpen first given }
     ensures few { result ≡ true → given < MAX_KEYS }
@@ -101,7 +101,7 @@ fn may_give(first: Option<u32>, given: u32) -> bool
     given < MAX_KEYS && is_open(first, given)
 }
 
-/// Whether as many further lines as can wait may be keys.
+/// Whether as many further lines as fit in the buffer may be keys.
 fn may_give_many(first: Option<u32>, given: u32) -> bool
     requires few { given ≤ MAX_KEYS }
     ensures within { result ≡ true → IsWithin first (given + ROOM) }
@@ -150,11 +150,11 @@ impl<S: Source> KeyPass for Keys<S> {
         ensures usable { OnOk result (self.new.usable ≡ true) }
         ensures unusable { OnErr result (self.new.usable ≡ false) }
 
-        // The source goes on telling the same, and the lines that are looked at stay as many.
+        // The bytes of the source and the number of lines to read stay the same.
         ensures bytes { self.new.bytes ≡ self.old.bytes }
         ensures first { self.new.first ≡ self.old.first }
 
-        // It answers false exactly where there is no further line, and goes on so.
+        // Returns false exactly if there is no further line, and then until a rewind.
         ensures over { IfOk result (λ more. more ≡ false → IsDone self.new) }
         ensures done { IsDone self.old → result ≡ Ok false }
 
@@ -200,7 +200,7 @@ impl<S: Source> KeyPass for Keys<S> {
         ensures stands { IfSome result (λ key. IsAtHand MAX_KEYS MAX_KEY_LEN LINE_END self.now key.1.now) }
         ensures none_stands { IfNone result ((key : List ℕ) → IsAtHand MAX_KEYS MAX_KEY_LEN LINE_END self.now key → ⊥) }
 
-        // A line that waits whole is at hand.
+        // If its whole line is in the buffer, the next key is buffered.
         ensures none { IfNone result (NoneAtHand MAX_KEYS LINE_END self.now) }
     {
         if !may_give(self.first, self.given) {
@@ -224,7 +224,7 @@ impl<S: Source> KeyPass for Keys<S> {
         ensures rises { self.old.given < self.new.given }
         ensures usable { self.new.usable ≡ true }
 
-        // The source goes on telling the same, the lines that are looked at stay as many, and the end is not looked for.
+        // The bytes of the source, the number of lines to read and `ended` stay the same.
         ensures bytes { self.new.bytes ≡ self.old.bytes }
         ensures first { self.new.first ≡ self.old.first }
         ensures ended { self.new.ended ≡ self.old.ended }
@@ -244,11 +244,11 @@ impl<S: Source> KeyPass for Keys<S> {
         ensures usable { self.new.usable ≡ true }
         ensures unchanged { result ≡ 0 → self.new ≡ self.old }
 
-        // All lines that wait whole are passed, but near the last line that is looked at and near the most keys.
+        // Passes all whole lines in the buffer, except near the last line to read and near `MAX_KEYS` keys.
         ensures all { 0 < result → HasNoEnd LINE_END self.new.waiting }
         ensures none { result ≡ 0 → IsNearEnd MAX_KEYS ROOM self.old.first self.old.given ⊎ HasNoEnd LINE_END self.old.waiting }
 
-        // The source goes on telling the same, the lines that are looked at stay as many, and the end is not looked for.
+        // The bytes of the source, the number of lines to read and `ended` stay the same.
         ensures bytes { self.new.bytes ≡ self.old.bytes }
         ensures first { self.new.first ≡ self.old.first }
         ensures ended { self.new.ended ≡ self.old.ended }
@@ -270,7 +270,7 @@ impl<S: Source> KeyPass for Keys<S> {
         ensures usable { OnOk result (self.new.usable ≡ true) }
         ensures unusable { OnErr result (self.new.usable ≡ false) }
 
-        // It is as a new one.
+        // The pass is as a new one.
         ensures ok { OnOk result (self.new ≡ new_pass self.old.bytes self.old.first self.old.faults) }
         ensures bytes { self.new.bytes ≡ self.old.bytes }
         ensures first { self.new.first ≡ self.old.first }

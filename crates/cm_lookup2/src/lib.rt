@@ -1,4 +1,4 @@
-//! lookup2, the hash function of Bob Jenkins (1997): three words of 32 bits for a key and a seed.
+//! lookup2, the hash function of Bob Jenkins (1997): three 32-bit hash values of a key under a seed.
 #![tactic(auto)]
 
 ghost use Rattle.std.specs.Prelude.{◌≡◌, ◌+◌, ◌*◌, ◌/◌, ◌%◌, ◌^◌, ◌-◌, ◌<◌, ◌≤◌, length, drop, slice_index};
@@ -90,7 +90,7 @@ fn word(bytes: &[u8], i: usize) -> u32
         + 16_777_216 * byte_at(bytes, i + 3)
 }
 
-/// Takes in a block of 12 bytes.
+/// Absorbs a block of 12 bytes.
 #[inline]
 #[tactic(auto, unfolding(cm_spec::specs::Lookup2::absorb))]
 fn absorb(s: Mixing, block: &[u8]) -> Mixing
@@ -103,7 +103,7 @@ fn absorb(s: Mixing, block: &[u8]) -> Mixing
     })
 }
 
-/// What the words of the state take in of the rest of a key. The lowest byte of the third is left to the length of the key.
+/// What the tail of a key adds to the words of the state. The lowest byte of `c` is left to the length of the key.
 #[derive(Clone, Copy)]
 struct Tail {
     a: u32,
@@ -130,7 +130,7 @@ fn last_of_four(bytes: &[u8], i: usize, n: usize) -> u32
     (u64::from(four_at(bytes, i)) >> (8 * (4 - n))) as u32
 }
 
-/// The words of a rest of 4 to 11 bytes. Each comes from four bytes that are there, without a jump that depends on their number.
+/// The words of a tail of 4 to 11 bytes. Each is read from four bytes of the tail, without a branch on its length.
 #[inline(always)]
 fn long_tail(rest: &[u8]) -> Tail
     requires { (4 ≤ length rest.now) × (length rest.now < 12) }
@@ -148,7 +148,7 @@ fn long_tail(rest: &[u8]) -> Tail
     }
 }
 
-/// The words of the rest of a key, which is what is left of it after its blocks of 12 bytes.
+/// The words of a key's tail, which is what is left after its blocks of 12 bytes.
 #[inline(always)]
 fn tail_of(key: &[u8], rest: &[u8]) -> Tail
     requires { rest.now ≡ drop (length key.now / 12 * 12) key.now }
@@ -172,7 +172,7 @@ fn tail_of(key: &[u8], rest: &[u8]) -> Tail
     }
 }
 
-/// Takes in the rest of a key.
+/// Absorbs the tail of a key.
 #[inline(always)]
 #[tactic(auto, unfolding(cm_spec::specs::Lookup2::finish))]
 fn finish(key: &[u8], rest: &[u8], s: Mixing) -> Mixing
@@ -188,7 +188,7 @@ fn finish(key: &[u8], rest: &[u8], s: Mixing) -> Mixing
     })
 }
 
-/// The three words of a key under a seed, for any key and any seed.
+/// The three hash values of a key under a seed, for any key and any seed.
 #[inline(always)]
 #[tactic(auto, unfolding(cm_spec::specs::Lookup2::words))]
 pub fn words(key: &[u8], seed: u32) -> [u32; 3]

@@ -1,7 +1,7 @@
 -- The source of generated keys, as contracts see it.
 use Rattle.std.specs.Prelude.{ℕ}
 
--- how many keys it has, and how many bytes it has given
+-- how many keys it has, and how many bytes were read
 pub record MadeSource : Type 0 where
   pub keys : ℕ
   pub place : ℕ

@@ -10,7 +10,7 @@ pub(crate) const LINE_LEN: usize = 15;
 /// What the number of a key is multiplied by. It is odd, so that keys differ.
 const FACTOR: u64 = 2_654_435_761;
 
-/// The numbers that keys write are below it.
+/// Keys write numbers below this.
 const MODULUS: u64 = 4_294_967_296;
 
 /// The number that this key writes.

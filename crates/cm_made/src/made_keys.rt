@@ -62,7 +62,7 @@ impl Source for MadeKeys {
             Gives bytes self.old.place self.new.place (length buf.old) n buf.new)) }
         ensures cause { HasCause 0 0 result }
 
-        // It never fails, and gives as many bytes as there are and fit.
+        // Never fails, and reads as many bytes as are left and fit.
         ensures fine { IsOk result }
         ensures count { IfOk result (λ n. n ≡ min (15 * self.old.keys - self.old.place) (length buf.old)) }
         ensures bytes { IfOk result (λ n. buf.new ≡ take n (drop self.old.place (made_text self.old.keys)) ++ drop n buf.old) }
@@ -79,7 +79,7 @@ impl Source for MadeKeys {
         ensures start { OnOk result (self.new.place ≡ 0) }
         ensures cause { HasCause 0 0 result }
 
-        // It never fails.
+        // Never fails.
         ensures fine { IsOk result }
         ensures state { self.new ≡ record self.old { place = 0 } }
     {

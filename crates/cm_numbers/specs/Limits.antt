@@ -3,7 +3,7 @@ use Rattle.std.specs.Prelude.{◌≤◌, ℕ, Option}
 use Rattle.std.specs.Option.{ForSome}
 use Rattle.cm_numbers.specs.declared.options.TheConstants.{MAX_TEST_KEYS, MAX_WIDTH, MIN_WIDTH}
 
--- a number of lines, where it is given, is at least one
+-- a number of lines, if it is given, is at least one
 abbrev pub IsFirst : Option ℕ → Type 0
 IsFirst first = ForSome first (λ n. 1 ≤ n)
 
@@ -31,8 +31,8 @@ IsBuffer bytes = (1048576 ≤ bytes) × (bytes ≤ 1073741824)
 abbrev pub IsTestSize : ℕ → Type 0
 IsTestSize keys = (1 ≤ keys) × (keys ≤ MAX_TEST_KEYS)
 
--- The ranges of a build's numbers: the ratio in millionths, the sampling of ranks where they are sampled, the average size of a
--- bucket where the keys are split, how many seeds, the buffer in bytes, and the number of lines.
+-- The ranges of a build's numbers: the ratio in millionths, the sampling of ranks if they are sampled, the average size of a bucket if
+-- the keys are split, how many seeds, the buffer in bytes, and the number of lines.
 pub record AreInRange (sampled split : Type 0) (c b seeds bytes : ℕ) (lines : Option ℕ) : Type 0 where
   pub ratio : IsRatio c
   pub sampling : sampled → IsSampling b

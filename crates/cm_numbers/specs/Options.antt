@@ -28,7 +28,7 @@ value_or letter read missing (Some text) = ok_or (read text) (record { letter = 
 abbrev pub number_value : ℕ → ℕ → ℕ → ℕ → Option Text → Checked ℕ
 number_value letter least most = value_or letter (whole_of least most)
 
--- the same, of an option that stands for nothing where it isn't given
+-- the same, of an option that stands for nothing if it isn't given
 abbrev pub optional_value : ℕ → ℕ → ℕ → Option Text → Checked (Option ℕ)
 optional_value letter least most = value_or letter (λ t. option_map (λ n. Some n) (whole_of least most t)) None
 
@@ -51,7 +51,7 @@ bits_value true Bdz = number_value 98 3 10 7
 bits_value true Brz = number_value 98 MIN_WIDTH MAX_WIDTH 128
 bits_value _ _ = λ text. and_then (number_value 98 0 4294967295 0 text) (λ _. Ok 0)
 
--- the ratio in millionths where -c isn't given
+-- the ratio in millionths if -c isn't given
 abbrev pub usual_ratio : Algorithm → ℕ
 usual_ratio Chm = 2090000
 usual_ratio _ = 1230000

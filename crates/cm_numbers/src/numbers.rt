@@ -3,7 +3,7 @@ ghost use Rattle.std.specs.Prelude.{◌≡◌, ◌-◌, ◌<◌, ◌≤◌, ◌^
 ghost use Rattle.std.specs.List.{position_from};
 ghost use Rattle.cm_numbers.specs.Digits.{decimal_at, millionths_of, number_of, places_of, units_of, whole_of};
 
-/// The number that the digits write, where they are from one to `most` digits.
+/// The number that the digits write, if there are from one to `most` of them.
 fn digits(text: &[u8], most: usize) -> Option<u64>
     requires { most ≤ 10 }
     ensures value { result ≡ number_of most text.now }
@@ -23,8 +23,8 @@ fn digits(text: &[u8], most: usize) -> Option<u64>
     Some(value)
 }
 
-/// The number that a text of one to ten decimal digits writes, where it is from `least` to `most`. Leading zeros are
-/// digits like others. It takes no memory.
+/// The number that a text of one to ten decimal digits writes, if it is from `least` to `most`. Leading zeros are digits like others.
+/// It takes no memory.
 pub fn whole(text: &[u8], least: u32, most: u32) -> Option<u32>
     ensures value { result ≡ whole_of least most text.now }
     ensures within { IfSome result (λ n. (least ≤ n) × (n ≤ most)) }
@@ -35,7 +35,7 @@ pub fn whole(text: &[u8], least: u32, most: u32) -> Option<u32>
     }
 }
 
-/// What one unit of the last of so many digits after the point is in millionths.
+/// What one unit of the last digit is in millionths, with this many digits after the point.
 fn scale(places: usize) -> u64
     requires { places ≤ 6 }
     ensures { result ≡ 10 ^ (6 - places) }

@@ -108,7 +108,7 @@ pub fn hash(text: Option<&str>) -> Result<(), BadValue>
     }
 }
 
-/// `-k`: how many lines are looked at, at least 1, if it is given.
+/// `-k`: how many lines are read, at least 1, if it is given.
 pub fn first(text: Option<&str>) -> Result<Option<u32>, BadValue>
     ensures value { result ≡ first_value (option_map (λ s. s.now) text.entry) }
     ensures within { IfOk result IsFirst }

@@ -1,4 +1,4 @@
--- The calls that a disk in memory lets fail, and those that it had.
+-- The calls that fail in a disk in memory, and those that it had.
 use Rattle.std.specs.Prelude.{ℕ, Bool, List, [], map, refl}
 use Rattle.std.specs.List.{filter}
 use Rattle.std.specs.Coded.{Coded, code_by, coded×, coded_list, coded_ℕ}

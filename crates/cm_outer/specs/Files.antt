@@ -1,4 +1,4 @@
--- The files that a disk tells: a finite map from the bytes of a path to the bytes of a file.
+-- The known files of a disk: a finite map from the bytes of a path to the bytes of a file.
 use Rattle.std.specs.Prelude.{◌≡◌, ◌⊎◌, ℕ, List, [], Option, None, Some, Result, MatchResult, take, IsTrue, unwrap_or}
 use Rattle.std.specs.Option.{option_map}
 use Rattle.std.specs.Ordering.{nat_cmp}
@@ -19,7 +19,7 @@ file_at files path = map.get files path
 abbrev pub with_file : List ℕ → List ℕ → Option Files → Option Files
 with_file path bytes known = option_map (λ files. map.insert files path bytes) known
 
--- The path is among the files, where they are told.
+-- The path is among the files, if they are known.
 abbrev pub IsThere : List ℕ → Option Files → Type 0
 IsThere path None = Unit {0}
 IsThere path (Some files) = IsTrue (map.contains_key files path)

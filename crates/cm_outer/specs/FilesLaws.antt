@@ -34,7 +34,7 @@ is_there path bytes (Some files) new is = subst (IsThere path) (sym is) (
     ap is_some (map.get-insert nat_list_cmp_total files path bytes path ∙ ap (λ (b : Bool). cond b (Some bytes) (map.get files path)) ((eq_by_cmp_equiv nat_list_cmp_total).refl path))
     )
 
--- What a writer that began with nothing holds, or a front of it, is what the path holds in the end.
+-- What a writer that began with nothing holds, or a prefix of it, is what the path holds in the end.
 pub holds : (path piece : List ℕ) (cut : List ℕ → List ℕ) (old mid new : Option Files) (first last : Option (List ℕ)) → mid ≡ with_file path [] old → ForSome old (λ _. first ≡ Some []) → last ≡ then_bytes first piece
     → new ≡ with_file path (cut (unwrap_or last [])) mid → new ≡ with_file path (cut piece) old
 holds path piece cut None mid new first last made empty wrote closed = closed ∙ ap (with_file path (cut (unwrap_or last []))) made
@@ -45,14 +45,14 @@ holds path piece cut (Some files) mid new first last made empty wrote closed =
     ∙ ap (λ (known : Option (List ℕ)). Some (map.insert (map.insert files path []) path (cut (unwrap_or known [])))) is
     ∙ ap Some (insert_twice files path [] (cut piece))
 
--- Whatever closing answered, the path holds a front of what the writer held.
+-- Whatever closing returned, the path holds a prefix of what the writer held.
 pub front_closed : (path : List ℕ) (known : Option (List ℕ)) (old new : Option Files) (result : Result (Unit {0}) Failed) → Closes path known old new result → (n : ℕ) × (new ≡ with_file path (take n (unwrap_or known [])) old)
 front_closed path known old new (Ok _) closed =
     let held = unwrap_or known [] in
     (length held, closed ∙ ap (λ (l : List ℕ). with_file path l old) (sym (take_all (length held) held (omega arith))))
 front_closed path known old new (Err _) closed = closed
 
--- a front of a front
+-- a prefix of a prefix
 pub front_of_front : (n m : ℕ) (xs : List ℕ) → (k : ℕ) × (take n (take m xs) ≡ take k xs)
 front_of_front zero m xs = (0, refl)
 front_of_front (suc n) zero xs = (0, refl)

@@ -7,8 +7,8 @@ use Rattle.cm_outer.specs.Files.{Files}
 use Rattle.cm_outer.specs.declared.fault.DiskFault.{DiskFault}
 use Rattle.cm_outer.specs.declared.fault.DiskFault.TheVariants as disk_fault
 
--- the files, the room of each file that is written and of each spill, the bytes of the spill that was last given back, the counts of faults,
--- and the calls
+-- the files, the room of each file that is written and of each spill, the bytes of the spill that was last handed back, the counts of
+-- faults, and the calls
 pub record DiskInMemory : Type 0 where
   pub files : Files
   pub room : ℕ
@@ -17,7 +17,7 @@ pub record DiskInMemory : Type 0 where
   pub write_faults : ℕ
   pub calls : DiskCalls
 
--- whether a call answers `Failed`
+-- whether a call returns `Failed`
 abbrev pub is_failed : {T : Type 0} → Result T DiskFault → Bool
 is_failed (Ok _) = false
 is_failed (Err disk_fault.Failed) = true

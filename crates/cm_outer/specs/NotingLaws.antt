@@ -57,7 +57,7 @@ noted_nothing failed err faults = record {
   silent = λ bad. (bad, refl, refl);
 }
 
--- Where nothing waits unless a note has failed, all is sent on or the count rose.
+-- If nothing is buffered unless a note has failed, all is sent on or the count rose.
 pub noted_sent : {f : Bool} {a b : Option (List ℕ)} {i j waits : ℕ} {text : List ℕ} → HasNoted f a b i j text → (f ≡ false → waits ≡ 0) → IsSent waits i j
 noted_sent {f = false} noted sent = λ small. inl (sent refl)
 noted_sent {f = true} noted sent = λ small. inr ((noted.part refl).2 small)
@@ -67,7 +67,7 @@ pub noted_front : {f : Bool} {a b : Option (List ℕ)} {i j : ℕ} {text : List 
 noted_front {f = false} {a = a} {text = text} noted = (length text, (noted.all refl).0 ∙ ap (then_bytes a) (sym (take_all (length text) text (omega arith))))
 noted_front {f = true} noted = (noted.part refl).0
 
--- all of it, where no write has failed
+-- all of it, if no write has failed
 pub noted_all : {f : Bool} {a b : Option (List ℕ)} {i j : ℕ} {text : List ℕ} → HasNoted f a b i j text → i < 2 ^ 63 → j ≡ i → b ≡ then_bytes a text
 noted_all {f = false} noted small same = (noted.all refl).0
 noted_all {f = true} {i = i} {j = j} noted small same = let rose : i < j = (noted.part refl).2 small in absurd (omega arith)

@@ -3,7 +3,7 @@ use Rattle.std.specs.Prelude.{◌≡◌, ℕ, List, [], ◌∷◌, ◌++◌, tak
 use Rattle.std.specs.Option.{option_map}
 use Rattle.cm_outer.specs.declared.fault.Failed.{Failed}
 
--- what a sink tells, and then these bytes
+-- the known bytes of a sink, and then these
 abbrev pub then_bytes : Option (List ℕ) → List ℕ → Option (List ℕ)
 then_bytes known bytes = option_map (λ w. w ++ bytes) known
 

@@ -1,17 +1,17 @@
-// What the outside answers where it doesn't do what it was asked.
+// How calls to the outside fail.
 ghost use Rattle.std.specs.Prelude.{◌≡◌};
 ghost use Rattle.cm_outer.specs.declared.fault.DiskFault.TheVariants.{Memory, Failed as DiskFailed};
 
 use std::alloc::{AllocError, AllocFailed};
 
-/// A source or a sink failed.
+/// A source, a sink or a spill failed.
 #[derive(Clone, Copy, Debug, PartialEq, Eq)]
 pub struct Failed;
 
-/// Why a disk gave no reader or writer.
+/// Why a disk returned no reader, writer or spill.
 #[derive(Clone, Copy, Debug, PartialEq, Eq)]
 pub enum DiskFault {
-    /// There was too little memory.
+    /// Out of memory.
     Memory,
     /// The disk failed.
     Failed,

@@ -5,7 +5,7 @@ ghost use Rattle.cm_outer.specs.Passes.{Told, HasKeyCause, GivesKey, PassesKeys}
 use arrayvec::ArrayVec;
 use thiserror::Error;
 
-/// How many keys a pass gives at most.
+/// How many keys a pass yields at most.
 pub const MAX_KEYS: u32 = 16_777_216;
 
 /// How many bytes a key has at most.
@@ -30,30 +30,30 @@ pub enum KeyFault {
 
 /// A list of keys that can be passed again.
 pub trait KeyPass {
-    /// The keys with their lines and the fault at their end, where it tells them.
+    /// The keys with their lines and the fault at their end, if they are known.
     ghost told: { Self → Option Told };
 
-    /// How many keys it has given since the last rewind.
+    /// How many keys it has yielded since the last rewind.
     ghost place: { Self → ℕ };
 
-    /// The line of the key last given, and 0 before the first.
+    /// The line of the key yielded last, and 0 before the first.
     ghost last: { Self → ℕ };
 
-    /// No call has refused since the last rewind.
+    /// No call has failed since the last rewind.
     ghost usable: { Self → Bool };
 
     /// How often what it reads from has failed.
     ghost faults: { Self → ℕ };
 
-    /// The next key is at hand, and has these bytes.
+    /// The next key is buffered, and has these bytes.
     ghost stands: { Self → List ℕ → Type 0 };
 
-    /// False from a call that refused until a rewind that doesn't.
+    /// False from a call that failed until a rewind that doesn't.
     fn usable(&self) -> bool
         ensures usable { result ≡ usable self.now };
 
-    /// Puts the next key into the buffer and answers true, or answers false at the end. Refuses with `Read` exactly
-    /// where the count of faults rises, and with another fault where the keys have come to it.
+    /// Puts the next key into the buffer and returns true, or returns false at the end. Fails with `Read` exactly if the count of
+    /// faults rises, and with another fault if the keys have come to it.
     fn next(&mut self, key: &mut KeyBuf) -> Result<bool, KeyFault>
         requires usable { IsTrue (usable self.old) }
         ensures told { told self.new ≡ told self.old }
@@ -66,14 +66,13 @@ pub trait KeyPass {
         ensures few { place self.new ≤ MAX_KEYS }
         ensures rises { IfOk result (λ more. more ≡ true → last self.old < last self.new) }
 
-        // The end and a refusal leave the place and the line as they are.
+        // The end and a failure leave the place and the line as they are.
         ensures ended { IfOk result (λ more. more ≡ false → last self.new ≡ last self.old) }
         ensures refused { OnErr result ((place self.new ≡ place self.old) × (last self.new ≡ last self.old)) }
         ensures usable { OnOk result (usable self.new ≡ true) }
         ensures unusable { OnErr result (usable self.new ≡ false) };
 
-    /// The next key with its line, where it is at hand: no read can fail before it. None says that it isn't, and nothing of what
-    /// comes.
+    /// The next key with its line, if it is buffered: no read can fail before it. None says that it isn't, and nothing of what comes.
     fn peek(&self) -> Option<(u32, &[u8])>
         requires usable { IsTrue (usable self.now) }
         ensures gives { IfSome result (λ key. ForSome (told self.now) (λ told.
@@ -82,8 +81,8 @@ pub trait KeyPass {
         ensures stands { IfSome result (λ key. stands self.now key.1.now) }
         ensures none_stands { IfNone result ((key : List ℕ) → stands self.now key → ⊥) };
 
-    /// Passes the next key without giving it, where it is at hand, as `peek` tells, and has so many bytes. No read can fail then,
-    /// and it does what `next` does that answers true.
+    /// Passes the next key without returning it. The key is buffered, as `peek` shows, and has `len` bytes. No read can fail then, and
+    /// it does what a `next` that returns true does.
     fn pass(&mut self, len: usize)
         requires usable { IsTrue (usable self.old) }
         requires stands { (key : List ℕ) × stands self.old key × (length key ≡ len) }
@@ -96,8 +95,8 @@ pub trait KeyPass {
         ensures rises { last self.old < last self.new }
         ensures usable { usable self.new ≡ true };
 
-    /// Passes some of the next keys without giving them, where they are at hand, and answers how many. 0 says nothing of what
-    /// comes: nothing has changed then, and `next` tells.
+    /// Passes some of the next keys without returning them, if they are buffered, and returns how many. 0 says nothing of what comes:
+    /// nothing has changed then, and `next` shows what comes.
     fn skip(&mut self) -> u32
         requires usable { IsTrue (usable self.old) }
         ensures told { told self.new ≡ told self.old }
@@ -112,7 +111,7 @@ pub trait KeyPass {
         0
     }
 
-    /// Goes back to the start. Refuses with `Read` alone, exactly where the count of faults rises.
+    /// Goes back to the start. Fails only with `Read`, exactly if the count of faults rises.
     fn rewind(&mut self) -> Result<(), KeyFault>
         ensures told { told self.new ≡ told self.old }
         ensures start { OnOk result ((place self.new ≡ 0) × (last self.new ≡ 0)) }
@@ -122,7 +121,7 @@ pub trait KeyPass {
         ensures usable { OnOk result (usable self.new ≡ true) }
         ensures unusable { OnErr result (usable self.new ≡ false) };
 
-    /// The line of the key last given, from 1.
+    /// The line of the key yielded last, from 1.
     fn line(&self) -> u32
         requires given { 0 < place self.now }
         ensures last { result ≡ last self.now };

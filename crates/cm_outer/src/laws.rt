@@ -3,7 +3,7 @@ ghost use Rattle.std.specs.Prelude.{◌≡◌};
 
 use crate::{MAX_KEY_LEN, MAX_KEYS};
 
-/// A pass gives at most 2^24 keys.
+/// A pass yields at most 2^24 keys.
 pub fn max_keys()
     ensures { MAX_KEYS ≡ 16777216 }
 {}

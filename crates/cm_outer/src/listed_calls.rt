@@ -6,7 +6,7 @@ ghost use Rattle.cm_outer.specs.DiskCalls.{numbers};
 use crate::DiskCall;
 use std::alloc::{AllocError, Global};
 
-/// Counts one more call of a kind, and says whether it is listed.
+/// Counts one more call of a kind, and returns whether it is listed.
 pub(crate) fn next_is_listed(listed: &[(DiskCall, u64)], kind: DiskCall, calls: &mut u64) -> bool
     ensures listed { IsTrue result ↔ Contains listed.now (kind, calls.old) }
     ensures count { calls.new ≡ counted calls.old }

@@ -17,9 +17,9 @@ use crate::{Disk, DiskCall, DiskFault, Failed, MemSink, MemSource, MemSpill};
 use std::alloc::{AllocError, Global};
 use std::marker::Model;
 
-/// Files in memory. Each writer and each spill has room for so many bytes. An `open` of a path that isn't there fails, and so
-/// does each listed call. A call is listed by its kind and its number among the calls of that kind, from 0; one that fails, or
-/// that has too little memory, counts too.
+/// Files in memory. Each writer and each spill has room for `room` bytes. An `open` of a path that isn't there fails, and so does each
+/// listed call. A call is listed by its kind and its number among the calls of that kind, from 0; one that fails counts too, also if
+/// memory ran out.
 #[derive(Drop)]
 pub struct MemDisk {
     alloc: Global,
@@ -74,9 +74,9 @@ impl MemDisk {
         }
     }
 
-    /// Lists one more call that fails: the call with this number, from 0, among the calls of its kind. `Open`, `Create`,
-    /// `Close` and `Spill` are the disk's own calls. The other kinds are counted for each reader, writer or spill by itself,
-    /// and fail in each that is made from now on. Too little memory leaves the list as before.
+    /// Lists one more call that fails: the call with this number, from 0, among the calls of its kind. `Open`, `Create`, `Close` and
+    /// `Spill` are the disk's own calls. The other kinds are counted for each reader, writer or spill by itself, and fail in each that
+    /// is made from now on. If memory runs out, the list stays as before.
     pub fn fail(&mut self, call: DiskCall, number: u64) -> Result<(), AllocError>
         ensures ok { OnOk result (self.new ≡ record self.old {
           calls = record self.old.calls { listed = self.old.calls.listed ++ (call, number) ∷ [] };
@@ -101,7 +101,7 @@ impl MemDisk {
         self.write_faults
     }
 
-    /// Makes the path hold these bytes, whatever the room. Too little memory leaves the files as before.
+    /// Makes the path hold these bytes, whatever the room. If memory runs out, the files stay as before.
     pub fn put(&mut self, path: &str, bytes: &[u8]) -> Result<(), AllocError>
         ensures ok { OnOk result (self.new ≡ record self.old {
           files = maps.insert self.old.files path.now bytes.now;
@@ -145,7 +145,7 @@ impl Disk for MemDisk {
         ensures reader { IfOk result (λ reader. ForSome (Some self.old.files) (λ files.
             Opens files path.now (Some reader.bytes) reader.place)) }
 
-        // It fails exactly where it is listed or the path isn't there. The reader fails in its listed calls.
+        // Returns `Failed` exactly if it is listed or the path isn't there. The reader fails in its listed calls.
         ensures fails { (result ≡ Err DiskFault.Failed) ↔ (Contains self.old.calls.listed (DiskCall.Open, self.old.calls.opens)
             ⊎ (file_at self.old.files path.now ≡ None)) }
         ensures listed { IfOk result (λ reader. reader ≡ new_source reader.bytes
@@ -193,7 +193,7 @@ impl Disk for MemDisk {
         ensures empty { IfOk result (λ writer. ForSome (Some writer.bytes) (λ bytes. bytes ≡ [])) }
         ensures writer { IfOk result (λ writer. ForSome (Some self.old.files) (λ _. Some writer.bytes ≡ Some [])) }
 
-        // It fails exactly where it is listed, and then the files stay. The writer has the room, and fails in its listed calls.
+        // Returns `Failed` exactly if it is listed, and then the files stay. The writer has the room, and fails in its listed calls.
         ensures fails { (result ≡ Err DiskFault.Failed) ↔ Contains self.old.calls.listed (DiskCall.Create, self.old.calls.creates) }
         ensures listed { IfOk result (λ writer. writer ≡ new_sink self.old.room (numbers DiskCall.Write self.old.calls.listed)) }
         ensures ok { OnOk result (self.new ≡ record self.old {
@@ -222,7 +222,7 @@ impl Disk for MemDisk {
         ensures read_faults { self.new.read_faults ≡ self.old.read_faults }
         ensures cause { HasCloseCause writer.faults self.old.write_faults self.new.write_faults result }
 
-        // It fails exactly where it is listed, and keeps what was written all the same.
+        // Fails exactly if it is listed, and keeps what was written all the same.
         ensures fails { IsErr result ↔ Contains self.old.calls.listed (DiskCall.Close, self.old.calls.closes) }
         ensures state { self.new ≡ record self.old {
           files = maps.insert self.old.files path.now writer.bytes;
@@ -250,7 +250,7 @@ impl Disk for MemDisk {
         ensures empty { IfOk result (λ spill. ForSome (Some spill.appended.bytes) (λ bytes. bytes ≡ [])) }
         ensures told { IfOk result (λ spill. ForSome (Some self.old.files) (λ _. Some spill.appended.bytes ≡ Some [])) }
 
-        // It fails exactly where it is listed. The spill has the room, and fails in its listed calls.
+        // Returns `Failed` exactly if it is listed. The spill has the room, and fails in its listed calls.
         ensures fails { (result ≡ Err DiskFault.Failed) ↔ Contains self.old.calls.listed (DiskCall.Spill, self.old.calls.spills) }
         ensures listed { IfOk result (λ spill. spill ≡ new_spill self.old.room
             (numbers DiskCall.Append self.old.calls.listed) (numbers DiskCall.ReadAt self.old.calls.listed)) }

@@ -1,4 +1,4 @@
-// A sink in memory: nothing waits there.
+// A sink in memory, without a buffer.
 ghost use Rattle.std.specs.Prelude.{◌≡◌, ◌≤◌, ◌<◌, ◌+◌, ◌-◌, ◌++◌, ◌↔◌, ◌⊎◌, IsTrue, IsErr, IfOk, OnOk, OnErr, Contains, Some, length, take};
 ghost use Rattle.cm_outer.specs.Causes.{HasCause, Rose};
 ghost use Rattle.cm_outer.specs.Writing.{Writes};
@@ -9,7 +9,7 @@ use crate::{Failed, Sink};
 use std::alloc::{AllocError, Global};
 use std::marker::Model;
 
-/// Memory with room for so many bytes. A write fails where its piece doesn't fit, and in the listed calls, counted from 0.
+/// Memory with room for `room` bytes. A write fails if its piece doesn't fit, and in the listed calls, counted from 0.
 #[derive(Drop)]
 pub struct MemSink {
     bytes: Vec<u8>,
@@ -92,7 +92,7 @@ impl Sink for MemSink {
         ensures bytes { Writes (Some self.old.bytes) (Some self.new.bytes) piece.now result }
         ensures cause { HasCause self.old.faults self.new.faults result }
 
-        // It fails in the listed calls, and then takes nothing, and where the piece doesn't fit, and then takes what does.
+        // Fails in the listed calls, and then takes nothing, and if the piece doesn't fit, and then takes what does.
         ensures fails { IsErr result ↔ (Contains self.old.fails self.old.writes
             ⊎ (self.old.room < length self.old.bytes + length piece.now)) }
         ensures ok { OnOk result (self.new ≡ record self.old {

@@ -9,7 +9,7 @@ ghost use Rattle.cm_outer.specs.MemSources.{new_source};
 use crate::{Failed, Source};
 use std::marker::Model;
 
-/// Bytes in memory, whose reads and rewinds fail in the listed calls alone, counted from 0.
+/// Bytes in memory. Reads and rewinds fail only in the listed calls, counted from 0.
 #[derive(Drop)]
 pub struct MemSource {
     bytes: Vec<u8>,
@@ -78,7 +78,7 @@ impl Source for MemSource {
             Gives bytes self.old.place self.new.place (length buf.old) n buf.new)) }
         ensures cause { HasCause self.old.faults self.new.faults result }
 
-        // It fails in the listed calls alone, and else gives as many bytes as there are and fit.
+        // Fails only in the listed calls. Else it reads as many bytes as are left and fit.
         ensures fails { IsErr result ↔ Contains self.old.read_fails self.old.reads }
         ensures count { IfOk result (λ n. n ≡ min (length self.old.bytes - self.old.place) (length buf.old)) }
         ensures bytes { IfOk result (λ n. buf.new ≡ take n (drop self.old.place self.old.bytes) ++ drop n buf.old) }
@@ -110,7 +110,7 @@ impl Source for MemSource {
         ensures start { OnOk result (self.new.place ≡ 0) }
         ensures cause { HasCause self.old.faults self.new.faults result }
 
-        // It fails in the listed calls alone, and then stays where it is.
+        // Fails only in the listed calls, and then stays where it is.
         ensures fails { IsErr result ↔ Contains self.old.rewind_fails self.old.rewinds }
         ensures ok { OnOk result (self.new ≡ record self.old { place = 0; rewinds = counted self.old.rewinds }) }
         ensures err { OnErr result (self.new ≡ record self.old {

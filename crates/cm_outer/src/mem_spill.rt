@@ -11,8 +11,8 @@ use crate::{Failed, MemSink, Sink, Spill};
 use std::alloc::{AllocError, Global};
 use std::marker::Model;
 
-/// Memory with room for so many bytes, which are read from any place. An append fails where its piece doesn't fit; appends and
-/// reads fail in the listed calls, each counted from 0.
+/// Memory with room for `room` bytes, which are read from any place. An append fails if its piece doesn't fit; appends and reads fail
+/// in the listed calls, each counted from 0.
 #[derive(Drop)]
 pub struct MemSpill {
     appended: MemSink,
@@ -69,7 +69,7 @@ impl Spill for MemSpill {
         ensures bytes { Writes (Some self.old.appended.bytes) (Some self.new.appended.bytes) piece.now result }
         ensures cause { HasCause self.old.appended.faults self.new.appended.faults result }
 
-        // It fails in the listed calls, and then takes nothing, and where the piece doesn't fit, and then takes what does.
+        // Fails in the listed calls, and then takes nothing, and if the piece doesn't fit, and then takes what does.
         ensures fails { IsErr result ↔ (Contains self.old.appended.fails self.old.appended.writes
             ⊎ (self.old.appended.room < length self.old.appended.bytes + length piece.now)) }
         ensures ok { OnOk result (self.new ≡ record self.old {
@@ -101,7 +101,7 @@ impl Spill for MemSpill {
         ensures gives { IfOk result (λ n. ForSome (Some self.old.appended.bytes) (λ bytes. GivesAt bytes offset (length buf.old) n buf.new)) }
         ensures cause { HasCause self.old.appended.faults self.new.appended.faults result }
 
-        // It fails in the listed calls alone, and else gives as many bytes as there are and fit.
+        // Fails only in the listed calls. Else it reads as many bytes as are left and fit.
         ensures fails { IsErr result ↔ Contains self.old.read_fails self.old.reads }
         ensures count { IfOk result (λ n. n ≡ min (length self.old.appended.bytes - offset) (length buf.old)) }
         ensures bytes { IfOk result (λ n. buf.new ≡ take n (drop offset self.old.appended.bytes) ++ drop n buf.old) }

@@ -28,7 +28,7 @@ impl Notes {
         Notes { failed: false }
     }
 
-    /// Writes a piece, unless a note has failed before. Where the sink fails, this one has.
+    /// Writes a piece, unless a note has failed before. If the sink fails, this note has failed.
     pub fn note<E: Sink>(&mut self, sink: &mut E, piece: &[u8])
         ensures noted { Noted self.old self.new (E.written sink.old) (E.written sink.new) (E.faults sink.old) (E.faults sink.new)
             piece.now }
@@ -38,7 +38,7 @@ impl Notes {
         }
     }
 
-    /// Writes the pieces of one message and sends them on, unless a note has failed before. Where the sink fails, this one has.
+    /// Writes the pieces of one message and flushes the sink, unless a note has failed before. If the sink fails, this note has failed.
     pub fn note_pieces<E: Sink>(&mut self, sink: &mut E, pieces: &[&[u8]])
         ensures noted { Noted self.old self.new (E.written sink.old) (E.written sink.new) (E.faults sink.old) (E.faults sink.new)
             (joined (map (λ piece. piece.now) pieces.now)) }
@@ -50,7 +50,7 @@ impl Notes {
     }
 }
 
-/// Writes the pieces and sends them on. Fails exactly where the sink does, which has then taken a prefix of them all.
+/// Writes the pieces and flushes the sink. Fails exactly if the sink does, which has then taken a prefix of them all.
 fn write_message<E: Sink>(sink: &mut E, pieces: &[&[u8]]) -> Result<(), Failed>
     ensures bytes { Writes (E.written sink.old) (E.written sink.new) (joined (map (λ piece. piece.now) pieces.now)) result }
     ensures sent { OnOk result (E.waits sink.new ≡ 0) }

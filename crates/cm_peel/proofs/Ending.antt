@@ -70,7 +70,7 @@ pub length-map_numbers : (f : ℕ → ℕ) (b n : ℕ) → length (map f (number
 length-map_numbers f b zero = refl
 length-map_numbers f b (suc n) = ap suc (length-map_numbers f (suc b) n)
 
--- what is left then is the rest
+-- what is left then is the residual graph
 pub rest_now : (edges : List (List ℕ)) (t : ℕ) → t ≤ length edges → removed_after edges t ≡ [] → rest_of edges ≡ left_after edges (suc t)
 rest_now edges t few none = rest_is edges t few none ∙ sym (stable_stays edges t (stable_at edges t none))
 

@@ -33,7 +33,7 @@ kept_count p e = ap length (kept_next p e) ∙ (length-append (filter p (numbers
   go true = refl
   go false = refl
 
--- the first position that passes lies within just where one passes
+-- the first position that passes lies within exactly if one passes
 none_before : (p : ℕ → Bool) (xs : List ℕ) → list_any p xs ≡ false → position_or_len p xs ≡ length xs
 none_before p [] h = refl
 none_before p (x ∷ xs) h =

@@ -258,7 +258,7 @@ pivot_touches edges e v = slot_touches v (halves_where (λ j. eqb j (pivot_of ed
 abbrev pub IsLive : List (List ℕ) → ℕ → ℕ → Type 0
 IsLive edges t v = (e : ℕ) → e < length edges → is_left edges t e ≡ false → pivot_touches edges e v ≡ false
 
--- an edge touches its pivot's vertex, which has degree one where the edge's round begins
+-- an edge touches its pivot's vertex, which has degree one when the edge's round begins
 pub pivot_found : (edges : List (List ℕ)) (e v : ℕ) → pivot_touches edges e v ≡ true → (touches v (ends_at edges e) ≡ true) × (degree_in edges (left_after edges (level_of edges e - 1)) v ≡ 1)
 pivot_found edges e v h =
     let r = where_found (λ j. eqb j (pivot_of edges e)) 0 v (ends_at edges e) h in

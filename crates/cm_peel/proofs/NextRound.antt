@@ -118,7 +118,7 @@ next_sorted k graph t l next bytes xs r small are moved up =
     (λ e m. (next_members graph t l next a r.inside r.members e).0 (same e ∙ m))
     (λ e m. sym (same e) ∙ (next_members graph t l next a r.inside r.members e).1 m)
 
--- what a round removes is not left after it, and the rest of what was left before is
+-- what a round removes is not left after it, and all else that was left before is
 pub gone_next : (edges : List (List ℕ)) (t e : ℕ) → e < length edges → (has (removed_after edges t) e || not (is_left edges t e)) ≡ not (is_left edges (suc t) e)
 gone_next edges t e h =
     let left : has (left_after edges t) e ≡ is_left edges t e = has_left edges t e ∙ ap (λ b. b && is_left edges t e) (has_place edges e h) in

@@ -20,7 +20,7 @@ rises_sorted xs up apart k h =
       is_less : (x y : ℕ) → x < y → is_lt (nat_cmp x y) ≡ true
       is_less x y h = rw (lt-ltb x y h) refl
 
--- what a write to the front of a list leaves there, and how long the list is
+-- what a write to the start of a list leaves there, and how long the list is
 pub front_written : {X : Type 0} (new old : List X) (n : ℕ) → length new ≡ n → take n (new ++ drop n old) ≡ new
 front_written new old n long = take-append-le n new (drop n old) (omega arith) ∙ take_all n new (omega arith)
 

@@ -39,7 +39,7 @@ any_not_all d e (x ∷ xs) same some = go (cases_lt (d x) 2) (same x (or_left _ 
       let g : leb 2 (e x) ≡ true = le-leb 2 (e x) (omega (arith, at)) in
       ap (λ b. b || list_any (λ v. eqb (d v) 1) xs) f ∙ (ih ∙ sym (ap (λ b. not (b && list_all (λ v. leb 2 (e v)) xs)) g))
 
--- an edge that is left is picked exactly where the next round removes it
+-- an edge that is left is picked exactly if the next round removes it
 pub picked_is : (graph : Graph) (t : ℕ) (l : Links) (e : ℕ) → AreLinked graph (is_half_left graph.edges t) l → has (left_after graph.edges t) e ≡ true → is_picked l graph.edges e ≡ not (is_held graph.edges (left_after graph.edges t) e)
 picked_is graph t l e a m =
     let here = is_left_from graph.edges t e m in

@@ -86,7 +86,7 @@ untaken_high bytes e h = elim (cases_lt (get_or bytes e 0) 8) [
   | inr high ↦ high
 ]
 
--- what is marked anew is taken
+-- what is newly marked is taken
 fresh_taken : (t : ℕ) (places bytes bytes' fresh : List ℕ) (e : ℕ) → AreTaken t places bytes bytes' [] fresh → has fresh e ≡ true → e < length bytes → (8 ≤ get_or bytes e 0) × (is_taken bytes' e ≡ true)
 fresh_taken t places bytes bytes' fresh e r m h =
     let both = and_parts (is_listed places e) _ (sym (ap (λ (xs : List ℕ). has xs e) r.next_is ∙ r.members e) ∙ m) in

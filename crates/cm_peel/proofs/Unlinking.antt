@@ -166,7 +166,7 @@ same_degree graph t gone l m halves v short u none =
                 let vertex : f.0.vertex ≡ v = sym known.2 ∙ (ap (λ x. get_or (ends_at edges x) (f.0.place % 4) 0) edge ∙ (ap (λ x. get_or (ends_at edges e) x 0) position ∙ is)) in
                 absurd (both_ways _ none (ap (has (map vertex_in halves)) (sym vertex) ∙ f.3 vertex_in))
 
--- an end of an edge that is left is listed where it gets degree one
+-- an end of an edge that is left is listed if it gets degree one
 pub newly_listed : (graph : Graph) (t : ℕ) (gone : List ℕ) (l m : Links) (halves : List Half) (e v : ℕ) → AreShort graph.edges → AreRemoved graph t gone l m halves → e < length graph.edges → is_left graph.edges (suc t) e ≡ true → touches v (ends_at graph.edges e) ≡ true → degree_of l v ≢ 1 → degree_of m v ≡ 1
     → has (places_of m halves) (4 * e + position_or_len (λ u. eqb u v) (ends_at graph.edges e)) ≡ true
 newly_listed graph t gone l m halves e v short u h here touching more one = go (cases_Bool (has (map vertex_in halves) v)) where
@@ -183,7 +183,7 @@ newly_listed graph t gone l m halves e v short u h here touching more one = go (
       let place : place_of m v ≡ 4 * e + position_or_len (λ w. eqb w v) (ends_at edges e) = place_is graph q m v e u.after one h (kept_whole edges t (gone ++ map place_in halves) e short u.all_others h here) touching in
       subst (λ x. has (places_of m halves) x ≡ true) place (has_map_from (place_of m) (filter (is_free m) (map vertex_in halves)) v kept)
 
--- a place that is listed is that of an edge that was left where the round began
+-- a place that is listed is that of an edge that was left when the round began
 pub freed_is : (k : ℕ) (graph : Graph) (t : ℕ) (gone : List ℕ) (l m : Links) (halves : List Half) (x : ℕ) → k ≤ 3 → AreEdges k graph.vertices graph.edges → AreRemoved graph t gone l m halves → has (places_of m halves) x ≡ true
     → IsFreed graph (is_half_kept graph.edges t (gone ++ map place_in halves)) m x × (is_left graph.edges t (x / 4) ≡ true)
 freed_is k graph t gone l m halves x small are u listed = (freed.0, left (cases_Bool (is_left graph.edges t (x / 4)))) where

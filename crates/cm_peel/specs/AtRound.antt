@@ -67,7 +67,7 @@ least tag [] e byte = byte
 least tag (q ∷ places) e byte = if q / 4 == e then min (tag + q % 4) (least tag places e byte) else least tag places e byte
 
 -- the edges of some places are taken for the round after t rounds and one more: an edge that was not taken stands at the end of the
--- list now, and each gets the least byte, but for those of the round before, which stay
+-- list now, and each gets the least byte, except those of the round before, which stay
 pub record AreTaken (t : ℕ) (places bytes bytes' next next' : List ℕ) : Type 0 where
   pub fresh : List ℕ
   pub next_is : next' ≡ next ++ fresh

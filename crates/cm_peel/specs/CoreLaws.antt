@@ -1,4 +1,4 @@
--- Facts of what the rounds leave: it is the greatest closed set. They are proved here, and no contract needs them.
+-- Facts of the residual graph: it is the greatest closed set. They are proved here, and no contract needs them.
 use Rattle.std.proofs.Common.{◌≡◌, ◌⊎◌, ℕ, zero, suc, ◌+◌, ◌<◌, ◌≤◌, Bool, true, false, cond, ◌&&◌, List, [], ◌∷◌, length, get_or, sym, refl, ap, ◌∙◌, subst, inl, inr, arith, leb}
 use Rattle.std.specs.List.{Contains, filter, All, list_all}
 use Rattle.std.proofs.lemmas.Bool.{cases_Bool, false≢true, and_parts, and_from, leb-true, le-leb}
@@ -133,7 +133,7 @@ rest_is_closed edges k d h j c l =
     let held : is_held edges rest (get_or rest k d) ≡ true = AllPass-from_list_all (is_held edges rest) rest (rest_is_stable edges) k d h in
     leb-true 2 _ (AllPass-from_list_all (λ v. leb 2 (degree_in edges rest v)) (ends_at edges (get_or rest k d)) held j c l)
 
--- what peeling leaves is the core
+-- the residual graph is the core
 pub rest_is_core : (edges : List (List ℕ)) → IsCore edges (rest_of edges)
 rest_is_core edges = record {
   rising = (rest_are_places edges).0;
@@ -146,7 +146,7 @@ rest_is_core edges = record {
       Contains-from_has (rest_of edges) e (ap (λ s. has s e) (left_after_is edges n) ∙ kept);
 }
 
--- peeling leaves nothing exactly where the core is empty
+-- the residual graph is empty exactly if the core is
 pub empty_core : (edges : List (List ℕ)) → rest_of edges ≡ [] → HasEmptyCore edges
 empty_core edges none = subst (IsCore edges) none (rest_is_core edges)
 

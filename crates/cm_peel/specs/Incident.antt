@@ -11,7 +11,7 @@ abbrev pub halves_where : (ℕ → Bool) → ℕ → List ℕ → List (Option �
 halves_where test j [] = []
 halves_where test j (v ∷ vs) = (if test j then Some v else None) ∷ halves_where test (suc j) vs
 
--- the half-edge of edge e at position j is there just where both pass the test
+-- the half-edge of edge e at position j is there exactly if both pass the test
 pub record AreLinked (graph : Graph) (test : ℕ → ℕ → Bool) (l : Links) : Type 0 where
   pub vertices : l.vertices ≡ graph.vertices
   pub many : length l.slots ≡ length graph.edges
@@ -29,11 +29,11 @@ is_picked l edges e = list_any (is_free l) (ends_at edges e)
 abbrev pub free_position : Links → List (List ℕ) → ℕ → ℕ
 free_position l edges e = position_or_len (is_free l) (ends_at edges e)
 
--- that position, or 8 where no end of the k has degree one
+-- that position, or 8 if no end of the k has degree one
 abbrev pub first_byte : ℕ → Links → List (List ℕ) → ℕ → ℕ
 first_byte k l edges e = if nat_lt (free_position l edges e) k then free_position l edges e else 8
 
--- the half-edges of edge e, whose ends are numbered from j on, but for that at position p
+-- the half-edges of edge e, whose ends are numbered from j on, except that at position p
 abbrev pub other_halves : ℕ → ℕ → ℕ → List ℕ → List Half
 other_halves e p j [] = []
 other_halves e p j (v ∷ vs) = (if j == p then [] else record { vertex = v; place = 4 * e + j } ∷ []) ++ other_halves e p (suc j) vs

@@ -1,4 +1,4 @@
--- What peeling gives.
+-- The result of peeling.
 use Rattle.std.specs.Prelude.{◌≡◌, ℕ, ◌%◌, ◌<◌, Bool, not, nat_lt, List, length, map, filter, slice_index}
 use Rattle.cm_spec.specs.Lists.{numbers_from}
 use Rattle.cm_spec.specs.Graph.{places}
@@ -10,7 +10,7 @@ pub record Peeling : Type 0 where
   pub pivots : List ℕ
   pub rest : List ℕ
 
--- the removed edges in order, the pivot of each removed edge, and what is left
+-- the removed edges in order, the pivot of each removed edge, and the residual graph
 pub record IsPeelingOf (edges : List (List ℕ)) (p : Peeling) : Type 0 where
   pub order : p.order ≡ order_of edges
   pub pivot : (e : ℕ) → e < length edges → 0 < level_of edges e → slice_index p.pivots e ≡ pivot_of edges e

@@ -12,7 +12,7 @@ use Rattle.cm_peel.specs.Peeling.{is_taken}
 abbrev pub marked_of : List ℕ → List ℕ
 marked_of marks = filter (is_marked marks) (numbers_from 0 (64 * length marks))
 
--- the edges of some places are taken as `AreTaken` says, and those that are new, so many, are marked
+-- the edges of some places are taken as `AreTaken` says, and those that are new, `count` of them, are marked
 pub record AreMarked (t : ℕ) (places bytes bytes' marks marks' : List ℕ) (count : ℕ) : Type 0 where
   pub fresh : List ℕ
   pub taken : AreTaken t places bytes bytes' [] fresh
@@ -31,7 +31,7 @@ put_freed blocks each freed b c q = slice_set (slice_set freed (blocks + b * eac
 abbrev pub AreOpen : ℕ → ℕ → List ℕ → Type 0
 AreOpen blocks each freed = (b : ℕ) → b < blocks → slice_index freed b < each
 
--- the places in `waiting`, of so many edges, wait for their blocks, each of which has 131,072 edges
+-- the places in `waiting`, of `many` edges, wait for their blocks, each of which has 131,072 edges
 pub record AreWaiting (many blocks each : ℕ) (freed waiting : List ℕ) : Type 0 where
   pub within : blocks + blocks * each ≤ length freed
   pub few : length freed ≤ 67109056

@@ -1,4 +1,4 @@
-//! A large round is worked on by blocks of vertices: what is read and written for one block lies in the second cache.
+//! Large rounds by blocks of vertices: what is read and written for one block fits in the L2 cache.
 ghost use Rattle.std.specs.Prelude.{◌≡◌, ◌≢◌, ℕ, true, false, List, [], suc, sum, ◌+◌, ◌*◌, ◌/◌, ◌<◌, ◌≤◌, ◌++◌, length, All, map, slice_index, slice_set, take};
 ghost use Rattle.std.specs.Ordering.{nat_cmp};
 ghost use Rattle.std.specs.List.Sorted.{IsSorted};
@@ -20,19 +20,19 @@ use std::sync::ledger::Ledger;
 /// How many vertices a block has.
 const BLOCK: usize = 65536;
 
-/// No blocks are made for so many vertices or fewer.
+/// No blocks are made for this many vertices or fewer.
 const FEW: usize = 2097152;
 
-/// A round goes by blocks if it removes at least so many half-edges for each block, and there is room for so many.
+/// A round goes by blocks if it removes at least this many half-edges for each block, and there is room for this many of each.
 const LEAST: usize = 64;
 
 /// How many half-edges of a block are removed together at most.
 const PART: usize = 256;
 
-/// So many numbers of the room suffice that a freed place can wait for each block of edges.
+/// This many numbers of the room suffice for a freed place to wait for each block of edges.
 const SPACE: usize = 8192;
 
-/// How many blocks so many vertices have: one for each 65,536 of them, or none for 2,097,152 vertices or fewer.
+/// How many blocks these vertices have: one for each 65,536 of them, or none for 2,097,152 vertices or fewer.
 pub(crate) fn count_blocks(vertices: usize) -> usize
     ensures none { vertices ≤ 2097152 → result ≡ 0 }
     ensures all { 2097152 < vertices → vertices ≤ 65536 * result }
@@ -45,8 +45,8 @@ pub(crate) fn count_blocks(vertices: usize) -> usize
     }
 }
 
-/// Whether a round that removes so many half-edges goes by blocks. It does if there are blocks, and at least 64 half-edges for each block, and room for
-/// 64 of each, and for the places that this frees. `room` counts numbers, of which a half-edge takes two.
+/// Whether a round that removes `halves` half-edges goes by blocks. It does if there are blocks, at least 64 half-edges for each block,
+/// and room for 64 of each and for the places that this frees. `room` counts numbers, of which a half-edge takes two.
 pub(crate) fn is_by_blocks(blocks: usize, halves: usize, room: usize) -> bool
     ensures so { result ≡ true → (0 < blocks) × (64 * blocks ≤ halves) × (128 * blocks ≤ room) }
     ensures space { result ≡ true → 8192 ≤ room }
@@ -73,7 +73,7 @@ fn read_pairs(pairs: &[u32], halves: &mut [Half])
     }
 }
 
-/// Removes the half-edges of these pairs, takes the edges that this frees, marks them, and says how many are new.
+/// Removes the half-edges of these pairs, takes the edges that this frees, and marks them. Returns how many are new.
 fn empty<const K: usize, I: Incidence<K>, L: Ledger>(
     edges: &Edges<K>,
     incidence: &mut I,
@@ -114,7 +114,7 @@ fn empty<const K: usize, I: Incidence<K>, L: Ledger>(
     count
 }
 
-/// Writes a half-edge behind those that wait for its block, whose part of the room isn't full, and says which block that is.
+/// Writes a half-edge behind those that wait for its block, and returns the block. Its part of the room isn't full.
 fn put(half: Half, size: usize, room: &mut [u32], counts: &mut [u32]) -> usize
     requires within { length counts.old * size ≤ length room.old }
     requires few { length room.old ≤ 67109056 }
@@ -132,7 +132,7 @@ fn put(half: Half, size: usize, room: &mut [u32], counts: &mut [u32]) -> usize
     b
 }
 
-/// Empties a block: removes the half-edges that wait for it, and says how many edges were marked.
+/// Empties a block: removes the half-edges that wait for it. Returns how many edges were marked.
 fn empty_block<const K: usize, I: Incidence<K>, L: Ledger>(
     edges: &Edges<K>,
     incidence: &mut I,
@@ -163,7 +163,7 @@ fn empty_block<const K: usize, I: Incidence<K>, L: Ledger>(
     empty(edges, incidence, pairs, plan, bytes, freed, marks, steps)
 }
 
-/// Empties a block if its part is full, and says how many edges were marked.
+/// Empties a block if its part is full. Returns how many edges were marked.
 fn settle<const K: usize, I: Incidence<K>, L: Ledger>(
     edges: &Edges<K>,
     incidence: &mut I,
@@ -198,8 +198,8 @@ fn settle<const K: usize, I: Incidence<K>, L: Ledger>(
     )
 }
 
-/// Lets these half-edges wait in the parts of their blocks, of `size` numbers each, empties a block whose part is full, and says how many edges
-/// were marked.
+/// Lets these half-edges wait in the parts of their blocks, of `size` numbers each, and empties each block whose part is full. Returns
+/// how many edges were marked.
 fn wait<const K: usize, I: Incidence<K>, L: Ledger>(
     edges: &Edges<K>,
     incidence: &mut I,
@@ -238,7 +238,7 @@ fn wait<const K: usize, I: Incidence<K>, L: Ledger>(
     count
 }
 
-/// Empties all blocks, and says how many edges were marked.
+/// Empties all blocks. Returns how many edges were marked.
 fn empty_all<const K: usize, I: Incidence<K>, L: Ledger>(
     edges: &Edges<K>,
     incidence: &mut I,
@@ -272,7 +272,8 @@ fn empty_all<const K: usize, I: Incidence<K>, L: Ledger>(
     count
 }
 
-/// Lets the half-edges of a round wait but for those of its pivots, empties each block whose part is full, and says how many edges were marked.
+/// Lets the half-edges of a round wait, except those of its pivots, and empties each block whose part is full. Returns how many edges
+/// were marked.
 fn wait_round<const K: usize, I: Incidence<K>, L: Ledger>(
     edges: &Edges<K>,
     incidence: &mut I,
@@ -325,8 +326,8 @@ fn wait_round<const K: usize, I: Incidence<K>, L: Ledger>(
     count
 }
 
-/// Removes the half-edges of a round but for those of its pivots, takes and marks the edges of the next one, and says how many they are. Nothing
-/// waits, before and after.
+/// Removes the half-edges of a round, except those of its pivots, and takes and marks the edges of the next round. Returns how many
+/// these are. Nothing waits before or after.
 fn unlink_marked<const K: usize, I: Incidence<K>, L: Ledger>(
     edges: &Edges<K>,
     incidence: &mut I,
@@ -363,7 +364,8 @@ fn unlink_marked<const K: usize, I: Incidence<K>, L: Ledger>(
     before + last + freed::take_all(plan, bytes, freed, marks)
 }
 
-/// How a round by blocks uses its room: `long` numbers for the half-edges of so many blocks of vertices, and `space` for the places of so many edges.
+/// How a round by blocks uses its room: `long` numbers for the half-edges of `counts` blocks of vertices, and `space` numbers for the
+/// places of `edges` edges.
 fn plan_round(rounds: u32, edges: u32, counts: usize, long: usize, space: usize) -> Plan
     requires some { 0 < edges }
     requires fits { edges ≤ 67108864 }
@@ -386,9 +388,9 @@ fn plan_round(rounds: u32, edges: u32, counts: usize, long: usize, space: usize)
     }
 }
 
-/// Removes the half-edges of a round but for those of its pivots, takes the edges of the next one, lists them by rising number, and says how
-/// many they are. `rounds` went before. No half-edge waits and no edge is marked, before and after. The list is room for the half-edges that
-/// wait, and gets its edges only when none waits any more, so this takes no memory.
+/// Removes the half-edges of a round, except those of its pivots, takes the edges of the next round, and lists them by rising number.
+/// Returns how many they are. `rounds` went before. No half-edge waits and no edge is marked, before or after. The half-edges wait in
+/// the list, which gets its edges only when none waits any more, so this takes no memory.
 pub(crate) fn unlink_by_blocks<const K: usize, I: Incidence<K>, L: Ledger>(
     edges: &Edges<K>,
     incidence: &mut I,

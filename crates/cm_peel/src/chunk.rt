@@ -1,5 +1,4 @@
-//! A round is worked on by chunks: what lies far apart in memory is first read into small arrays, so that no store waits
-//! for a load.
+//! A round is worked on by chunks: scattered data is first read into small arrays, so that no store waits for a load.
 ghost use Rattle.std.specs.Prelude.{◌≡◌, ℕ, ◌+◌, ◌*◌, ◌/◌, ◌%◌, ◌<◌, ◌≤◌, ◌++◌, ◌==◌, nat_lt, if◌then◌else◌, length, All, map, take, slice_index};
 ghost use Rattle.std.specs.List.{position_or_len};
 ghost use Rattle.cm_graph.specs.Graph.{degree_of};
@@ -15,7 +14,7 @@ pub(crate) const CHUNK: usize = 64;
 /// How many ends these have at most.
 pub(crate) const CHUNK_ENDS: usize = 192;
 
-/// The byte of an edge that isn't taken; so is each byte above it.
+/// The byte of an edge that isn't taken; each greater byte means the same.
 pub(crate) const UNTAKEN: u8 = 8;
 
 /// Reads the bytes of some edges.
@@ -29,8 +28,8 @@ fn look_up(bytes: &[u8], chunk: &[u32], marks: &mut [u8])
     }
 }
 
-/// Writes the half-edges of an edge into the list, behind the first `count`. That of its pivot isn't counted, but written too, so
-/// that no branch asks which it is.
+/// Writes the half-edges of an edge into the list, behind the first `count`. That of its pivot is written but not counted, so no branch
+/// depends on which it is.
 fn add_halves<const K: usize>(
     e: u32,
     ends: [u32; K],
@@ -55,7 +54,7 @@ fn add_halves<const K: usize>(
     at
 }
 
-/// Lists the half-edges of a chunk but for those of its pivots, and says how many they are. `ends` and `marks` are room to work in.
+/// Lists the half-edges of a chunk, except those of its pivots. Returns how many they are. `ends` and `marks` are scratch space.
 pub(crate) fn list_halves<const K: usize>(
     edges: &Edges<K>,
     bytes: &[u8],
@@ -94,8 +93,8 @@ pub(crate) fn look_up_places(bytes: &[u8], places: &[u32], marks: &mut [u8])
     }
 }
 
-/// Takes the edges of these places, `marks` being their bytes, and lists them behind the first `count` of the list. Each edge is written there,
-/// and counted only if it is new, so that no branch asks whether it is.
+/// Takes the edges of these places, `marks` being their bytes, and lists them behind the first `count` of the list. Each edge is
+/// written there, and counted only if it is new, so no branch depends on that.
 fn take_listed(
     places: &[u32],
     marks: &[u8],
@@ -126,9 +125,9 @@ fn take_listed(
     end
 }
 
-/// Takes the edges of these places for the round after `rounds` and one more. An edge that isn't taken yet is added to the first `count` of the
-/// list. One of that round gets the least position of its places, and one of the round before stays as it is. `marks` is room to work in. It
-/// says how many are listed then.
+/// Takes the edges of these places for the round after `rounds` and one more. An edge that isn't taken yet is added behind the first
+/// `count` of the list. An edge of that round gets the least position of its places, and one of the round before stays as it is.
+/// `marks` is scratch space. Returns how many are listed then.
 pub(crate) fn take(
     places: &[u32],
     marks: &mut [u8],

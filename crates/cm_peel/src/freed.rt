@@ -1,5 +1,5 @@
-//! The places that a round by blocks frees: they wait until many of them lie in one block of edges, so that the bytes and marks of a block are read and
-//! written while they lie in the second cache.
+//! The places that a round by blocks frees. They wait until many of them lie in one block of edges, so that the bytes and marks of a
+//! block are read and written while they are in the L2 cache.
 ghost use Rattle.std.specs.Prelude.{◌≡◌, ◌≢◌, ℕ, List, ◌+◌, ◌*◌, ◌/◌, ◌<◌, ◌≤◌, length, All, slice_index, slice_set};
 ghost use Rattle.cm_peel.specs.AtRound.{AreTaken};
 ghost use Rattle.cm_peel.specs.Waiting.{AreMarked, AreOpen, Leads, marked_of, put_freed};
@@ -40,7 +40,7 @@ pub(crate) fn clear(blocks: usize, freed: &mut [u32])
     }
 }
 
-/// Takes the edges of these places, `known` being their bytes, marks those that are new, and says how many these are.
+/// Takes the edges of these places, `known` being their bytes, and marks those that are new. Returns how many these are.
 fn mark_listed(
     places: &[u32],
     known: &[u8],
@@ -75,8 +75,8 @@ fn mark_listed(
     count
 }
 
-/// Writes a freed place behind those that wait for its block of edges, whose part isn't full, and says which block that is. The room begins with a
-/// count for each block.
+/// Writes a freed place behind those that wait for its block of edges, and returns the block. Its part isn't full. The room begins with
+/// a count for each block.
 fn put_place(place: u32, plan: Plan, freed: &mut [u32]) -> usize
     requires there { place / 524288 < plan.blocks }
     requires within { plan.blocks + plan.blocks * plan.each ≤ length freed.old }
@@ -92,7 +92,7 @@ fn put_place(place: u32, plan: Plan, freed: &mut [u32]) -> usize
     b
 }
 
-/// Takes the edges of the places that wait for a block of edges, marks them, and says how many are new.
+/// Takes the edges of the places that wait for a block of edges, and marks them. Returns how many are new.
 fn take_block(b: usize, plan: Plan, bytes: &mut [u8], freed: &mut [u32], marks: &mut [u64]) -> usize
     requires rounds { plan.rounds < 67108864 }
     requires there { b < plan.blocks }
@@ -110,7 +110,7 @@ fn take_block(b: usize, plan: Plan, bytes: &mut [u8], freed: &mut [u32], marks: 
     mark_listed(places, &known, plan.rounds, bytes, marks)
 }
 
-/// Takes the edges of the places that wait for a block of edges if its part is full, and says how many are new.
+/// Takes the edges of the places that wait for a block of edges if its part is full. Returns how many are new.
 fn settle(b: usize, plan: Plan, bytes: &mut [u8], freed: &mut [u32], marks: &mut [u64]) -> usize
     requires rounds { plan.rounds < 67108864 }
     requires there { b < plan.blocks }
@@ -127,7 +127,7 @@ fn settle(b: usize, plan: Plan, bytes: &mut [u8], freed: &mut [u32], marks: &mut
     take_block(b, plan, bytes, freed, marks)
 }
 
-/// Lets these places wait for their blocks of edges, takes the edges of those of a block whose part is full, and says how many are new.
+/// Lets these places wait for their blocks of edges, and takes the edges of each block whose part is full. Returns how many are new.
 pub(crate) fn wait(
     places: &[u32],
     plan: Plan,
@@ -151,7 +151,7 @@ pub(crate) fn wait(
     count
 }
 
-/// Takes the edges of all places that wait, and says how many are new.
+/// Takes the edges of all places that wait. Returns how many are new.
 pub(crate) fn take_all(plan: Plan, bytes: &mut [u8], freed: &mut [u32], marks: &mut [u64]) -> usize
     requires rounds { plan.rounds < 67108864 }
     requires state { (after : List ℕ) × (next : List ℕ) × Leads plan.rounds plan.blocks plan.each marks.old bytes.old freed.old after next }

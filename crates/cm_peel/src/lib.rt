@@ -1,4 +1,4 @@
-//! Peeling of edges by rounds, and what it leaves: the 2-core.
+//! Peeling of edges by rounds, and its residual graph: the 2-core.
 #![tactic(auto)]
 
 mod blocks;

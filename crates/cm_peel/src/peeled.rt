@@ -1,4 +1,4 @@
-//! Peeling, and what it gives.
+//! Peeling and its result.
 ghost use Rattle.std.specs.Prelude.{◌≡◌, ℕ, ◌+◌, ◌*◌, ◌<◌, ◌≤◌, [], length, IfOk, slice_index};
 ghost use Rattle.cm_spec.specs.Core.{IsCore};
 ghost use Rattle.cm_spec.specs.Rounds.{level_of};
@@ -12,9 +12,9 @@ use std::alloc::{AllocError, Global};
 use std::marker::Model;
 use std::sync::ledger::Ledger;
 
-/// The removed edges in order, the level of each edge where levels are kept, the pivot of each removed edge, and the edges that are
-/// left. The byte of an edge that the round after r rounds removed is `4 * (r % 2)` and its pivot's position; that of each other edge is
-/// `UNTAKEN` or more.
+/// The removed edges in order, the level of each edge if levels are kept, the pivot of each removed edge, and the edges of the residual
+/// graph. The byte of an edge that the round after r rounds removed is `4 * (r % 2)` and its pivot's position; that of each other edge
+/// is `UNTAKEN` or more.
 #[derive(Drop)]
 pub struct Peeled<const K: usize> {
     order: Vec<u32>,
@@ -39,14 +39,14 @@ impl<const K: usize> Peeled<K> {
         &self.order
     }
 
-    /// The edges that are left, by rising number.
+    /// The edges of the residual graph, by rising number.
     pub fn rest(&self) -> &[u32]
         ensures { result.now ≡ self.now.rest }
     {
         &self.rest
     }
 
-    /// The round that removed the edge, from 1, or 0 where it is left. Levels have to be kept.
+    /// The round that removed the edge, from 1, or 0 if it is in the residual graph. Levels have to be kept.
     pub fn level(&self, e: u32) -> u32
         requires { e < length self.now.levels }
         ensures { result ≡ slice_index self.now.levels e }
@@ -63,7 +63,7 @@ impl<const K: usize> Peeled<K> {
     }
 }
 
-/// The edges that aren't taken, so many.
+/// The edges that aren't taken, of which there are `many`.
 fn untaken(alloc: Global, bytes: &Vec<u8>, many: usize) -> Result<Vec<u32>, AllocError>
     requires few { length bytes.now.items ≤ 67108864 }
     requires many { many ≡ length (untaken_of bytes.now.items) }
@@ -81,7 +81,7 @@ fn untaken(alloc: Global, bytes: &Vec<u8>, many: usize) -> Result<Vec<u32>, Allo
     Ok(v)
 }
 
-/// Peels the edges by rounds, and notes the level of each in a table that has 0 for each edge, or is empty.
+/// Peels the edges by rounds, and notes the level of each in `levels`, which has a 0 for each edge, or is empty.
 fn peel_noting<const K: usize, I: Incidence<K> + Drop, L: Ledger>(
     alloc: Global,
     edges: &Edges<K>,
@@ -140,8 +140,8 @@ fn peel_noting<const K: usize, I: Incidence<K> + Drop, L: Ledger>(
     })
 }
 
-/// Peels the edges by rounds. A round removes all edges that have an end of degree one where it begins. It looks at
-/// vertices at most `8 * K` times for each edge.
+/// Peels the edges by rounds. A round removes all edges that have an end of degree one when it begins. Accesses vertices at most `8 *
+/// K` times for each edge.
 pub fn peel<const K: usize, I: Incidence<K> + Drop, L: Ledger>(
     alloc: Global,
     edges: &Edges<K>,
@@ -157,7 +157,7 @@ pub fn peel<const K: usize, I: Incidence<K> + Drop, L: Ledger>(
     peel_noting::<K, I, L>(alloc, edges, levels, steps)
 }
 
-/// Peels the edges as `peel` does, and keeps no levels: that takes 4 bytes an edge less.
+/// Peels the edges as `peel` does, but keeps no levels: that takes 4 bytes an edge less.
 pub fn peel_without_levels<const K: usize, I: Incidence<K> + Drop, L: Ledger>(
     alloc: Global,
     edges: &Edges<K>,

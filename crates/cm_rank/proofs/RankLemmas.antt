@@ -1,4 +1,4 @@
--- Ranks of some cells more, and the samples of so many blocks.
+-- Ranks of some cells more, and the samples of n blocks.
 use Rattle.std.proofs.Common.{◌≡◌, ◌∙◌, ℕ, zero, suc, cond, take, ◌+◌, ◌*◌, ◌/◌, ◌%◌, ◌^◌, ◌<◌, ◌≤◌, List, [], ◌∷◌, ◌++◌, length, inl, inr, refl, ap, sym, arith}
 use Rattle.std.specs.Prelude.{min, slice_index, count_by}
 use Rattle.std.specs.Int.{div_ceil}

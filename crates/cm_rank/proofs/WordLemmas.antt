@@ -112,14 +112,14 @@ word_busy cells bytes from n word count below image whole there few inside read 
     let busy = cells_busy cells (from / 4) n below (omega (arith, there, len)) few (rw place inside) in
     rw (is, read, image) (rw place at busy)
 
--- eight bytes are there where all 32 cells of a word are
+-- eight bytes are there if all 32 cells of a word are
 pub word_there : (cells bytes : List ℕ) (from : ℕ) → bytes ≡ list_of (packed_byte 4 4 cells) (packed_len 4 (length cells)) → from + 32 ≤ length cells → from / 4 + 8 ≤ length bytes
 word_there cells bytes from image inside =
     let len = length-image cells bytes image in
     let room : length cells ≤ packed_len 4 (length cells) * 4 = le-packed_len 4 (length cells) (lit< tt) in
     omega arith
 
--- one word more of a count that looks at each word, where so many cells are counted
+-- one word more of a count that reads each word, if this many cells are counted
 pub words_more : (cells bytes : List ℕ) (from left k n word count more : ℕ) → AllBelow 4 cells → bytes ≡ list_of (packed_byte 4 4 cells) (packed_len 4 (length cells))
     → from % 4 ≡ 0 → from / 4 + 8 * k + 8 ≤ length bytes → from + left ≤ length cells → n ≡ min (left - 32 * k) 32
     → word ≡ window_at bytes (from / 4 + 8 * k) → more ≡ count_by (is_busy 3) (crumbs_of word n)

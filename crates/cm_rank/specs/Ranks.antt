@@ -8,7 +8,7 @@ use Rattle.cm_spec.specs.Lists.{list_of}
 abbrev pub rank_of : ℕ → List ℕ → ℕ → ℕ
 rank_of idle cells v = count_by (is_busy idle) (take v cells)
 
--- the ranks of some cells, so many powers of 2 apart
+-- sampled ranks: the value of an idle cell, the distance of the samples as a power of 2, and the ranks
 pub record Samples : Type 0 where
   pub idle : ℕ
   pub shift : ℕ

@@ -5,7 +5,7 @@ ghost use Rattle.cm_rank.specs.Ranks.{rank_of};
 use crate::words::{busy_crumbs, busy_crumbs_near};
 use cm_bits::{Bits, Cells, Crumbs, Fields, Plain, Trits};
 
-/// A table whose cells that are not idle can be counted from any place to another.
+/// A table that counts its cells that are not idle between any two places.
 ///
 /// Any table of cells can: an empty `impl` counts cell by cell.
 pub trait Counted: Cells {
@@ -18,7 +18,7 @@ pub trait Counted: Cells {
         count_each(self, idle, from, until)
     }
 
-    /// The same of at most 128 cells. All of the 128 cells from `from` on may be looked at.
+    /// Like `count_busy`, of at most 128 cells. It may read all of the 128 cells from `from` on.
     fn count_near(&self, idle: u32, from: u32, until: u32) -> u32
         requires order { from ≤ until }
         requires near { until ≤ from + 128 }
@@ -29,14 +29,14 @@ pub trait Counted: Cells {
     }
 }
 
-// Whether crumbs are counted by words: where the value of an idle one is 3 and the first one begins a byte.
+// Whether crumbs are counted by words: if the value of an idle cell is 3 and the first cell begins a byte.
 fn is_by_words(idle: u32, from: u32) -> bool
     ensures { IsTrue result ↔ ((idle ≡ 3) × (from % 4 ≡ 0)) }
 {
     idle == 3 && from % 4 == 0
 }
 
-/// By words of 32 cells where the value of an idle cell is 3 and the first cell begins a byte.
+/// Counts by words of 32 cells if the value of an idle cell is 3 and the first cell begins a byte.
 impl Counted for Crumbs {
     fn count_busy(&self, idle: u32, from: u32, until: u32) -> u32 {
         if is_by_words(idle, from) {

@@ -9,8 +9,8 @@ use cm_bits::Cells;
 use std::alloc::{AllocError, Global};
 use std::marker::Model;
 
-/// The ranks of every `2^b`-th cell of a table, 4 bytes each. It stands for the cells that it was built over, and doesn't
-/// hold them: a call that counts takes them again.
+/// The ranks of every `2^b`-th cell of a table, 4 bytes each. It doesn't hold the cells that it was built over: a call that counts
+/// takes them as an argument.
 #[derive(Drop)]
 pub struct RankTable {
     ranks: Vec<u32>,
@@ -29,7 +29,7 @@ impl Model for RankTable {
     ghost invariant = { λ t. (t.b ≤ 10) × (length t.ranks.items ≤ 671088645) };
 }
 
-/// How many cells are not idle, from the one of a rank on. At most `2^b` are looked at.
+/// How many cells are not idle, from a sampled cell on. Reads at most `2^b` cells.
 #[inline]
 fn count_after<C: Counted>(cells: &C, idle: u32, b: u8, from: u32, until: u32) -> u32
     requires order { from ≤ until }
@@ -44,7 +44,8 @@ fn count_after<C: Counted>(cells: &C, idle: u32, b: u8, from: u32, until: u32) -
 }
 
 impl RankTable {
-    /// The ranks of the cells that are not idle, of every `2^b`-th cell, with b from 3 to 10. Refused only for want of memory.
+    /// Samples the ranks: for every `2^b`-th cell, how many cells before it are not idle. b is from 3 to 10. Fails only if memory runs
+    /// out.
     pub fn build<C: Counted>(
         alloc: Global,
         cells: &C,
@@ -70,7 +71,7 @@ impl RankTable {
         Ok(RankTable { ranks, idle, b })
     }
 
-    /// How many of the first i cells are not idle. At most `2^b` cells are looked at.
+    /// How many of the first i cells are not idle. Reads at most `2^b` cells.
     pub fn rank<C: Counted>(&self, cells: &C, i: u32) -> u32
         requires stands { StandsFor self.now (C.cells cells.now) }
         requires index { i < length (C.cells cells.now) }
@@ -81,7 +82,7 @@ impl RankTable {
         self.ranks[block as usize] + count_after(cells, self.idle, self.b, block * step, i)
     }
 
-    /// How many cells are not idle. At most `2^b` cells are looked at.
+    /// How many cells are not idle. Reads at most `2^b` cells.
     pub fn total<C: Counted>(&self, cells: &C) -> u32
         requires stands { StandsFor self.now (C.cells cells.now) }
         requires some { 0 < length (C.cells cells.now) }
@@ -96,7 +97,7 @@ impl RankTable {
         }
     }
 
-    /// How many ranks there are: one for each `2^b` cells, and one for what is left of them.
+    /// How many ranks there are: the number of cells divided by `2^b`, rounded up.
     pub fn entries(&self) -> u32
         ensures entries { result ≡ length self.now.ranks }
         ensures cells { (cells : List ℕ) → StandsFor self.now cells → result ≡ div_ceil (length cells) (2 ^ self.now.shift) }

@@ -23,12 +23,12 @@ pub fn busy_pairs(word: u64, many: u32) -> u32
     requires fit { many ≤ 32 }
     ensures { result ≡ count_by (is_busy 3) (crumbs_of word many) }
 {
-    // In two steps, since none of the bits may be left.
+    // In two steps, since all bits may be shifted out.
     let lower = LOWER_BITS >> (PAIRS - many) >> (PAIRS - many);
     many - (word & (word >> 1) & lower).count_ones()
 }
 
-// How many of the cells from `from` on and before `until` are not 3: by words, and the rest of less than a word.
+// How many of the cells from `from` on and before `until` are not 3: by words, and then the last cells, fewer than a word has.
 pub fn busy_crumbs(cells: &Crumbs, from: u32, until: u32) -> u32
     requires order { from ≤ until }
     requires inside { until ≤ length (⟦<Crumbs as Cells>⟧.cells cells.now) }
@@ -45,7 +45,7 @@ pub fn busy_crumbs(cells: &Crumbs, from: u32, until: u32) -> u32
     count + busy_rest(cells, from + PAIRS * words, until)
 }
 
-// The same of as many cells as `WORDS` words have, or fewer.
+// Like `busy_crumbs`, of at most as many cells as `WORDS` words have.
 pub fn busy_crumbs_near(cells: &Crumbs, from: u32, until: u32) -> u32
     requires order { from ≤ until }
     requires near { until ≤ from + 128 }
@@ -60,8 +60,8 @@ pub fn busy_crumbs_near(cells: &Crumbs, from: u32, until: u32) -> u32
     busy_crumbs(cells, from, until)
 }
 
-// The same where the image has so many words: all are looked at, and what is past the end
-// counts for nothing, so that no jump depends on how many cells there are.
+// Like `busy_crumbs_near`, if the image has `WORDS` words from here on. It reads all of them and counts no cell from `until` on, so no
+// branch depends on the number of cells.
 #[inline]
 fn busy_in_words(cells: &Crumbs, from: u32, until: u32) -> u32
     requires order { from ≤ until }
@@ -81,7 +81,7 @@ fn busy_in_words(cells: &Crumbs, from: u32, until: u32) -> u32
     count
 }
 
-// The same of less than a word: cell by cell where the image ends before eight bytes.
+// Like `busy_crumbs`, of less than a word: cell by cell if the image ends before eight bytes.
 #[inline]
 fn busy_rest(cells: &Crumbs, from: u32, until: u32) -> u32
     requires order { from ≤ until }

@@ -14,7 +14,7 @@ pub record AppendsAtEnd {F : Type 0} (position : F → Option ℕ) (bytes conten
   pub moves : IfSome (position old) (λ _. IfSome (bytes old) (λ xs. position moved ≡ Some (length xs)))
   pub appends : Appends (contents moved) (contents new) piece
 
--- The file was moved to the offset, and gave the n bytes that come next there: none only at the end, or if the buffer has no room.
+-- The file was moved to the offset, and the n bytes that come next there were read: none only at the end, or if the buffer has no room.
 pub record GivesFrom {F : Type 0} (position : F → Option ℕ) (remaining : F → Option (List ℕ)) (old new : F) (offset room n : ℕ) (buf : List ℕ) : Type 0 where
   pub moved : F
   pub moves : IfSome (position old) (λ _. position moved ≡ Some offset)

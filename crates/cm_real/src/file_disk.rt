@@ -1,5 +1,5 @@
-//! Real files. Nothing here tells contents; where a file does, what is read of it is what comes next there. A call that was
-//! interrupted is made again.
+//! Real files. The contents of the disk are not known here. If those of a file are, a read returns what comes next in it. An
+//! interrupted call is repeated.
 ghost use Rattle.std.specs.Prelude.{◌≡◌, ◌<◌, ◌≤◌, [], None, Some, Err, IfOk, IfSome, length, take, nat_lt, string_bytes};
 ghost use Rattle.std.specs.Io.KnownBytes.{Consumes, IsAtEnd};
 ghost use Rattle.std.specs.Io.Seek.{MovesTo};
@@ -25,7 +25,7 @@ pub struct FileReader<F> {
     faults: u64,
 }
 
-/// Reads, and answers how many bytes came: none only at the end, or where there is no room.
+/// Reads, and returns how many bytes came: none only at the end, or if there is no room.
 pub(crate) fn read_some<F: Read>(file: &mut F, buf: &mut [u8]) -> Option<usize>
     ensures bound { IfSome result (λ n. n ≤ length buf.old) }
     ensures bytes { IfSome result (λ n. Consumes (F.remaining file.old) (F.remaining file.new) (take n buf.new)) }
@@ -80,7 +80,7 @@ impl<F: Read + Seek> Source for FileReader<F> {
     }
 }
 
-/// Opens with these options, as often as it takes.
+/// Opens with these options. An interrupted call is repeated.
 fn open_with<R: Files>(rt: &R, options: &fs::OpenOptions, path: &str) -> io::Result<R::File> {
     for _ in 0..u64::MAX {
         match options.open(rt, path) {
@@ -95,7 +95,7 @@ fn open_with<R: Files>(rt: &R, options: &fs::OpenOptions, path: &str) -> io::Res
     Err(io::Error::from(ErrorKind::Interrupted))
 }
 
-/// Whether the file is on its disk, where it can be put there: a pipe or a device can't, and that is no fault.
+/// Syncs the file to its disk, and returns whether that worked. A pipe or a device can't be synced, and that is no fault.
 fn is_synced<F: OpenFile>(file: &F) -> bool {
     for _ in 0..u64::MAX {
         match file.sync_all() {
@@ -191,7 +191,7 @@ impl<'a, R: Files> Disk for FileDisk<'a, R> {
 
     fn close(&mut self, _path: &str, writer: StdSink<R::File>) -> Result<(), Failed> {
         let mut writer = writer;
-        // After a failed write nothing more is sent: a part of what waits may be in the file already.
+        // After a failed write nothing more is written: a part of the buffered bytes may be in the file already.
         let sent = writer.faults() == 0 && writer.write(&[]).is_ok();
         let (file, _) = writer.into_parts();
         if sent && is_synced(&file) {
@@ -213,11 +213,11 @@ impl<'a, R: Files> Disk for FileDisk<'a, R> {
         ensures count { (result ≡ Err DiskFault.Failed) → self.new.write_faults ≡ counted self.old.write_faults }
     {
         let path = spill_path(self.alloc, dir, self.number)?;
-        // What an earlier process with this number left is removed.
+        // Removes what an earlier process with this number left.
         let _ = fs::remove_file(self.rt, path.as_str());
         let mut options = fs::OpenOptions::new();
         let _ = options.read(true).write(true).create_new(true);
-        // The keys in it are for no other user to read.
+        // No other user may read the keys in it.
         let _ = options.mode(0o600);
         match open_with(self.rt, &options, path.as_str()) {
             Ok(file) => Ok(FileSpill::new(file, path)),

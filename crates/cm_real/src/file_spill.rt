@@ -1,5 +1,5 @@
-//! A file that is appended to and read from any offset. A spill doesn't tell its bytes; if the file does, an append adds the piece to
-//! them, and a read returns what comes next at the offset.
+//! A file that is appended to and read from any offset. The bytes of a spill are not known here. If those of the file are, an append
+//! adds the piece to them, and a read returns what comes next at the offset.
 ghost use Rattle.std.specs.Prelude.{◌≡◌, ◌≤◌, None, true, false, IfOk, IfSome, OnOk, length};
 ghost use Rattle.std.specs.Io.KnownBytes.{Appends};
 ghost use Rattle.cm_outer.specs.Causes.{HasCause};

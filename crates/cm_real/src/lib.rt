@@ -1,4 +1,4 @@
-//! The outside of a program as the system gives it: files, and what is written to one of std's writers.
+//! The outside of a program on a real system: files, and sinks over std's writers.
 #![tactic(auto)]
 
 mod file_disk;

@@ -1,5 +1,5 @@
-//! What is written to one of std's writers. It doesn't tell what it holds; where the writer does, each piece that is taken is there
-//! in order.
+//! A sink over one of std's writers. Its bytes are not known here. If those of the writer are, each piece that is taken is there in
+//! order.
 ghost use Rattle.std.specs.Prelude.{◌≡◌, ◌≢◌, ◌≤◌, ◌+◌, ◌++◌, [], None, true, length, IsOk, OnOk};
 ghost use Rattle.std.specs.Io.KnownBytes.{Appends, append_known};
 ghost use Rattle.cm_outer.specs.Causes.{HasCause};
@@ -10,15 +10,15 @@ use arrayvec::ArrayVec;
 use cm_outer::{Failed, Sink};
 use std::io::Write;
 
-/// How many bytes wait in a sink at most.
+/// How many bytes a sink buffers at most.
 const ROOM: usize = 16_384;
 
-/// At most 16,384 bytes wait in a sink.
+/// A sink buffers at most 16,384 bytes.
 pub fn room()
     ensures { ROOM ≡ 16384 }
 {}
 
-/// A writer behind a buffer. An empty piece sends on what waits there.
+/// A writer behind a buffer. An empty piece flushes the buffer.
 #[derive(Drop)]
 pub struct StdSink<W> {
     writer: W,
@@ -27,7 +27,7 @@ pub struct StdSink<W> {
 }
 
 impl<W: Write> StdSink<W> {
-    /// A sink that keeps bytes back until its buffer is full.
+    /// A sink that buffers bytes until its buffer is full.
     pub fn new(writer: W) -> StdSink<W>
         ensures written { ⟦<StdSink<W> as Sink>⟧.written result ≡ None }
         ensures waits { ⟦<StdSink<W> as Sink>⟧.waits result ≡ 0 }
@@ -59,7 +59,7 @@ impl<W: Write> StdSink<W> {
         (writer, faults)
     }
 
-    /// Sends on what waits.
+    /// Writes the buffered bytes to the writer.
     fn send_on(&mut self) -> bool
         ensures faults { self.new.faults ≡ self.old.faults }
         ensures sent { result ≡ true → self.new.waiting.items ≡ [] }
@@ -72,7 +72,7 @@ impl<W: Write> StdSink<W> {
         true
     }
 
-    /// Lets a piece wait, where it fits the buffer once what waits there was sent on; a larger one is sent on itself.
+    /// Buffers a piece, after writing out the buffer if the piece doesn't fit. If it still doesn't fit, it is written directly.
     fn take(&mut self, piece: &[u8]) -> bool
         ensures faults { self.new.faults ≡ self.old.faults }
         ensures taken { result ≡ true → Appends (append_known (W.contents self.old.writer) self.old.waiting.items) (append_known (W.contents self.new.writer) self.new.waiting.items) piece.now }
@@ -88,7 +88,7 @@ impl<W: Write> StdSink<W> {
                 || self.writer.write_all(piece).is_ok())
     }
 
-    /// Takes a piece. After an empty one nothing waits; another one that fits is not sent on.
+    /// Takes a piece. After an empty one the buffer is empty. Another one that fits is only buffered.
     fn pass_on(&mut self, piece: &[u8]) -> bool
         ensures faults { self.new.faults ≡ self.old.faults }
         ensures sent { result ≡ true → piece.now ≡ [] → self.new.waiting.items ≡ [] }
@@ -120,7 +120,7 @@ impl<W: Write> Sink for StdSink<W> {
         ensures sent { OnOk result (piece.now ≡ [] → length self.new.waiting.items ≡ 0) }
         ensures taken { OnOk result (Appends (append_known (W.contents self.old.writer) self.old.waiting.items) (append_known (W.contents self.new.writer) self.new.waiting.items) piece.now) }
 
-        // A piece that fits waits, and nothing is sent on.
+        // A piece that fits is buffered, and nothing is written to the writer.
         ensures fits { piece.now ≢ [] → length self.old.waiting.items + length piece.now ≤ ROOM → IsOk result }
         ensures waits { piece.now ≢ [] → length self.old.waiting.items + length piece.now ≤ ROOM → self.new.waiting.items ≡ self.old.waiting.items ++ piece.now }
         ensures writer { piece.now ≢ [] → length self.old.waiting.items + length piece.now ≤ ROOM → self.new.writer ≡ self.old.writer }

@@ -61,7 +61,7 @@ removed_level edges t e h =
       go (inl still) = absurd (both_ways _ (removed_not_left edges t e h) (has_left_from edges (suc t) e (removed_place edges t e h) still))
       go (inr gone) = gone
 
--- the pivot is a position, and its vertex has degree one where the round begins
+-- the pivot is a position, and its vertex has degree one when the round begins
 pub record IsPivot (edges : List (List ℕ)) (t e : ℕ) : Type 0 where
   pub within : pivot_of edges e < length (ends_at edges e)
   pub one : degree_in edges (left_after edges t) (pivot_vertex edges e) ≡ 1

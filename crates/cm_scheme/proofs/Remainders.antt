@@ -28,13 +28,13 @@ near_is x n m few some reciprocal =
     let same : x * n ≡ n * x = mul_comm x n in
     record { within = omega (arith, split, turned, times, turned'); left = omega (arith, split, turned, times, turned', small, small', part, same, some) }
 
--- what is left of x after some n is its remainder, where it is below n
+-- what is left of x after some n is its remainder, if it is below n
 pub left_is : (x n q : ℕ) → q * n ≤ x → x - q * n < n → x - q * n ≡ x % n
 left_is x n q within low =
     let is : q * n + (x - q * n) ≡ x = omega arith in
     sym (mod-mul-add q n (x - q * n) low) ∙ ap (λ (k : ℕ). k % n) is
 
--- and where it is not, one n more is taken off
+-- and if it is not, one n more is taken off
 pub less_is : (x n : ℕ) (q : ℕ) → IsNear x n q → n ≤ x - q * n → x - q * n - n ≡ x % n
 less_is x n q near high =
     let more : (q + 1) * n ≡ q * n + n = omega arith in

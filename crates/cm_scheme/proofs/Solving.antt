@@ -47,7 +47,7 @@ has_at (x ∷ xs) (suc i) h = or_right (eqb x (get_or xs i 0)) _ (has_at xs i (o
 pub order_at : (edges : List (List ℕ)) (order : List ℕ) (i : ℕ) → order ≡ order_of edges → i < length order → IsRemoved edges (get_or order i 0)
 order_at edges order i is h = order_removed edges (length edges) (get_or order i 0) (ap (λ xs. has xs (get_or order i 0)) (sym is) ∙ has_at order i h)
 
--- all edges are in the order where none is left
+-- all edges are in the order if none is left
 pub all_removed : (edges : List (List ℕ)) (t e : ℕ) → e < length edges → has (left_after edges t) e ≡ false → has (order_upto edges t) e ≡ true
 all_removed edges zero e h gone = absurd (both_ways _ gone (ap (λ s. has s e) (left_after-zero edges) ∙ has_place edges e h))
 all_removed edges (suc t) e h gone = list_any-append (λ x. eqb x e) (order_upto edges t) (removed_after edges t) ∙ go (cases_Bool (has (left_after edges t) e)) (all_removed edges t e h) where
@@ -281,7 +281,7 @@ plan_solved k r n edges tags law many are none = cells_solved (plan_of r n edges
 pub long_at : (p : Plan) (cells es : List ℕ) → cells ≡ one_by_one p (all_idle p) es → length cells ≡ p.vertices
 long_at p cells es h = ap length h ∙ (length-one_by_one p (all_idle p) es ∙ length-replicate p.vertices p.idle)
 
--- an edge is removed where none is left
+-- an edge is removed if none is left
 pub removed_at : (edges : List (List ℕ)) (e : ℕ) → rest_of edges ≡ [] → e < length edges → IsRemoved edges e
 removed_at edges e none h = order_removed edges (length edges) e (all_removed edges (length edges) e h (ap (λ xs. has xs e) none))
 

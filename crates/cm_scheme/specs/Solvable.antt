@@ -5,6 +5,6 @@ use Rattle.cm_spec.specs.Graph.{AreEdges}
 use Rattle.cm_spec.specs.Rounds.{rest_of}
 use Rattle.cm_spec.specs.Rule.{IsCount, IsRule, Rule}
 
--- under every rule, the cells of each graph of which peeling leaves nothing solve its plan
+-- under every rule, the cells of each graph with an empty residual graph solve its plan
 abbrev pub CellsSolve : Type 0
 CellsSolve = (k : ℕ) (r : Rule) (n : ℕ) (edges : List (List ℕ)) (tags : List ℕ) → IsRule k r → IsCount (length edges) → AreEdges k n edges → rest_of edges ≡ [] → AreSolved (plan_of r n edges tags) (cells_of (plan_of r n edges tags))

@@ -3,14 +3,14 @@ ghost use Rattle.std.specs.Prelude.{◌≡◌, ◌<◌, ◌≤◌, ℕ, List, Op
 
 use cm_bits::MAX_CELLS;
 
-/// Where a function looks for the number of a key: the two or three vertices of the key's edge, counted from 0, and 0 in each
-/// further number.
+/// Where a function looks up the number of a key: the two or three vertices of the key's edge, counted from 0, and 0 in each further
+/// number.
 pub type Place = [u32; 4];
 
-/// A function from keys to numbers below its span, in two steps: from a key to its place, and from the place to the number. With
-/// the places of many keys taken first, the looks into cells wait side by side. No call takes memory.
+/// A function from keys to numbers below its span, in two steps: from a key to its place, and from the place to the number. If the
+/// places of many keys are computed first, the cache misses of their cells overlap. No call takes memory.
 pub trait Answers {
-    /// What the numbers are below.
+    /// The span: all numbers are below it.
     ghost span_of: { Self → ℕ };
 
     /// The place for the bytes of a key.
@@ -19,7 +19,7 @@ pub trait Answers {
     /// The number for the bytes of a key. A key that the function was not built over gets any number, or none.
     ghost answer_of: { Self → List ℕ → Option ℕ };
 
-    /// What the numbers are below: at most `MAX_CELLS`.
+    /// The span: all numbers are below it. It is at most `MAX_CELLS`.
     fn span(&self) -> u32
         ensures span { result ≡ span_of self.now }
         ensures few { result ≤ MAX_CELLS };
@@ -28,14 +28,14 @@ pub trait Answers {
     fn place(&self, key: &[u8]) -> Place
         ensures place { result ≡ place_of self.now key.now };
 
-    /// The number of each key of this place. There is none only for keys that the function was not built over.
+    /// The number of each key of this place. None only for keys that the function was not built over.
     fn answer_at(&self, place: &Place) -> Option<u32>
         requires place { (key : List ℕ) × (place.now ≡ place_of self.now key) }
         ensures answer { (key : List ℕ) → place.now ≡ place_of self.now key → result ≡ answer_of self.now key }
         ensures inside { IfSome result (λ number. number < span_of self.now) };
 }
 
-/// The number of a key. There is none only for keys that the function was not built over.
+/// The number of a key. None only for keys that the function was not built over.
 pub fn answer<A: Answers>(function: &A, key: &[u8]) -> Option<u32>
     ensures answer { result ≡ A.answer_of function.now key.now }
     ensures inside { IfSome result (λ number. number < A.span_of function.now) }

@@ -1,4 +1,4 @@
-//! What a build gives.
+//! The result of a build.
 
 /// A function's parts: the number of keys, the ratio in millionths, the seed and the cells.
 #[derive(Drop)]

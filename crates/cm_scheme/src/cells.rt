@@ -26,7 +26,7 @@ fn sum_others<C: Cells, const K: usize>(table: &C, ends: [u32; K], v: u32) -> u6
 {
     let mut sum = 0u64;
     for u in ends {
-        // Read in any case: no jump then depends on which end is the pivot.
+        // Read in any case, so that no branch depends on which end is the pivot.
         let cell = table.get(u) as u64;
         sum += if u != v { cell } else { 0 };
     }
@@ -46,7 +46,7 @@ fn complete(modulus: &Divisor, target: u32, sum: u64) -> u32
     down.min(down.wrapping_add(modulus.value() as u64)) as u32
 }
 
-/// Gives the pivot's vertex its value.
+/// Sets the cell of the pivot's vertex.
 fn settle<C: Cells, const K: usize>(
     table: &mut C,
     ends: [u32; K],
@@ -67,7 +67,7 @@ fn settle<C: Cells, const K: usize>(
     table.set(v, value);
 }
 
-/// The tag of an edge: 0 where none is kept.
+/// The tag of an edge: 0 if none is kept.
 fn tag_at(tags: &[u32], e: u32) -> u32
     ensures { result ≡ slice_index tags.now e }
 {
@@ -96,7 +96,7 @@ fn look_up<S: Scheme<K>, const K: usize>(
     }
 }
 
-/// Gives the pivots of a chunk their values, the last edge first.
+/// Sets the cells of the pivots of a chunk, the last edge first.
 fn settle_each<C: Cells, const K: usize>(
     table: &mut C,
     ends: &[[u32; K]],
@@ -151,8 +151,8 @@ fn settle_chunk<S: Scheme<K>, const K: usize>(
     settle_each(table, ends, positions, targets, &modulus);
 }
 
-/// The cells of a peeled graph of which nothing is left. The tags are those of the edges, in order; an edge past the last of
-/// them has tag 0. The number of edges is the number of keys.
+/// The cells of a graph whose residual graph is empty. The tags are those of the edges, in order; an edge past the last of them has tag
+/// 0. The number of edges is the number of keys.
 pub fn assign<S: Scheme<K>, const K: usize>(
     alloc: Global,
     scheme: &S,

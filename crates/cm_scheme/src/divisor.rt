@@ -1,4 +1,4 @@
-//! Remainders by a number that is known before, with a multiplication in place of each division.
+//! Remainders by a fixed number, with multiplications in place of each division.
 ghost use Rattle.std.specs.Prelude.{◌≡◌, ℕ, ◌/◌, ◌%◌, ◌^◌, ◌<◌};
 
 use std::marker::Model;
@@ -60,7 +60,7 @@ impl Divisor {
         }
     }
 
-    /// The remainder of any `x` by this number. Only for `2^32` and more it takes a division.
+    /// The remainder of any `x` by this number. Divides only if `x` is `2^32` or more.
     #[inline]
     pub fn rem_wide(&self, x: u64) -> u32
         ensures remainder { result ≡ x % self.now }

@@ -1,4 +1,4 @@
-//! Schemes: from the words of a key to an edge and from a peeled graph to cells; and what a function from keys to numbers is.
+//! Schemes: from the hash values of a key to an edge and from a peeled graph to cells; and what a function from keys to numbers is.
 #![tactic(auto)]
 
 mod answers;

@@ -8,7 +8,7 @@ use crate::divisor::Divisor;
 use cm_algorithm::Algorithm;
 use cm_bits::Cells;
 
-/// An algorithm: from the words of a key to an edge with `K` ends, and from the number of a key to what its cells add up to.
+/// An algorithm: from the hash values of a key to an edge with `K` ends, and from the number of a key to what its cells add up to.
 pub trait Scheme<const K: usize> {
     /// Where the cells are kept.
     type Table: Cells + Drop;
@@ -16,7 +16,7 @@ pub trait Scheme<const K: usize> {
     /// All that the methods compute.
     ghost rule: { Self → Rule };
 
-    /// What the ends over so many vertices are remainders by.
+    /// The divisor for a number of vertices: ends are remainders by it.
     ghost divisor_of: { Self → ℕ → ℕ };
 
     /// The algorithm by its name.
@@ -24,7 +24,7 @@ pub trait Scheme<const K: usize> {
 
     ghost KEEPS_TAGS: { Bool };
 
-    /// Whether a build keeps the tag of each key, 4 bytes a key. Where it keeps none, every tag is 0.
+    /// Whether a build keeps the tag of each key, 4 bytes a key. If it keeps none, every tag is 0.
     const KEEPS_TAGS: bool;
 
     /// The algorithm whose functions are built.
@@ -37,27 +37,27 @@ pub trait Scheme<const K: usize> {
         requires ratio { IsRatio c }
         ensures size { result ≡ (rule self.now).size m c };
 
-    /// What the ends over `n` vertices are remainders by. It is taken once for many keys.
+    /// The divisor for `n` vertices: ends are remainders by it. It is computed once for many keys.
     fn divisor(&self, n: u32) -> Divisor
         requires size { IsSize (rule self.now) n }
         ensures divisor { result ≡ divisor_of self.now n };
 
-    /// The ends of a key over `n` vertices, from its three words, with the divisor of these vertices.
+    /// The ends of a key over `n` vertices, from its three hash values, with the divisor of these vertices.
     fn edge(&self, words: [u32; 3], n: u32, divisor: &Divisor) -> [u32; K]
         requires size { IsSize (rule self.now) n }
         requires divisor { divisor.now ≡ divisor_of self.now n }
         ensures edge { result ≡ (rule self.now).edge words n };
 
-    /// What is kept of a key's words until the cells are set; 0 where nothing is.
+    /// What is kept of a key's hash values until the cells are set; 0 if nothing is kept.
     fn tag(&self, words: [u32; 3]) -> u32
         ensures tag { result ≡ (rule self.now).tag words };
 
-    /// What sums of cells are taken modulo.
+    /// The modulus of sums of cells.
     fn modulus(&self, m: u32) -> u32
         requires many { IsCount m }
         ensures modulus { result ≡ (rule self.now).modulus m };
 
-    /// What cells are below.
+    /// The bound: all cells are below it.
     fn bound(&self, m: u32) -> u32
         requires many { IsCount m }
         ensures bound { result ≡ (rule self.now).bound m };

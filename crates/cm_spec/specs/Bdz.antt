@@ -14,7 +14,7 @@ third_of q = if made_odd q == 1 then 3 else made_odd q
 abbrev pub bdz_size : ℕ → ℕ → ℕ
 bdz_size m c = 3 * third_of ((c * m + 2999999) / 3000000)
 
--- the ends for the words of a key over n vertices
+-- the ends for the hash values of a key over n vertices
 abbrev pub bdz_edge : List ℕ → ℕ → List ℕ
 bdz_edge w n = slice_index w 0 % (n / 3) ∷ (n / 3 + slice_index w 1 % (n / 3)) ∷ (2 * (n / 3) + slice_index w 2 % (n / 3)) ∷ []
 

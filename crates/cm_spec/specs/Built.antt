@@ -1,4 +1,4 @@
--- What a build over numbered keys gives: each key with the number of its line, in order.
+-- The result of a build over numbered keys: each key with the number of its line, in order.
 use Rattle.std.specs.Prelude.{◌≡◌, ℕ, ◌<◌, Bool, nat_eq, List, [], length, map, find, slice_index, slice_index_or, Option}
 use Rattle.cm_spec.specs.Lookup2.{words}
 use Rattle.cm_spec.specs.Rounds.{rest_of}

@@ -1,4 +1,4 @@
--- The cells that a peeled graph gets.
+-- The cells of a peeled graph.
 use Rattle.std.specs.Prelude.{◌≡◌, ◌≢◌, ℕ, zero, suc, ◌+◌, ◌-◌, ◌%◌, ◌<◌, ◌≤◌, Bool, not, nat_eq, count_by, ◌==◌, if◌then◌else◌, List, [], ◌∷◌, length, replicate, slice_index, slice_set}
 use Rattle.std.specs.List.{sum_by}
 use Rattle.cm_spec.specs.Graph.{ends_at}
@@ -27,7 +27,7 @@ plan_of r n edges tags = record {
 abbrev pub pivot_vertex : List (List ℕ) → ℕ → ℕ
 pivot_vertex edges e = slice_index (ends_at edges e) (pivot_of edges e)
 
--- the cell of u, or 0 where it is v
+-- the cell of u, or 0 if it is v
 abbrev pub cell_but : List ℕ → ℕ → ℕ → ℕ
 cell_but cells v u = if u == v then 0 else slice_index cells u
 
@@ -39,7 +39,7 @@ sum_but cells v ends = sum_by (cell_but cells v) ends
 unfoldable pub completing : ℕ → ℕ → ℕ → ℕ
 completing modulus target sum = (target + (modulus - sum % modulus)) % modulus
 
--- what the pivot of an edge gets
+-- the value of the cell at the pivot of an edge
 abbrev pub value_at : Plan → List ℕ → ℕ → ℕ
 value_at p cells e = completing p.modulus (p.target e) (sum_but cells (pivot_vertex p.edges e) (ends_at p.edges e))
 
@@ -74,5 +74,5 @@ pub record AreSolved (p : Plan) (cells : List ℕ) : Type 0 where
   pub apart : (e f : ℕ) → e < length p.edges → f < length p.edges → pivot_vertex p.edges e ≡ pivot_vertex p.edges f → e ≡ f
   pub below : (e : ℕ) → e < length p.edges → slice_index cells (pivot_vertex p.edges e) < p.modulus
   pub idle : (v : ℕ) → v < p.vertices → ((e : ℕ) → e < length p.edges → pivot_vertex p.edges e ≢ v) → slice_index cells v ≡ p.idle
-  -- where no value below the modulus is idle, as many cells are busy as there are edges
+  -- if no value below the modulus is idle, as many cells are busy as there are edges
   pub busy : p.modulus ≤ p.idle → count_by (is_busy p.idle) cells ≡ length p.edges

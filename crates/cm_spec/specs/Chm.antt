@@ -8,11 +8,11 @@ use Rattle.cm_spec.specs.Rule.{Rule}
 abbrev pub chm_size : ℕ → ℕ → ℕ
 chm_size m c = max 2 ((c * m + 999999) / 1000000)
 
--- the second end; where it would be the first again, the next vertex is taken
+-- the second end; if it equals the first, the next vertex is taken
 abbrev pub chm_second : ℕ → ℕ → ℕ → ℕ
 chm_second a b n = if a == b then (a + 1) % n else b
 
--- the ends for the words of a key over n vertices
+-- the ends for the hash values of a key over n vertices
 abbrev pub chm_edge : List ℕ → ℕ → List ℕ
 chm_edge w n = slice_index w 0 % n ∷ chm_second (slice_index w 0 % n) (slice_index w 1 % n) n ∷ []
 
@@ -27,6 +27,6 @@ pub record Chm : Type 0 where
   pub seed : ℕ
   pub cells : List ℕ
 
--- the number that a function answers for a key
+-- the number that a function returns for a key
 abbrev pub chm_answer : Chm → List ℕ → ℕ
 chm_answer f key = sum_by (slice_index f.cells) (chm_edge (words key f.seed) (chm_size f.keys f.ratio)) % f.keys

@@ -7,7 +7,7 @@ use Rattle.cm_spec.specs.Graph.{ends_at, degree_in, ArePlaces}
 abbrev pub IsClosed : List (List ℕ) → List ℕ → Type 0
 IsClosed edges these = All (λ e. All (λ v. 2 ≤ degree_in edges these v) (ends_at edges e)) these
 
--- the list is rising, and has a place exactly where some closed set has it
+-- the list is rising, and has a place exactly if some closed set has it
 pub record IsCore (edges : List (List ℕ)) (core : List ℕ) : Type 0 where
   pub rising : IsStrictlyIncreasing core
   pub from : (e : ℕ) → Contains core e → (these : List ℕ) × ArePlaces edges these × IsClosed edges these × Contains these e

@@ -16,7 +16,7 @@ packed_len p n = div_ceil n p
 unfoldable pub packed_byte : ℕ → ℕ → List ℕ → ℕ → ℕ
 packed_byte d p cells q = digits_sum d (λ i. slice_index cells (p * q + i)) p
 
--- the least width of bits from 1 on whose numbers serve the bound; 27 where none to 26 does
+-- the least width of bits from 1 on whose numbers serve the bound; 27 if none to 26 does
 unfoldable pub width_of : ℕ → ℕ
 width_of bound = 1 + position_or_len (λ w. nat_le bound (2 ^ w)) (range_with_len 1 26)
 

@@ -1,4 +1,4 @@
--- Peeling by rounds. A round removes all edges that have a vertex of degree one where the round begins.
+-- Peeling by rounds. A round removes all edges that have a vertex of degree one when the round begins.
 use Rattle.std.specs.Prelude.{ℕ, zero, suc, ◌-◌, Bool, true, not, ◌&&◌, ◌==◌, nat_le, if◌then◌else◌, List, [], ◌++◌, length, filter}
 use Rattle.std.specs.List.{list_all, prefix_len, position_or_len}
 use Rattle.cm_spec.specs.Lists.{has}
@@ -22,15 +22,15 @@ abbrev pub is_left : List (List ℕ) → ℕ → ℕ → Bool
 is_left edges zero e = true
 is_left edges (suc t) e = is_left edges t e && is_held edges (left_after edges t) e
 
--- what no round removes
+-- the residual graph: the places that no round removes
 abbrev pub rest_of : List (List ℕ) → List ℕ
 rest_of edges = left_after edges (length edges)
 
--- the round that removes the edge: the least t after which it is not left, or 0 where it is of the rest
+-- the round that removes the edge: the least t after which it is not left, or 0 if it is in the residual graph
 abbrev pub level_of : List (List ℕ) → ℕ → ℕ
 level_of edges e = if has (rest_of edges) e then 0 else prefix_len (λ t. has (left_after edges t) e) (places edges)
 
--- the lowest position whose vertex has degree one where the edge's round begins
+-- the lowest position whose vertex has degree one when the edge's round begins
 abbrev pub pivot_of : List (List ℕ) → ℕ → ℕ
 pivot_of edges e = position_or_len (λ v. degree_in edges (left_after edges (level_of edges e - 1)) v == 1) (ends_at edges e)
 

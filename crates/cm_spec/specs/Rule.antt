@@ -1,10 +1,10 @@
--- The rule of an algorithm: what it takes from the words of a key, and what it puts into cells.
+-- The rule of an algorithm: what it takes from the hash values of a key, and what it puts into cells.
 use Rattle.std.specs.Prelude.{◌≡◌, ℕ, ◌%◌, ◌<◌, ◌≤◌, List, length}
 use Rattle.cm_spec.specs.Graph.{IsEdge}
 
--- the number of vertices for m keys and the ratio c in millionths; the ends for the words of a key over n vertices; the tag;
--- for m keys the modulus and the bound of cells; the value of an untouched cell;
--- what the cells of a key's ends add up to, by the key's number, its pivot's position and its tag
+-- the number of vertices for m keys and the ratio c in millionths; the ends for the hash values of a key over n vertices; the tag; for
+-- m keys the modulus and the bound of cells; the value of an untouched cell; what the cells of a key's ends add up to, by the key's
+-- number, its pivot's position and its tag
 pub record Rule : Type 0 where
   pub size : ℕ → ℕ → ℕ
   pub edge : List ℕ → ℕ → List ℕ

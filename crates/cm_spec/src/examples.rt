@@ -25,7 +25,7 @@ pub fn sizes()
     ensures triple_most { bdz_size 16777216 10000000 ≡ 167772165 }
 {}
 
-/// Words of keys under seeds.
+/// Hash values of keys under seeds.
 #[tactic(auto, unfolding(crate::specs::Lookup2::words, crate::specs::Lookup2::finish, crate::specs::Lookup2::absorb, crate::specs::Lookup2::three_lines, crate::specs::Lookup2::left_line, crate::specs::Lookup2::right_line))]
 pub fn hashing()
     ensures empty { words [] 0 ≡ 0x9b2ec03d ∷ 0xdb2b69ae ∷ 0xbd49d10d ∷ [] }
@@ -36,7 +36,7 @@ pub fn hashing()
     ensures block { words (codes "key-0000000000") 1 ≡ 0x2eceba23 ∷ 0x959538f7 ∷ 0x9187254a ∷ [] }
 {}
 
-/// Levels, pivots, orders and rests of small graphs.
+/// Levels, pivots, orders and residual graphs of small graphs.
 #[tactic(auto, unfolding(crate::specs::Rounds::left_after))]
 pub fn peeling()
     ensures path_levels { map (level_of path) (0 ∷ 1 ∷ 2 ∷ []) ≡ 1 ∷ 2 ∷ 1 ∷ [] }
@@ -76,7 +76,7 @@ pub fn graphs()
     ensures triples_ph { graph_of bdz_ph_rule empty_and_a 1230000 0 ≡ (1 ∷ 4 ∷ 7 ∷ []) ∷ (2 ∷ 5 ∷ 8 ∷ []) ∷ [] }
 {}
 
-/// The functions that they get, and what these answer.
+/// The functions of these key lists, and their answers.
 #[tactic(auto, unfolding(crate::specs::Lookup2::words, crate::specs::Lookup2::finish, crate::specs::Lookup2::absorb, crate::specs::Lookup2::three_lines, crate::specs::Lookup2::left_line, crate::specs::Lookup2::right_line, crate::specs::Rounds::left_after, crate::specs::Cells::cells_from, crate::specs::Cells::completing))]
 pub fn functions()
     ensures one { (chm_under one_empty 2090000 0).cells ≡ 0 ∷ 0 ∷ 0 ∷ [] }
@@ -99,7 +99,7 @@ pub fn triples()
     ensures took_first { first_seed bdz_ph_rule empty_and_a 1230000 (0 ∷ 1 ∷ []) ≡ Some 0 }
 {}
 
-/// Their dumps.
+/// The dumps of these functions.
 #[tactic(auto, unfolding(crate::specs::Lookup2::words, crate::specs::Lookup2::finish, crate::specs::Lookup2::absorb, crate::specs::Lookup2::three_lines, crate::specs::Lookup2::left_line, crate::specs::Lookup2::right_line, crate::specs::Rounds::left_after, crate::specs::Cells::cells_from, crate::specs::Cells::completing, crate::specs::Dump::header, crate::specs::Dump::fields_image, crate::specs::Dump::chm_dump, crate::specs::Image::width_of, crate::specs::Image::fields_byte, crate::specs::Image::fields_number, crate::specs::Image::digits_sum))]
 pub fn dumps()
     ensures one { chm_dump (chm_under one_empty 2090000 0)

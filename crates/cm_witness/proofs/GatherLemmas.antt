@@ -17,23 +17,23 @@ use Rattle.cm_witness.specs.declared.certificate.CoreEdge.{CoreEdge}
 use Rattle.cm_witness.specs.declared.certificate.Pair.{Pair}
 use Rattle.cm_witness.proofs.KeptLemmas.{kept-push, pairs_kept}
 
--- what holds of a fault holds of what a call hands on as the same fault
+-- what holds of a fault holds of what a call returns as the same fault
 pub handed_on : {T E : Type 0} (result : Result T E) (fault : E) (F : E → Type 0) → IsErrAnd result (λ e. e ≡ fault) → F fault → IfErr result F
 handed_on (Ok x) fault F is holds = absurd is
 handed_on (Err e) fault F is holds = subst F (sym is) holds
 
--- a pass that refuses after all keys that were expected has come to the fault at their end
+-- a pass that fails after all keys that were expected has come to the fault at their end
 pub refused_at_end : (told : Told) (m before now line : ℕ) (key : List ℕ) (fault : KeyFault) → before ≡ m → GivesKey told before now line key (Err fault) → IsEndFault told m fault
 refused_at_end told m before now line key Read is gives = tt
 refused_at_end told m before now line key (TooLong at) is gives = (omega (arith, is, gives.all), gives.fault_is)
 refused_at_end told m before now line key TooMany is gives = (omega (arith, is, gives.all), gives.fault_is)
 
--- a pass that comes to the end of the keys after so many has given all
+-- a pass that comes to the end of the keys after n of them has yielded all
 pub ended_at : (told : Told) (m before now line : ℕ) (key : List ℕ) (more : Bool) → before ≡ m → more ≡ false → GivesKey told before now line key (Ok more) → length told.keys ≡ m
 ended_at told m before now line key true is none gives = absurd (false≢true (sym none))
 ended_at told m before now line key false is none gives = sym gives.all ∙ is
 
--- a pass that gives a key after so many has more of them
+-- a pass that yields a key after n of them has more of them
 pub more_than : (told : Told) (m before now line : ℕ) (key : List ℕ) (more : Bool) → before ≡ m → more ≡ true → GivesKey told before now line key (Ok more) → AreOthers told m (m + 1)
 more_than told m before now line key false is some gives = absurd (false≢true some)
 more_than told m before now line key true is some gives = inl (omega (arith, is, ap length gives, length-drop before told.keys), refl)

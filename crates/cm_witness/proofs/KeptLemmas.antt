@@ -1,4 +1,4 @@
--- The pairs of equal keys, where some that equal no other are left out.
+-- The pairs of equal keys, if some that equal no other are left out.
 use Rattle.std.proofs.Common.{◌≡◌, ◌∙◌, ℕ, suc, ◌<◌, List, [], ◌∷◌, ◌++◌, length, map, filter, get_or, Option, None, Some, refl, ap, sym, subst, arith, append_assoc, append-nil, length-append, Bool, true, false, ⊎_elim, bytes_eq, cond}
 use Rattle.std.proofs.lemmas.Bool.{cases_Bool, cond-false, false≢true}
 use Rattle.std.proofs.lemmas.List.{get_or_append_left, get_or_at, map-append}
@@ -7,15 +7,15 @@ use Rattle.std.proofs.lemmas.Slice.Eq.{bytes_eq-Decides}
 use Rattle.cm_witness.specs.Pairs.{first_line, pairs, pairs_after, with_pair}
 use Rattle.cm_witness.specs.declared.certificate.Pair.{Pair}
 
--- where the keys at two of these places are equal, both places pass the test
+-- if the keys at two of these places are equal, both places pass the test
 abbrev pub PassEqual : (ℕ → Bool) → (ℕ → ℕ × List ℕ) → List ℕ → Type 0
 PassEqual test key_of places = (i j : ℕ) → i < j → j < length places → (key_of (get_or places i 0)).1 ≡ (key_of (get_or places j 0)).1 → (test (get_or places i 0) ≡ true) × (test (get_or places j 0) ≡ true)
 
--- where the key at a place is this one, the place passes the test
+-- if the key at a place is this one, the place passes the test
 abbrev PassKey : (ℕ → Bool) → (ℕ → ℕ × List ℕ) → List ℕ → List ℕ → Type 0
 PassKey test key_of places key = (i : ℕ) → i < length places → (key_of (get_or places i 0)).1 ≡ key → test (get_or places i 0) ≡ true
 
--- keys differ where only equal ones pass
+-- keys differ if only equal ones pass
 differ : (test : ℕ → Bool) (p : ℕ) (k key : List ℕ) → (k ≡ key → test p ≡ true) → test p ≡ false → bytes_eq k key ≡ false
 differ test p k key passes fails = ⊎_elim
     (λ (same : bytes_eq k key ≡ true). absurd (false≢true (sym fails ∙ passes ((bytes_eq-Decides k key).0 same))))

@@ -96,7 +96,7 @@ found_again keys line first key found other =
     ∙ or_none (first_line keys other)))
     (cases_Bool (bytes_eq key other))
 
--- what is found of a key in keys before others, and behind some where it is not
+-- what is found of a key in keys before others, and behind some if it is not
 pub found_before : (keys more : List (ℕ × List ℕ)) (key : List ℕ) (first : ℕ) → first_line keys key ≡ Some first → first_line (keys ++ more) key ≡ Some first
 found_before keys more key first is = first_line-append keys more key ∙ ap (λ (o : Option ℕ). or_else o (first_line more key)) is
 
@@ -129,7 +129,7 @@ noted_between keys more line key none other =
     ∙ sym (first_line-append keys (more ++ one) other)
     ∙ ap (λ (l : List (ℕ × List ℕ)). first_line l other) (sym (append_assoc keys more one))
 
--- it stands behind all where it stands behind the last of them
+-- it stands behind all if it stands behind the last of them
 pub noted_behind : (keys more more' : List (ℕ × List ℕ)) (k : ℕ × List ℕ) (other : List ℕ) → first_line more' other ≡ first_line (more ++ k ∷ []) other → first_line (keys ++ more') other ≡ first_line ((keys ++ more) ++ k ∷ []) other
 noted_behind keys more more' k other is =
     first_line-append keys more' other
@@ -137,7 +137,7 @@ noted_behind keys more more' k other is =
     ∙ sym (first_line-append keys (more ++ k ∷ []) other)
     ∙ ap (λ (l : List (ℕ × List ℕ)). first_line l other) (sym (append_assoc keys more (k ∷ [])))
 
--- and where one was noted, another one still isn't found
+-- and if one was noted, another one still isn't found
 pub still_none : (more more' : List (ℕ × List ℕ)) (line : ℕ) (key other : List ℕ) → first_line more' other ≡ first_line (more ++ (line, key) ∷ []) other → first_line more other ≡ None → (key ≡ other → ⊥) → first_line more' other ≡ None
 still_none more more' line key other is none differs =
     is

@@ -41,7 +41,7 @@ pub found_by_slot : (keys : List (ℕ × List ℕ)) (slots key : List ℕ) (i : 
 found_by_slot keys slots key i table inside at is =
     first_at keys key i inside is (λ j within same. omega (arith, at, table.finds j within, ap (number_of slots) same))
 
--- no key is there where that number is of no such key
+-- no key is there if that number is of no such key
 pub none_by_slot : (keys : List (ℕ × List ℕ)) (slots key : List ℕ) → IsTable keys slots → ((i : ℕ) → number_of slots key ≡ i + 1 → (key_in keys i).1 ≡ key → ⊥) → first_line keys key ≡ None
 none_by_slot keys slots key table none =
     first_none keys key (λ j within same. none j (sym (ap (number_of slots) same) ∙ table.finds j within) same)

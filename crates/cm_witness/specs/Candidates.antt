@@ -3,7 +3,7 @@ use Rattle.std.specs.Prelude.{◌≡◌, ℕ, ◌+◌, ◌*◌, ◌/◌, ◌%◌
 use Rattle.cm_spec.specs.Graph.{ends_at}
 use Rattle.cm_witness.specs.declared.candidates.Hits.{Hits}
 
--- where two of these places have edges with the same ends, these pass the test
+-- if two of these places have edges with the same ends, these pass the test
 abbrev pub FindsEqual : (List ℕ → Bool) → List (List ℕ) → List ℕ → Type 0
 FindsEqual test edges places = (i j : ℕ) → i < j → j < length places → ends_at edges (slice_index places i) ≡ ends_at edges (slice_index places j) → test (ends_at edges (slice_index places j)) ≡ true
 
@@ -11,7 +11,7 @@ FindsEqual test edges places = (i j : ℕ) → i < j → j < length places → e
 unfoldable pub mixed : List ℕ → ℕ
 mixed ends = fold (λ h v. (h + v) % 2 ^ 64 * 0x9e3779b97f4a7c15 % 2 ^ 64) 0 ends
 
--- their slot in a table of so many words: the word, and three of its bits or fewer
+-- their slot in a table of this many words: the word, and three of its bits or fewer
 unfoldable pub word_of : ℕ → List ℕ → ℕ
 word_of words ends = mixed ends / 2 ^ 32 * words / 2 ^ 32
 

@@ -20,7 +20,7 @@ keys_at keys places = map (λ e. slice_index_or keys e (0, [])) places
 abbrev pub core_edges : List (ℕ × List ℕ) → List (List ℕ) → List ℕ → List CoreEdge
 core_edges keys edges places = map (λ e. core_edge (slice_index_or keys e (0, [])) (slice_index_or edges e [])) places
 
--- what peeling leaves of the graph of keys under a seed: its edges, with the lines of their keys
+-- the residual graph of keys under a seed: its edges, with the lines of their keys
 abbrev pub edges_left : Rule → List (ℕ × List ℕ) → ℕ → ℕ → List CoreEdge
 edges_left r keys c seed = core_edges keys (graph_of r keys c seed) (rest_of (graph_of r keys c seed))
 

@@ -29,36 +29,37 @@ has_buckets Bdz = false
 has_buckets BdzPh = false
 has_buckets Brz = true
 
--- `Key Read` exactly where the count of the keys' faults rose
+-- `Key Read` exactly if the count of the keys' faults rose
 abbrev pub HasGatherCause : {T : Type 0} → ℕ → ℕ → Result T GatherFault → Type 0
 HasGatherCause before now (Ok x) = now ≡ before
 HasGatherCause before now (Err Memory) = now ≡ before
 HasGatherCause before now (Err (Key fault)) = HasKeyCause {T = Unit {0}} before now (Err fault)
 HasGatherCause before now (Err (Changed first again)) = now ≡ before
 
--- told keys, of which m were expected, have come to their end, which is this fault: unless the source has failed, there are no more than m
+-- known keys, of which m were expected, have come to their end, which is this fault: unless the source has failed, there are no more
+-- than m
 abbrev pub IsEndFault : Told → ℕ → KeyFault → Type 0
 IsEndFault told m Read = Unit {0}
 IsEndFault told m (TooLong line) = (length told.keys ≤ m) × (told.fault ≡ Some (TooLong line))
 IsEndFault told m TooMany = (length told.keys ≤ m) × (told.fault ≡ Some TooMany)
 
--- there are more than m told keys, of which the pass gave one; or fewer, and no fault at their end
+-- there are more than m known keys, of which the pass took one more than m; or fewer, and no fault at their end
 abbrev pub AreOthers : Told → ℕ → ℕ → Type 0
 AreOthers told m now = ((m < length told.keys) × (now ≡ m + 1)) ⊎ ((length told.keys < m) × (now ≡ length told.keys) × (told.fault ≡ None))
 
--- the refusals over told keys, of which m were expected
+-- the failures over known keys, of which m were expected
 abbrev pub FailsGather : Told → ℕ → GatherFault → Type 0
 FailsGather told m Memory = Unit {0}
 FailsGather told m (Key fault) = IsEndFault told m fault
 FailsGather told m (Changed first now) = AreOthers told m now
 
--- a pass that expected the first number gave so many keys and stopped: it had fewer, or one more
+-- a pass that expected `first` keys took `now` keys and stopped: it had fewer, or one more
 pub record IsOther (first now place : ℕ) : Type 0 where
   pub given : now ≡ place
   pub differs : now ≢ first
   pub stops : now ≤ first + 1
 
--- the numbers of `Changed`: m were expected, and so many keys were given
+-- the numbers of `Changed`: m were expected, and `place` keys were taken
 abbrev pub HasOther : ℕ → ℕ → GatherFault → Type 0
 HasOther m place Memory = Unit {0}
 HasOther m place (Key fault) = Unit {0}

@@ -12,7 +12,7 @@ noted_in entries = map (λ e. (e.1, e.0.items)) entries
 abbrev pub with_lines : {A : Type 0} → List ℕ → List (Vec ℕ A) → List (ℕ × List ℕ)
 with_lines lines keys = zip lines (map (λ k. k.items) keys)
 
--- what was noted finds of each key what all these find, and the pairs are theirs
+-- each key has the same first line among those noted as among all of these, and the pairs are those of all
 pub record AreNoted (earlier noted : List (ℕ × List ℕ)) (found : List Pair) : Type 0 where
   pub finds : (key : List ℕ) → first_line noted key ≡ first_line earlier key
   pub paired : found ≡ pairs earlier

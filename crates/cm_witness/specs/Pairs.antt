@@ -8,7 +8,7 @@ abbrev pub first_line : List (ℕ × List ℕ) → List ℕ → Option ℕ
 first_line [] key = None
 first_line (k ∷ keys) key = if bytes_eq k.1 key then Some k.0 else first_line keys key
 
--- a pair before others, where an earlier key is equal
+-- a pair before others, if an earlier key is equal
 abbrev pub with_pair : Option ℕ → ℕ → List Pair → List Pair
 with_pair None line pairs = pairs
 with_pair (Some first) line pairs = record { first = first; again = line } ∷ pairs

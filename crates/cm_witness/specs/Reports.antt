@@ -35,6 +35,6 @@ pair_line p = joined (codes "equal " ∷ decimal p.first ∷ codes " " ∷ decim
 abbrev pub report_text : Algorithm → Option InBucket → ℕ → List CoreEdge → List Pair → List ℕ
 report_text algorithm place seed edges equal = head_line algorithm place seed (length edges) ++ (joined (map edge_line edges) ++ joined (map pair_line equal))
 
--- that of what peeling leaves of the graph of keys under a seed
+-- the report of the residual graph of keys under a seed
 abbrev pub core_report : Algorithm → Rule → List (ℕ × List ℕ) → ℕ → ℕ → List ℕ
 core_report algorithm r keys c seed = report_text algorithm None seed (edges_left r keys c seed) (pairs_left r keys c seed)

@@ -6,22 +6,22 @@ use cm_graph::Edges;
 use std::alloc::{AllocError, Global};
 use std::marker::Model;
 
-/// An odd number whose bits are irregular, of the golden ratio.
+/// An odd number with irregular bits, from the golden ratio.
 pub(crate) const FACTOR: u64 = 0x9e37_79b9_7f4a_7c15;
 
 /// How many words a table has at most: the upper half of a mixed number chooses among them.
 pub(crate) const MAX_WORDS: usize = 1 << 32;
 
-/// 64 bits of a table: a bit of `once` is set where an edge hit it, and of `twice` where another one did too.
+/// 64 bits of a table: a bit of `once` is set if an edge hit it, and one of `twice` if another one did too.
 #[derive(Clone, Copy)]
 struct Hits {
     once: u64,
     twice: u64,
 }
 
-/// A table of marked edges by their ends, of 4 bytes an edge. Clauses see its words, by two tests of ends: those that were marked
-/// once or twice pass them, and so may others whose bits were hit. Of different edges, about one in a hundred is taken for one that
-/// was marked twice.
+/// A table of marked edges by their ends, of 4 bytes an edge. Clauses see its words through two tests of ends: those that were marked
+/// once or twice pass them, and others may pass if their bits were hit. Of different edges, about one in a hundred is taken for one
+/// that was marked twice.
 #[derive(Drop)]
 pub(crate) struct Candidates {
     words: Vec<Hits>,
@@ -38,7 +38,7 @@ impl Model for Candidates {
     ghost invariant = { λ t. (0 < length t.words.items) × (length t.words.items ≤ 2 ^ 32) };
 }
 
-/// Mixes the ends of an edge into a number, of which the upper bits are irregular.
+/// Mixes the ends of an edge into a number with irregular upper bits.
 #[inline(always)]
 fn mix<const K: usize>(ends: [u32; K]) -> u64
     ensures { result ≡ mixed ends.entry }
@@ -59,7 +59,7 @@ fn bit(number: u64, from: u32) -> u64
     1 << (number >> from & 63)
 }
 
-/// The slot of the ends of an edge in a table of so many words: a word, and some of its bits.
+/// The slot of the ends of an edge in a table of `words` words: a word, and some of its bits.
 #[inline(always)]
 fn slot_of<const K: usize>(ends: [u32; K], words: usize) -> (usize, u64)
     requires some { 0 < words }
@@ -75,7 +75,7 @@ fn slot_of<const K: usize>(ends: [u32; K], words: usize) -> (usize, u64)
 }
 
 impl Candidates {
-    /// No edge yet, with room for so many.
+    /// No edge yet, with room for `edges` edges.
     pub(crate) fn new(alloc: Global, edges: usize) -> Result<Candidates, AllocError> {
         let none = Hits { once: 0, twice: 0 };
         let words = (edges / 4 + 1).min(MAX_WORDS);

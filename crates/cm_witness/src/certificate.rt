@@ -1,4 +1,4 @@
-//! What a refused build shows.
+//! What a failed build shows.
 
 use cm_algorithm::Algorithm;
 use cm_outer::KeyFault;
@@ -32,7 +32,7 @@ pub struct Pair {
 pub struct Certificate {
     pub algorithm: Algorithm,
     pub seed: u32,
-    /// Of which bucket, where the keys were split.
+    /// The bucket, if the keys were split.
     pub place: Option<InBucket>,
     pub edges: Vec<CoreEdge>,
     pub equal: Vec<Pair>,
@@ -41,10 +41,10 @@ pub struct Certificate {
 /// Why no certificate was gathered.
 #[derive(Clone, Copy, Debug, PartialEq, Eq)]
 pub enum GatherFault {
-    /// There was too little memory.
+    /// Out of memory.
     Memory,
-    /// The pass over the keys refused.
+    /// The pass over the keys failed.
     Key(KeyFault),
-    /// There were so many edges, and now so many keys: fewer, or one more, where the pass stopped.
+    /// There were `first` edges, and now there are `now` keys: fewer, or one more, where the pass stopped.
     Changed { first: u32, now: u32 },
 }

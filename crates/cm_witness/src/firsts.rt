@@ -32,7 +32,7 @@ impl Model for Firsts {
 }
 
 impl Firsts {
-    /// No keys, with room in the table for so many.
+    /// No keys, with room in the table for `keys` keys.
     pub(crate) fn new(alloc: Global, keys: usize) -> Result<Firsts, AllocError>
         ensures none { IfOk result (λ made. made ≡ []) }
     {
@@ -42,8 +42,7 @@ impl Firsts {
         })
     }
 
-    /// Notes a key with its line, and returns the first line of an equal key noted before. The key is copied only where there is
-    /// none.
+    /// Notes a key with its line, and returns the first line of an equal key noted before. The key is copied only if there is none.
     pub(crate) fn note(
         &mut self,
         alloc: Global,
@@ -78,7 +77,7 @@ pub struct EqualKeys {
 }
 
 impl EqualKeys {
-    /// No keys, with a table for so many. Fails if out of memory.
+    /// No keys, with a table for `keys` keys. Fails if memory runs out.
     pub fn new(alloc: Global, keys: usize) -> Result<EqualKeys, AllocError>
         ensures none { IfOk result (λ made. AreNoted [] made.firsts made.pairs.items) }
     {
@@ -88,7 +87,7 @@ impl EqualKeys {
         })
     }
 
-    /// Notes a key with its line, and adds a pair if an equal key was noted before. Fails if out of memory.
+    /// Notes a key with its line, and adds a pair if an equal key was noted before. Fails if memory runs out.
     pub fn note(&mut self, alloc: Global, line: u32, key: &[u8]) -> Result<(), AllocError>
         ensures { (earlier : List (ℕ × List ℕ)) → AreNoted earlier self.old.firsts self.old.pairs.items → OnOk result (AreNoted (earlier ++ (line, key.now) ∷ []) self.new.firsts self.new.pairs.items) }
     {

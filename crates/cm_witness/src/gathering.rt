@@ -33,7 +33,7 @@ impl From<AllocError> for GatherFault {
     }
 }
 
-/// Passes the next key, and returns false at the end. A key at hand isn't copied. The buffer is for its use.
+/// Passes the next key, and returns false at the end. A buffered key isn't copied. The buffer is scratch space.
 #[inline(always)]
 fn pass_next<P: KeyPass>(keys: &mut P, key: &mut KeyBuf) -> Result<bool, KeyFault>
     requires usable { IsTrue (P.usable keys.old) }
@@ -51,8 +51,7 @@ fn pass_next<P: KeyPass>(keys: &mut P, key: &mut KeyBuf) -> Result<bool, KeyFaul
     Ok(true)
 }
 
-/// Passes the keys from place `from` up to `until`, of `m` in all, and fails as `Changed` where there are fewer. The buffer is for
-/// its use.
+/// Passes the keys from place `from` up to `until`, of `m` in all. Fails as `Changed` if there are fewer. The buffer is scratch space.
 fn pass_keys<P: KeyPass>(
     keys: &mut P,
     key: &mut KeyBuf,
@@ -81,7 +80,7 @@ fn pass_keys<P: KeyPass>(
     Ok(())
 }
 
-/// Puts the next key into the buffer, which is that at place `e` of `m` in all, and returns its line.
+/// Puts the next key into the buffer and returns its line. It is the key at place `e` of `m` in all.
 fn read_key<P: KeyPass>(keys: &mut P, key: &mut KeyBuf, e: u32, m: u32) -> Result<u32, GatherFault>
     requires usable { IsTrue (P.usable keys.old) }
     requires at { P.place keys.old ≡ e }
@@ -100,7 +99,7 @@ fn read_key<P: KeyPass>(keys: &mut P, key: &mut KeyBuf, e: u32, m: u32) -> Resul
     Ok(keys.line())
 }
 
-/// Passes the next key, which is that at place `e` of `m` in all, and returns its line. The buffer is for its use.
+/// Passes the next key, the one at place `e` of `m` in all, and returns its line. The buffer is scratch space.
 fn pass_key<P: KeyPass>(keys: &mut P, key: &mut KeyBuf, e: u32, m: u32) -> Result<u32, GatherFault>
     requires usable { IsTrue (P.usable keys.old) }
     requires at { P.place keys.old ≡ e }
@@ -119,8 +118,7 @@ fn pass_key<P: KeyPass>(keys: &mut P, key: &mut KeyBuf, e: u32, m: u32) -> Resul
     Ok(keys.line())
 }
 
-/// Passes the next key, which is that at place `e` of `m` in all, and returns its line. A candidate is noted. The buffer is for its
-/// use.
+/// Passes the next key, the one at place `e` of `m` in all, and returns its line. A candidate is noted. The buffer is scratch space.
 fn take_key<P: KeyPass>(
     alloc: Global,
     keys: &mut P,
@@ -163,10 +161,10 @@ fn core_edge<const K: usize>(line: u32, ends: [u32; K]) -> CoreEdge
     }
 }
 
-/// The certificate of the edges at the places `rest`, which are those of a 2-core, from one pass over all keys: one for each edge.
-/// Of the keys at these places it keeps those that may equal another one there, equal ones once: those whose edge has the ends of
-/// another, and few others. To tell which, it takes 4 bytes an edge of the core; to find equal ones, 8 bytes for each of these keys,
-/// and 16 for each that is kept. Fails as `Changed` where there are fewer keys than edges, or more.
+/// The certificate of the edges at the places `rest`, which are those of a 2-core, from one pass over all keys: one for each edge. Of
+/// the keys at these places it keeps those that may equal another one there, equal ones once: those whose edge has the ends of another,
+/// and few others. To find them, it takes 4 bytes an edge of the core; to find equal ones, 8 bytes for each of these keys, and 16 for
+/// each that is kept. Fails as `Changed` if there are fewer keys than edges, or more.
 pub fn gather<P: KeyPass, const K: usize>(
     alloc: Global,
     keys: &mut P,
@@ -182,7 +180,7 @@ pub fn gather<P: KeyPass, const K: usize>(
     requires inside { All (λ e. e < length edges.now.edges) rest.now }
     requires equal_keys { ForSome (P.told keys.old) (λ told. EqualKeysMeet told.keys edges.now.edges) }
 
-    // Whatever the pass tells.
+    // Whatever is known of the keys.
     ensures told { P.told keys.new ≡ P.told keys.old }
     ensures cause { HasGatherCause (P.faults keys.old) (P.faults keys.new) result }
     ensures algorithm { IfOk result (λ made. made.algorithm ≡ algorithm) }
@@ -193,7 +191,7 @@ pub fn gather<P: KeyPass, const K: usize>(
     ensures given { OnOk result (P.place keys.new ≡ length edges.now.edges) }
     ensures changed { IfErr result (HasOther (length edges.now.edges) (P.place keys.new)) }
 
-    // Over told keys.
+    // If the keys are known.
     ensures end { OnOk result (ForSome (P.told keys.old) (λ told. (length told.keys ≡ length edges.now.edges) × (told.fault ≡ None))) }
     ensures edges { IfOk result (λ made. ForSome (P.told keys.old) (λ told. made.edges.items ≡ core_edges told.keys edges.now.edges rest.now)) }
     ensures equal { IfOk result (λ made. ForSome (P.told keys.old) (λ told. made.equal.items ≡ pairs (keys_at told.keys rest.now))) }

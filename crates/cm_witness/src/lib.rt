@@ -1,4 +1,4 @@
-//! Why no seed gives a function: the edges of a 2-core, and which of its keys are equal.
+//! Why no seed works: the edges of a 2-core, and which of its keys are equal.
 #![tactic(auto)]
 
 mod candidates;

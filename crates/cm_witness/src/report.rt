@@ -26,7 +26,7 @@ pub fn append<const N: usize>(line: &mut ArrayVec<u8, N>, part: &[u8])
     }
 }
 
-/// Appends a part and a number in decimal to a line that has room for both, and for ten digits. The buffer is for its use.
+/// Appends a part and a number in decimal to a line that has room for the part and for ten digits. The buffer is scratch space.
 #[inline(always)]
 pub fn append_number<const N: usize>(
     line: &mut ArrayVec<u8, N>,
@@ -81,8 +81,8 @@ fn write_edges<O: Sink>(out: &mut O, edges: &[CoreEdge], buffer: &mut Buffer) ->
     Ok(())
 }
 
-/// Writes a line for each pair of equal keys. Takes no memory. Fails exactly where the sink does, which has then taken a prefix of
-/// the text. The buffer is for its use.
+/// Writes a line for each pair of equal keys. Takes no memory. Fails exactly if the sink does, which has then taken a prefix of the
+/// text. The buffer is scratch space.
 pub fn write_pairs<O: Sink>(out: &mut O, pairs: &[Pair], buffer: &mut Buffer) -> Result<(), Failed>
     ensures lines { Writes (O.written out.old) (O.written out.new) (joined (map pair_line pairs.now)) result }
     ensures cause { HasCause (O.faults out.old) (O.faults out.new) result }
@@ -114,7 +114,7 @@ impl Certificate {
     }
 
     /// Writes the report: the algorithm with its bucket, if there is one, its seed and how many edges there are, then each edge, then
-    /// each pair of equal keys, each in a line of its own. Takes no memory. Fails exactly where the sink does, which has then taken a
+    /// each pair of equal keys, each in a line of its own. Takes no memory. Fails exactly if the sink does, which has then taken a
     /// prefix of the text.
     pub fn write<O: Sink>(&self, out: &mut O) -> Result<(), Failed>
         ensures text { Writes (O.written out.old) (O.written out.new)

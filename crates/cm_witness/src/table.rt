@@ -35,7 +35,7 @@ impl Model for Table {
     ghost invariant = { λ t. All (StandsIn t.bytes.items) t.spots.items × IsTable (map (spotted_in t.bytes.items) t.spots.items) t.slots.items };
 }
 
-/// Mixes bytes into a number, of which the upper bits are irregular.
+/// Mixes bytes into a number with irregular upper bits.
 #[inline(always)]
 fn mix_bytes(key: &[u8]) -> u64
     ensures { result ≡ mixed key.now }
@@ -48,7 +48,7 @@ fn mix_bytes(key: &[u8]) -> u64
 }
 
 impl Table {
-    /// No keys, with room for so many. Further ones find fewer free slots.
+    /// No keys, with room for `keys` keys. Further ones find fewer free slots.
     pub(crate) fn new(alloc: Global, keys: usize) -> Result<Table, AllocError>
         ensures none { IfOk result (λ made. made.keys ≡ []) }
     {

@@ -23,7 +23,7 @@ fault_kinds : (k : ErrorKind) → (fault_of_kind k ≡ Memory) ⊎ (fault_of_kin
 fault_kinds OutOfMemory = inl refl
 fault_kinds _ = inr refl
 
--- the words that the command takes
+-- the arguments that the command takes
 pub job_of-ok : (a : App) (words : List Text) (m : ArgMatches) → a ≡ cmph_app → HasMatchesOf a words m
     → (is_simple_and_free a ≡ true → fault_of a words ≡ [])
     → job_of_rows (rows_of (found_of m)) ≡ job_of words
@@ -34,7 +34,7 @@ job_of-ok a words m is has none =
     ap job_of_rows rows
     ∙ sym (ap (λ (ks : Kinds). let R : Read Job = if is_refused ks then Err Words else job_of_rows (matches_of cmph_app words) in R) no_fault)
 
--- the words that it refuses
+-- the arguments that it doesn't take
 pub job_of-err : (a : App) (words : List Text) (e : Error) → a ≡ cmph_app
     → (is_simple_and_free a ≡ true → HasKind (fault_of a words) e)
     → (u : UsageFault) → u ≡ fault_of_kind (kind_of e)

@@ -1,4 +1,4 @@
--- The command that the words are read as, in clap's terms.
+-- The command that parses the arguments, in clap's terms.
 use Rattle.std.specs.Prelude.{ℕ, List, [], ◌∷◌, true, Some, codes}
 use Rattle.clap.specs.Words.{App, Rule, Text, new_app, new_rule, with_rule}
 use Rattle.clap.specs.declared.builder.action.ArgAction.{ArgAction}
@@ -20,7 +20,7 @@ counted_rule id letter = option_rule id letter Count
 abbrev pub value_rule : Text → ℕ → Rule
 value_rule id letter = option_rule id letter Set
 
--- a word that belongs to no option
+-- an argument that belongs to no option
 abbrev pub file_rule : Text → Rule
 file_rule id = record (new_rule id) { action = Some Set }
 

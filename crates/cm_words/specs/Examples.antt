@@ -1,4 +1,4 @@
--- Words and jobs that the worked examples are about.
+-- Arguments and jobs that the worked examples are about.
 use Rattle.std.specs.Prelude.{ℕ, ◌==◌, ◌++◌, List, [], ◌∷◌, codes, false, None, if◌then◌else◌}
 use Rattle.clap.specs.Words.{Text}
 use Rattle.cm_algorithm.specs.declared.algorithm.Algorithm.TheVariants.{Chm}
@@ -6,13 +6,13 @@ use Rattle.cm_words.specs.declared.jobs.BuildJob.{BuildJob}
 use Rattle.cm_words.specs.declared.jobs.QueryJob.{QueryJob}
 use Rattle.cm_words.specs.declared.jobs.TestJob.{TestJob}
 
--- a byte more in front of the first word
+-- a byte more at the start of the first argument
 abbrev pub in_first : ℕ → List Text → List Text
 in_first b [] = (b ∷ []) ∷ []
 in_first b (word ∷ words) = (b ∷ word) ∷ words
 
--- The words of a line: each blank (32) parts two of them, so that an empty word stands before a blank at the start,
--- after one at the end, and between two.
+-- The arguments of a line: each blank (32) separates two of them, so that an empty argument stands before a blank at the start, after
+-- one at the end, and between two.
 abbrev pub typed : List ℕ → List Text
 typed [] = [] ∷ []
 typed (b ∷ bs) = if b == 32 then [] ∷ typed bs else in_first b (typed bs)

@@ -1,4 +1,4 @@
--- What words mean: a job, or a fault.
+-- What arguments mean: a job, or a fault.
 use Rattle.std.specs.Prelude.{ℕ, ◌++◌, Bool, true, false, List, [], ◌∷◌, codes, Option, Some, None, Ok, Err, if◌then◌else◌, unwrap_or}
 use Rattle.clap.specs.Words.{Kinds, Row, Text, fault_of, first_of, matches_of}
 use Rattle.cm_words.specs.Command.{cmph_app}
@@ -50,13 +50,13 @@ test_of keys v rows = record {
   dir = directory_of (first_of (codes "directory") rows);
 }
 
--- a build or a query, where the keys file is named
+-- a build or a query, if the keys file is named
 abbrev pub job_over : Option Text → Values → List Row → Read Job
 job_over None v rows = Err NoFile
 job_over (Some keys) v rows = if is_set (codes "generate") rows then Ok (Build (build_of v keys rows))
     else Ok (Query (query_of v keys rows))
 
--- a test, where a number of keys is given, or else a build or a query
+-- a test, if a number of keys is given, or else a build or a query
 abbrev pub job_by : Option ℕ → Values → List Row → Read Job
 job_by (Some keys) v rows = Ok (Test (test_of keys v rows))
 job_by None v rows = job_over (first_of (codes "keys") rows) v rows
@@ -67,12 +67,12 @@ job_of_rows rows = if is_set (codes "help") rows then Ok Help
     else (if is_set (codes "version") rows then Ok Version
     else and_then (as_usage (values_of rows)) (λ v. job_by v.test v rows))
 
--- clap has a fault for the words
+-- clap has a fault for the arguments
 abbrev pub is_refused : Kinds → Bool
 is_refused [] = false
 is_refused (kind ∷ kinds) = true
 
--- the job of the words, of which the first is the program's name
+-- the job of the arguments, of which the first is the program's name
 unfoldable pub job_of : List Text → Read Job
 job_of words = if is_refused (fault_of cmph_app words) then Err Words
     else job_of_rows (matches_of cmph_app words)

@@ -11,7 +11,7 @@ use Rattle.cm_words.specs.declared.values.Values.{Values}
 abbrev pub Read : Type 0 → Type 0
 Read A = Result A UsageFault
 
--- a bad value as a fault of the words
+-- a bad value as a fault of the arguments
 abbrev pub as_usage : {A : Type 0} → Checked A → Read A
 as_usage (Ok x) = Ok x
 as_usage (Err bad) = Err (BadValue bad.letter)

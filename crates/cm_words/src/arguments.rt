@@ -1,4 +1,4 @@
-//! The command that the words are read as.
+//! The command that parses the arguments.
 ghost use Rattle.std.specs.Prelude.{◌≡◌, IfOk};
 ghost use Rattle.clap.specs.Words.{app_of};
 ghost use Rattle.cm_words.specs.Command.{bare_app, build_options, cmph_app, file_options, file_rule, flags, option_rule, with_argument, with_arguments};

@@ -1,4 +1,4 @@
-//! Worked examples of what words mean. Each function has an empty body, and its clauses are checked by the prover.
+//! Worked examples of what arguments mean. Each function has an empty body, and its clauses are checked by the prover.
 #![tactic(auto, unfolding(crate::specs::Meaning::job_of, crate::specs::Command::with_argument, clap::proofs::OnLiterals::clap_on_literals))]
 
 ghost use Rattle.std.specs.Prelude.{◌≡◌, ◌++◌, ◌∷◌, [], Ok, Err, Some, None, true, codes};
@@ -24,7 +24,7 @@ pub fn files()
     ensures not_ascii { job_of (codes "cmph" ∷ (195 ∷ 169 ∷ []) ∷ []) ≡ Ok (Query (query_of_file (195 ∷ 169 ∷ []))) }
 {}
 
-/// Two hyphens, after which no word is an option.
+/// Two hyphens, after which no argument is an option.
 pub fn dashes()
     ensures alone { job_of (typed (codes "cmph --")) ≡ Err NoFile }
     ensures before_letter { job_of (typed (codes "cmph -- -g")) ≡ Ok (Query (query_of_file (codes "-g"))) }
@@ -57,7 +57,7 @@ pub fn flags()
     ensures without_file { job_of (typed (codes "cmph -g")) ≡ Err NoFile }
 {}
 
-/// Options that there aren't.
+/// Unknown options.
 pub fn unknown()
     ensures letter { job_of (typed (codes "cmph -t 2 keys")) ≡ Err Words }
     ensures capital { job_of (typed (codes "cmph -G keys")) ≡ Err Words }
@@ -226,7 +226,7 @@ pub fn tests()
     ensures width_before_test { job_of (typed (codes "cmph -T 0 -g -a brz -b 3")) ≡ Err (BadValue 84) }
 {}
 
-/// Words that mean more than one thing: the first of them in the order of the tests.
+/// Arguments that mean more than one thing: the first of them in the order of the tests.
 pub fn orders()
     ensures help { job_of (typed (codes "cmph -h")) ≡ Ok Help }
     ensures version { job_of (typed (codes "cmph -V")) ≡ Ok Version }

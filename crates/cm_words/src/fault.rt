@@ -1,4 +1,4 @@
-//! Why words are refused.
+//! What is wrong with arguments.
 ghost use Rattle.std.specs.Prelude.{◌≡◌};
 ghost use Rattle.clap.specs.Words.{kind_of};
 ghost use Rattle.cm_words.specs.Refusals.{fault_of_kind};
@@ -9,14 +9,14 @@ use cm_numbers::BadValue as BadOption;
 use std::alloc::{AllocError, AllocFailed};
 use thiserror::Error;
 
-/// Why the words of a command line are no job.
+/// Why the arguments of a command line are no job.
 #[derive(Clone, Copy, Debug, PartialEq, Eq, Error)]
 pub enum UsageFault {
-    /// There was too little memory.
+    /// Out of memory.
     #[error("out of memory")]
     Memory,
-    /// They aren't words that the command takes: an option that it doesn't have, one without its value or given twice, or
-    /// a second file.
+    /// They aren't arguments that the command takes: an option that it doesn't have, one without its value or given twice, or a second
+    /// file.
     #[error("bad arguments; cmph -h shows the usage")]
     Words,
     /// The value of the option with this letter, in ASCII, is out of form or out of its range.

@@ -9,7 +9,7 @@ pub struct BuildJob {
     pub keys: Text,
     /// The path of the function file.
     pub function: Text,
-    /// How many lines of the keys file are looked at, from 1 to 4,294,967,295, or all.
+    /// How many lines of the keys file are read, from 1 to 4,294,967,295, or all.
     pub first: Option<u32>,
     /// The algorithm.
     pub algorithm: Algorithm,
@@ -37,7 +37,7 @@ pub struct QueryJob {
     pub keys: Text,
     /// The path of the function file.
     pub function: Text,
-    /// How many lines of the keys file are looked at, from 1 to 4,294,967,295, or all.
+    /// How many lines of the keys file are read, from 1 to 4,294,967,295, or all.
     pub first: Option<u32>,
 }
 
@@ -56,7 +56,7 @@ pub struct TestJob {
     pub dir: Text,
 }
 
-/// What the words of a command line ask for.
+/// What the arguments of a command line ask for.
 #[derive(Debug, Drop)]
 pub enum Job {
     /// The help text.

@@ -1,4 +1,4 @@
-//! The words of the command line of `cmph`, read as a job.
+//! The arguments of the command line of `cmph`, read as a job.
 #![tactic(auto)]
 
 mod arguments;

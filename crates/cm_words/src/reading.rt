@@ -1,4 +1,4 @@
-//! The job of the words.
+//! The job of the arguments.
 ghost use Rattle.std.specs.Prelude.{◌≡◌, ◌⊎◌, Err, IfErr, IfOk, IsOk, Ok, false, map, option_map, string_bytes, true};
 ghost use Rattle.clap.specs.Words.{found_of, rows_of};
 ghost use Rattle.cm_numbers.specs.Limits.{IsTestSize};
@@ -130,8 +130,8 @@ fn job(alloc: Global, matches: &ArgMatches<'_>) -> Result<Job, UsageFault>
     }
 }
 
-/// Reads the words of a command line, of which the first is the program's name, as a job. It copies the paths, and
-/// answers `Memory` where there is too little for that.
+/// Reads the arguments of a command line, of which the first is the program's name, as a job. It copies the paths, and fails with
+/// `Memory` if memory runs out for that.
 pub fn read_words(alloc: Global, words: &[String]) -> Result<Job, UsageFault>
     ensures job { IfOk result (λ job. Ok job ≡ job_of (map (λ w. string_bytes w) words.now)) }
     ensures fault { IfErr result (λ fault. (fault ≡ UsageFault.Memory)

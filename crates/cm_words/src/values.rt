@@ -24,7 +24,7 @@ pub struct Values {
     pub test: Option<u32>,
 }
 
-/// The text of an option or a file, where it is given.
+/// The text of an option or a file, if it is given.
 pub fn text<'a>(matches: &ArgMatches<'a>, id: &str) -> Option<&'a str>
     ensures { option_map (λ s. s.now) result ≡ first_of id.now (rows_of (found_of matches.now)) }
 {

@@ -9,7 +9,7 @@ use std::io::ErrorKind;
 use std::process::ExitCode;
 use std::{env, process};
 
-/// The words of the command line. Where one of them isn't UTF-8, they are read as an option that there isn't.
+/// The arguments of the command line. If one of them isn't UTF-8, they are read as an unknown option.
 fn words_of<R: Env + Alloc<A = Global>>(rt: &R) -> Result<Vec<String>, AllocError> {
     let mut words = Vec::new(rt.alloc());
     match env::args(rt) {
