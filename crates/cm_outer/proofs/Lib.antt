@@ -1,3 +1,4 @@
 mod ReadLemmas
 mod MemFileLemmas
 mod WriteLemmas
+mod BentLemmas

@@ -14,3 +14,6 @@ pub mod MemSpills
 pub mod DiskCalls
 pub mod MemDisks
 pub mod MemFiles
+pub mod TurnSources
+pub mod BentSpills
+pub mod BentDisks

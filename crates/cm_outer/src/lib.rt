@@ -1,6 +1,8 @@
 //! The outside as a program sees it: sources, sinks, spills, a disk, a pass over keys and notes, with fakes of them in memory.
 #![tactic(auto)]
 
+mod bent_disk;
+mod bent_spill;
 mod disk;
 mod disk_call;
 mod fault;
@@ -16,7 +18,10 @@ mod notes;
 mod sink;
 mod source;
 mod spill;
+mod turn_source;
 
+pub use bent_disk::BentDisk;
+pub use bent_spill::BentSpill;
 pub use disk::Disk;
 pub use disk_call::DiskCall;
 pub use fault::{DiskFault, Failed};
@@ -29,3 +34,4 @@ pub use notes::Notes;
 pub use sink::{Sink, write_pieces};
 pub use source::Source;
 pub use spill::Spill;
+pub use turn_source::TurnSource;
