@@ -6,7 +6,7 @@ use cm_outer::DiskCall;
 use std::test::Fail;
 
 /// The function of the empty key and `a`: one bucket, seed 0 for the split and for the bucket.
-const BRZ_TWO: [u8; 32] = [
+pub(crate) const BRZ_TWO: [u8; 32] = [
     0x43, 0x4d, 0x50, 0x48, 0x44, 0x4d, 0x50, 0x31, 4, 0x80, 0, 0, 2, 0, 0, 0, 0xb0, 0xc4, 0x12, 0,
     0, 0, 0, 0, 2, 0, 0, 0, 0, 0xc3, 0xff, 3,
 ];

@@ -1,7 +1,7 @@
 ghost use Rattle.std.specs.Prelude.{◌≡◌};
 
 use crate::equal::{expect_equal, expect_true};
-use cm_outer::{DiskCall, MemDisk, MemSink};
+use cm_outer::{Disk, DiskCall, MemDisk, MemSink};
 use cm_tool::run;
 use std::alloc::{AllocError, Global};
 use std::process::Abort;
@@ -26,7 +26,7 @@ pub(crate) const EMPTY_AND_A: [u8; 25] = [
 ];
 
 /// How many bytes a file, out and err may have where nothing is to fail.
-const AMPLE: usize = 1_000_000;
+pub(crate) const AMPLE: usize = 1_000_000;
 
 const PLAIN: &[&str] = &["cmph", "-g", "keys"];
 
@@ -151,10 +151,10 @@ fn list_calls(disk: &mut MemDisk, calls: &[(DiskCall, u64)]) -> Result<(), Alloc
 }
 
 /// Runs a command, and gives its status.
-pub(crate) fn run_words(
+pub(crate) fn run_words<D: Disk>(
     alloc: Global,
     words: &[&str],
-    disk: &mut MemDisk,
+    disk: &mut D,
     out: &mut MemSink,
     err: &mut MemSink,
 ) -> Result<u8, AllocError> {

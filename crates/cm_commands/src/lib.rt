@@ -8,6 +8,8 @@ mod builds;
 #[cfg(test)]
 mod cases;
 #[cfg(test)]
+mod changed;
+#[cfg(test)]
 mod commands;
 #[cfg(test)]
 mod equal;
