@@ -18,7 +18,7 @@ use cm_graph::{Edges, Incidence, Steps};
 use cm_outer::{KeyBuf, KeyPass};
 use cm_peel::{Peeled, peel_without_levels};
 use cm_scheme::{Built, Scheme, assign};
-use cm_witness::{Certificate, GatherFault, gather};
+use cm_witness::{Certificate, GatherFault, gather_with};
 use std::alloc::Global;
 use std::sync::ledger::Ledger;
 
@@ -71,11 +71,12 @@ fn attempt<S: Scheme<K>, I: Incidence<K> + Drop, P: KeyPass, const K: usize, L: 
     }
 }
 
-/// The certificate of the residual graph under a seed. The keys are passed once.
+/// The certificate of the residual graph under a seed. The keys are passed once. The buffer is scratch space.
 fn certify<S: Scheme<K>, P: KeyPass, const K: usize>(
     alloc: Global,
     scheme: &S,
     keys: &mut P,
+    key: &mut KeyBuf,
     seed: u32,
     left: &Left<K>,
 ) -> Result<Certificate, GatherFault>
@@ -89,9 +90,10 @@ fn certify<S: Scheme<K>, P: KeyPass, const K: usize>(
     ensures changed { IfErr result (HasOther (length left.now.edges.edges) (P.place keys.new)) }
     ensures fault { IfErr result (λ e. ForSome (P.told keys.old) (λ told. FailsGather told (length left.now.edges.edges) e)) }
 {
-    gather(
+    gather_with(
         alloc,
         keys,
+        key,
         &left.edges,
         left.peeled.rest(),
         scheme.algorithm(),
@@ -201,7 +203,7 @@ fn build_counted<S: Scheme<K>, I: Incidence<K> + Drop, P: KeyPass, const K: usiz
             seed: first,
             cells,
         }),
-        Err(left) => certify::<S, P, K>(alloc, scheme, keys, first, &left)?,
+        Err(left) => certify::<S, P, K>(alloc, scheme, keys, key, first, &left)?,
     };
     // Equal keys have equal edges, so that no other seed works.
     if !certificate.equal.is_empty() {

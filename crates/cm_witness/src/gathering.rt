@@ -197,23 +197,60 @@ pub fn gather<P: KeyPass, const K: usize>(
     ensures equal { IfOk result (λ made. ForSome (P.told keys.old) (λ told. made.equal.items ≡ pairs (keys_at told.keys rest.now))) }
     ensures fault { IfErr result (λ fault. ForSome (P.told keys.old) (λ told. FailsGather told (length edges.now.edges) fault)) }
 {
+    let mut key = KeyBuf::new();
+    gather_with(alloc, keys, &mut key, edges, rest, algorithm, seed, place)
+}
+
+/// `gather` with a buffer for its keys, which many calls may share: making one clears its 64 KiB.
+pub fn gather_with<P: KeyPass, const K: usize>(
+    alloc: Global,
+    keys: &mut P,
+    key: &mut KeyBuf,
+    edges: &Edges<K>,
+    rest: &[u32],
+    algorithm: Algorithm,
+    seed: u32,
+    place: Option<InBucket>,
+) -> Result<Certificate, GatherFault>
+    requires ends { K ≡ ends_of algorithm }
+    requires place { is_some place ≡ has_buckets algorithm }
+    requires rising { IsStrictlyIncreasing rest.now }
+    requires inside { All (λ e. e < length edges.now.edges) rest.now }
+    requires equal_keys { ForSome (P.told keys.old) (λ told. EqualKeysMeet told.keys edges.now.edges) }
+
+    // Whatever the pass tells.
+    ensures told { P.told keys.new ≡ P.told keys.old }
+    ensures cause { HasGatherCause (P.faults keys.old) (P.faults keys.new) result }
+    ensures algorithm { IfOk result (λ made. made.algorithm ≡ algorithm) }
+    ensures seed { IfOk result (λ made. made.seed ≡ seed) }
+    ensures place { IfOk result (λ made. made.place ≡ place) }
+    ensures count { IfOk result (λ made. length made.edges.items ≡ length rest.now) }
+    ensures third { IfOk result (λ made. All (λ e. is_some e.third ≡ has_third algorithm) made.edges.items) }
+    ensures given { OnOk result (P.place keys.new ≡ length edges.now.edges) }
+    ensures changed { IfErr result (HasOther (length edges.now.edges) (P.place keys.new)) }
+
+    // Over told keys.
+    ensures end { OnOk result (ForSome (P.told keys.old) (λ told. (length told.keys ≡ length edges.now.edges) × (told.fault ≡ None))) }
+    ensures edges { IfOk result (λ made. ForSome (P.told keys.old) (λ told. made.edges.items ≡ core_edges told.keys edges.now.edges rest.now)) }
+    ensures equal { IfOk result (λ made. ForSome (P.told keys.old) (λ told. made.equal.items ≡ pairs (keys_at told.keys rest.now))) }
+    ensures fault { IfErr result (λ fault. ForSome (P.told keys.old) (λ told. FailsGather told (length edges.now.edges) fault)) }
+{
     let m = edges.len();
     let candidates = Candidates::among(alloc, edges, rest)?;
     let mut equal = EqualKeys::new(alloc, candidates.count(edges, rest))?;
     let mut core = Vec::with_capacity(alloc, rest.len())?;
-    let mut key = KeyBuf::new();
     keys.rewind()?;
     let mut given = 0;
     for e in rest {
-        pass_keys(keys, &mut key, given, *e, m)?;
+        pass_keys(keys, key, given, *e, m)?;
         let ends = edges.ends(*e);
         let candidate = candidates.twice(ends);
-        let line = take_key(alloc, keys, &mut key, *e, m, candidate, &mut equal)?;
+        let line = take_key(alloc, keys, key, *e, m, candidate, &mut equal)?;
         core.push_reserved(core_edge(line, ends));
         given = *e + 1;
     }
-    pass_keys(keys, &mut key, given, m, m)?;
-    if keys.next(&mut key)? {
+    pass_keys(keys, key, given, m, m)?;
+    if keys.next(key)? {
         return Err(GatherFault::Changed {
             first: m,
             now: m + 1,

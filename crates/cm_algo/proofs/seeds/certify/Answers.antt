@@ -6,8 +6,8 @@ use Rattle.cm_spec.specs.Rounds.{rest_of}
 use Rattle.cm_algo.proofs.Cored.{ends_met, shows}
 use Rattle.cm_algo.proofs.seeds.certify.Goals as goal
 
-pub gather-requires : goal.gather-requires
-gather-requires g c =
+pub gather_with-requires : goal.gather_with-requires
+gather_with-requires g c =
     let edges = c.args.left.now.edges.edges in
     let ends = ends_met g.row.K c.algorithm.result (subst (HasEnds g.row.K) (sym c.algorithm.ensures.algorithm) (g.met.S.Scheme.ends c.args.scheme.now)) in
     let is : c.rest.result.now ≡ rest_of edges = c.rest.ensures ∙ c.requires.peeled in
@@ -16,5 +16,5 @@ gather-requires g c =
 
 pub returns-clause-shows : goal.returns-clause-shows
 returns-clause-shows g c =
-    shows (g.P.KeyPass.told c.args.keys.now) (g.S.Scheme.rule c.args.scheme.now) c.args.seed c.args.left.now.edges.edges c.rest.result.now c.gather.result
-    (c.rest.ensures ∙ c.requires.peeled) c.gather.ensures.edges c.gather.ensures.equal
+    shows (g.P.KeyPass.told c.args.keys.now) (g.S.Scheme.rule c.args.scheme.now) c.args.seed c.args.left.now.edges.edges c.rest.result.now c.gather_with.result
+    (c.rest.ensures ∙ c.requires.peeled) c.gather_with.ensures.edges c.gather_with.ensures.equal

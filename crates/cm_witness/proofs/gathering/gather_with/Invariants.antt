@@ -4,7 +4,7 @@ use Rattle.cm_witness.specs.Cores.{core_edges, keys_at}
 use Rattle.cm_witness.specs.Gathers.{has_third}
 use Rattle.cm_witness.specs.Noted.{AreNoted}
 use Rattle.cm_witness.proofs.GatherLemmas.{candidates_in}
-use Rattle.cm_witness.proofs.gathering.gather.Given as goal
+use Rattle.cm_witness.proofs.gathering.gather_with.Given as goal
 
 abbrev pub invariant-loop-e : goal.invariant-loop-e
 invariant-loop-e g l =

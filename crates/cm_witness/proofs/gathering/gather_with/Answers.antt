@@ -8,7 +8,7 @@ use Rattle.cm_witness.specs.declared.candidates.Hits.{Hits}
 use Rattle.cm_witness.specs.declared.certificate.CoreEdge.{CoreEdge}
 use Rattle.cm_witness.specs.declared.certificate.GatherFault.TheVariants.{Key}
 use Rattle.cm_witness.proofs.GatherLemmas.{edges_more, ended_at, handed_on, keys_more, more_than, pairs_all, refused_at_end}
-use Rattle.cm_witness.proofs.gathering.gather.Goals as goal
+use Rattle.cm_witness.proofs.gathering.gather_with.Goals as goal
 
 pub returns-in_err-pass_keys-clause-fault : goal.returns-in_err-pass_keys-clause-fault
 returns-in_err-pass_keys-clause-fault g c =
