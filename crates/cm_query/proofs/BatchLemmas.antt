@@ -122,10 +122,10 @@ none_waits f span w keys answers = record {
   inside = All-same (λ (a : Option ℕ). IfSome a (λ v. v < span)) _ _ answers (All-nil (λ (a : Option ℕ). IfSome a (λ v. v < span)));
 }
 
--- its line, whatever is said where none waits
-pub same_line : (keys : List (ℕ × List ℕ)) → 0 < length keys → (none d : ℕ × List ℕ) → (get_or keys 0 none).0 ≡ (get_or keys 0 d).0
-same_line [] some none d = absurd (omega (arith, some))
-same_line (k ∷ ks) some none d = refl
+-- the first, whatever is said where none waits
+pub same_first : (keys : List (ℕ × List ℕ)) → 0 < length keys → (none d : ℕ × List ℕ) → get_or keys 0 none ≡ get_or keys 0 d
+same_first [] some none d = absurd (omega (arith, some))
+same_first (k ∷ ks) some none d = refl
 
 -- After the line of a key, a further one waits or is at hand, or all was sent on.
 pub sent_next : (sends : Bool) (now next left : ℕ) (at_hand : Type 0) → now ≡ 1 + next → (sends ≡ true → left ≡ 0) → (sends ≡ false → (1 < now) ⊎ at_hand) → (0 < next) ⊎ (at_hand ⊎ (left ≡ 0))

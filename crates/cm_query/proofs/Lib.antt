@@ -3,4 +3,5 @@ mod EarlierLemmas
 mod MarkLemmas
 mod NotedLemmas
 mod ProgressLemmas
+mod SumLemmas
 mod TextLemmas

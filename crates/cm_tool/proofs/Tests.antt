@@ -1,6 +1,5 @@
 -- From the tests of algorithms to the outcome of a test.
 use Rattle.std.proofs.Common.{◌≡◌, ◌≢◌, ◌∙◌, ◌⊎◌, ℕ, ◌+◌, ◌^◌, ◌<◌, ◌≤◌, List, [], ◌∷◌, ◌++◌, length, take, drop, Option, None, Some, Result, Ok, Err, inl, inr, refl, ap, sym, subst, arith, append-nil, lit<}
-use Rattle.cm_algo.specs.Fails.{IsToldFault}
 use Rattle.cm_algorithm.specs.declared.algorithm.Algorithm.{Algorithm}
 use Rattle.cm_algorithm.specs.declared.algorithm.Algorithm.TheVariants.{Chm, Bdz, BdzPh, Brz}
 use Rattle.cm_dump.specs.Dumps.{dump_of}
@@ -17,6 +16,9 @@ use Rattle.cm_outer.specs.Writing.{then_bytes}
 use Rattle.cm_outer.specs.WritingLaws.{front_of_first, later_front, then_nothing, then_twice}
 use Rattle.cm_outer.specs.declared.key_pass.KeyFault.{KeyFault}
 use Rattle.cm_outer.specs.declared.key_pass.KeyFault.TheVariants as key_fault
+use Rattle.cm_query.specs.Stops.{StopsAt}
+use Rattle.cm_query.specs.Sums.{answer_sum}
+use Rattle.cm_query.specs.declared.fault.QueryFault.TheVariants.{Key}
 use Rattle.cm_tool.specs.Ends.{Says, message_of, status_of}
 use Rattle.cm_tool.specs.Faults.{FailsFunc, HasFuncCause, HasStopForm, IsChangeBy, IsReasonBy, shown_core, shown_overfull, stop_for}
 use Rattle.cm_tool.specs.Jobs.{seeds_of}
@@ -26,7 +28,7 @@ use Rattle.cm_tool.specs.Ending.{Outcome, printing, reporting}
 use Rattle.cm_tool.specs.Run.{IsStatus, Reaches}
 use Rattle.cm_tool.specs.TestEnds.{EndsTest, FailsTest, GotPrefix, HasTestForm, IsTestMessage, test_name}
 use Rattle.cm_tool.specs.Tested as tested
-use Rattle.cm_tool.specs.Tested.{answer_sum, line_text, test_plan, tested_by, tested_then, usual_b}
+use Rattle.cm_tool.specs.Tested.{line_text, test_plan, tested_by, tested_then, usual_b}
 use Rattle.cm_tool.specs.Verdict.{Shown}
 use Rattle.cm_tool.specs.declared.fault.FuncFault.{FuncFault}
 use Rattle.cm_tool.specs.declared.fault.FuncFault.TheVariants as func_fault
@@ -350,7 +352,7 @@ unfolding tested.generated
 made_by n made = made
 
 -- a pass over them doesn't fail
-pub no_fault : (n : ℕ) (fault : KeyFault) (old new : ℕ) → AreMade n (tested.generated n) → old ≡ 0 → 0 ≡ new → HasKeyCause {T = ℕ} old new (Err fault) → IsToldFault (tested.generated n) fault → ⊥
-no_fault n key_fault.Read old new made start end cause fails = let low : old < 2 ^ 63 = omega (arith, start) in omega (arith, cause.1 low, start, end)
-no_fault n (key_fault.TooLong line) old new made start end cause fails = let fine = made.fine in absurd (cc)
-no_fault n key_fault.TooMany old new made start end cause fails = let fine = made.fine in absurd (cc)
+pub no_fault : (n place : ℕ) (fault : KeyFault) (old new : ℕ) → AreMade n (tested.generated n) → old ≡ 0 → 0 ≡ new → HasKeyCause {T = ℕ} old new (Err fault) → StopsAt (tested.generated n) place (Key fault) → ⊥
+no_fault n place key_fault.Read old new made start end cause stops = let low : old < 2 ^ 63 = omega (arith, start) in omega (arith, cause.1 low, start, end)
+no_fault n place (key_fault.TooLong line) old new made start end cause stops = let fine = made.fine in let at_end = stops.fault_is in absurd (cc)
+no_fault n place key_fault.TooMany old new made start end cause stops = let fine = made.fine in let at_end = stops.fault_is in absurd (cc)

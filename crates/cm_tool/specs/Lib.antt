@@ -10,7 +10,6 @@ pub mod Ends
 pub mod Stores
 pub mod Ending
 pub mod Tested
-pub mod Sums
 pub mod Outcome
 pub mod TestEnds
 pub mod Leaves

@@ -1,6 +1,5 @@
 -- What a test job does: over generated keys each algorithm builds a function, which is saved and loaded, and answers every key.
-use Rattle.std.specs.Prelude.{ℕ, List, [], ◌∷◌, ◌++◌, codes, decimal, length, Option, None, Result, Ok, Err, unwrap_or}
-use Rattle.std.specs.List.{sum_by}
+use Rattle.std.specs.Prelude.{ℕ, List, [], ◌∷◌, ◌++◌, codes, decimal, length, Option, None, Result, Ok, Err}
 use Rattle.cm_algorithm.specs.Names.{name_of}
 use Rattle.cm_algorithm.specs.declared.algorithm.Algorithm.{Algorithm}
 use Rattle.cm_algorithm.specs.declared.algorithm.Algorithm.TheVariants.{Bdz, Brz}
@@ -12,6 +11,7 @@ use Rattle.cm_numbers.specs.Options.{algorithms, usual_ratio}
 use Rattle.cm_outer.specs.Files.{Files}
 use Rattle.cm_outer.specs.Passes.{Told}
 use Rattle.cm_outer.specs.Writing.{joined}
+use Rattle.cm_query.specs.Sums.{answer_sum}
 use Rattle.cm_tool.specs.Ending.{Outcome, keys_in, printing, reporting}
 use Rattle.cm_tool.specs.Jobs.{seeds_of}
 use Rattle.cm_tool.specs.Verdict.{Shown, verdict_by}
@@ -31,10 +31,6 @@ test_plan algorithm buffer = record { algorithm = algorithm; c = usual_ratio alg
 -- n generated keys, one a line
 unfoldable pub generated : ℕ → Told
 generated n = keys_in None (made_text n)
-
--- the sum of a function's answers to keys, one without an answer counting 0
-abbrev pub answer_sum : (List ℕ → Option ℕ) → List (ℕ × List ℕ) → ℕ
-answer_sum f keys = sum_by (λ k. unwrap_or (f k.1) 0) keys
 
 -- the line of a function that was built over n keys: its algorithm, how many keys, how many bytes its dump has, and the sum of its answers
 abbrev pub line_text : Algorithm → ℕ → ℕ → ℕ → List ℕ

@@ -15,10 +15,10 @@ mod reloading;
 mod report;
 mod stop;
 mod storing;
-mod summing;
 mod testing;
 mod top;
 
 pub use crate::printing::{print_help, print_version};
 pub use crate::report::report_no_memory;
 pub use crate::top::run;
+pub use cm_made::MadeKeys;

@@ -5,7 +5,7 @@ use Rattle.cm_bits.specs.Held.{packed_cells}
 use Rattle.cm_outer.specs.WritingLaws.{then_twice}
 use Rattle.cm_outer.specs.Noting.{Noted}
 use Rattle.cm_outer.specs.Writing.{then_bytes}
-use Rattle.cm_query.proofs.BatchLemmas.{ahead_of, first_of, none_waits, same_line, sent_next}
+use Rattle.cm_query.proofs.BatchLemmas.{ahead_of, first_of, none_waits, same_first, sent_next}
 use Rattle.cm_query.proofs.MarkLemmas.{length-marked}
 use Rattle.cm_outer.specs.NotingLaws.{noted_more}
 use Rattle.cm_query.proofs.ProgressLemmas.{SoFar, next_within, so_far_all, so_far_next, so_far_none, text_at_write}
@@ -81,7 +81,7 @@ returns-in-Err-write_line-clause-after g c = λ told is.
     let key = c.key.result.now in
     let none : ℕ × List ℕ = (0, []) in
     let line = (get_or waiting.keys 0 none).0 in
-    let first = first_of f (g.A.Answers.span_of c.args.function.now) waiting later line key c.answer-answer.result n.answers counts.0 (same_line waiting.keys counts.0 none) c.key.ensures.key c.answer-answer.ensures.answer refl refl in
+    let first = first_of f (g.A.Answers.span_of c.args.function.now) waiting later line key c.answer-answer.result n.answers counts.0 (λ d. ap (λ (k : ℕ × List ℕ). k.0) (same_first waiting.keys counts.0 none d)) c.key.ensures.key c.answer-answer.ensures.answer refl refl in
     let next = (ahead_of told.keys lines _ _ c.keys.batch.keys waiting.keys later.keys (line, key) (inv.ahead told is) ((rw c.in-Ok-true.field-0-test at n.refills) told (inv.same ∙ is)) first.keys).0 in
     let less : lines + 1 ≤ g.P.KeyPass.place c.refill.new.keys = omega (arith, inv.at, counts.0, counts.1) in
     let wrote = c.in-Err-write_line.ensures.line in (

@@ -6,4 +6,4 @@ pub unreachable-requires : goal.unreachable-requires
 unreachable-requires c =
     let n = c.args.n in
     let made = made_by n (c.lines.ensures n c.requires.few) in
-    no_fault n c.in-Err.field-0 _ _ made c.generated_pass-keys.ensures.faults c.into_source-text.ensures.faults c.in-Err.ensures.cause (c.in-Err.ensures.fault (generated n) c.generated_pass-keys.ensures.told)
+    no_fault n _ c.in-Err.field-0 _ _ made c.generated_pass-keys.ensures.faults c.into_source-text.ensures.faults c.in-Err.ensures.cause (c.in-Err.ensures.fault (generated n) c.generated_pass-keys.ensures.told)
