@@ -15,7 +15,7 @@ use Rattle.cm_tool.specs.Leaves.{IsOutCause, IsPart, KeepsOut, Leaves, Saves}
 use Rattle.cm_tool.specs.Messages.{built_message, no_keys, reason_message}
 use Rattle.cm_tool.specs.Outcome as outcomes
 use Rattle.cm_tool.specs.Outcome.{Outcome, build_over, built_or_refused, fault_message, job_outcome, keys_in, refusal, reporting, saving}
-use Rattle.cm_tool.specs.Run.{FailedSpill, IsBuildMessage, IsCored, IsEmptied, KeysSpilled, LacksFile, Reaches, ReportedPart, SavedPart, TookFirst}
+use Rattle.cm_tool.specs.Run.{IsBuildMessage, IsCored, IsEmptied, IsUnfinished, KeysSpilled, LacksFile, Reaches, TookFirst}
 use Rattle.cm_tool.specs.declared.built.Summary.{Summary}
 use Rattle.cm_tool.specs.Spills.{HasSpilled}
 use Rattle.cm_tool.specs.Verdict.{Shown, verdict_of}
@@ -171,24 +171,24 @@ part_of : (job : BuildJob) (old new : Option Files) {dump text : List ℕ} → d
 part_of job old new is part = subst (λ (bytes : List ℕ). IsPart job bytes old new) is part
 
 -- a build that could not write
-pub written_part : (job : BuildJob) (old new : Option Files) (out out_new : Option (List ℕ)) (stop : Stop) (files : Files) → Leaves job old new out out_new (Err stop) → KeepsOut out out_new stop → HasStopForm job.algorithm stop → old ≡ Some files → status_of stop ≡ 5
-    → SavedPart files old new out out_new job ⊎ ReportedPart files old new out out_new job ⊎ FailedSpill old new out out_new job
-written_part job old new out out_new Memory files leaves same form is five = absurd (omega arith)
-written_part job old new out out_new Read files leaves same form is five = absurd (omega arith)
-written_part job old new out out_new Write files leaves same form is five =
+pub written_part : (job : BuildJob) (old new : Option Files) (out out_new err err_new : Option (List ℕ)) (before now err_before err_now : ℕ) (stop : Stop) (files : Files) → Leaves job old new out out_new (Err stop) → KeepsOut out out_new stop → HasStopForm job.algorithm stop → IsOutCause before now stop
+    → Says (message_of job.keys job.function job.dir stop) err err_new err_before err_now → old ≡ Some files → status_of stop ≡ 5 → IsUnfinished files old new out out_new err err_new before now err_before err_now job
+written_part job old new out out_new err err_new before now err_before err_now Memory files leaves same form count says is five = absurd (omega arith)
+written_part job old new out out_new err err_new before now err_before err_now Read files leaves same form count says is five = absurd (omega arith)
+written_part job old new out out_new err err_new before now err_before err_now Write files leaves same form count says is five =
     let saves = leaves.2 files is in
-    inl (saves.f, outcome_saving job files leaves.0 saves, part_of job old new saves.dump_is leaves.1, same)
-written_part job old new out out_new WriteOut files leaves same form is five =
+    record { text = _; says = says; part = inl (saves.f, outcome_saving job files leaves.0 saves, part_of job old new saves.dump_is leaves.1, same, count, refl) }
+written_part job old new out out_new err err_new before now err_before err_now WriteOut files leaves same form count says is five =
     let refused = leaves.1 files is in
     let got = refused.2.2 in
-    inr (inl (refused.2.0, got.0, outcome_reporting job files refused.0 refused.2.0 refused.1 refused.2.1, got.1, leaves.0))
-written_part job old new out out_new (Refused reason) files leaves same form is five = absurd (omega arith)
-written_part job old new out out_new (Changed first again) files leaves same form is five = absurd (omega arith)
-written_part job old new out out_new Spill files leaves same form is five = inr (inr (form, leaves.0, same))
-written_part job old new out out_new (SpillDamaged offset expected found) files leaves same form is five = absurd (omega arith)
-written_part job old new out out_new NoKeys files leaves same form is five = absurd (omega arith)
-written_part job old new out out_new (TooLong line) files leaves same form is five = absurd (omega arith)
-written_part job old new out out_new TooMany files leaves same form is five = absurd (omega arith)
+    record { text = _; says = says; part = inr (inl (refused.2.0, got.0, outcome_reporting job files refused.0 refused.2.0 refused.1 refused.2.1, got.1, leaves.0, count.1, refl)) }
+written_part job old new out out_new err err_new before now err_before err_now (Refused reason) files leaves same form count says is five = absurd (omega arith)
+written_part job old new out out_new err err_new before now err_before err_now (Changed first again) files leaves same form count says is five = absurd (omega arith)
+written_part job old new out out_new err err_new before now err_before err_now Spill files leaves same form count says is five = record { text = _; says = says; part = inr (inr (form, leaves.0, same, count, refl)) }
+written_part job old new out out_new err err_new before now err_before err_now (SpillDamaged offset expected found) files leaves same form count says is five = absurd (omega arith)
+written_part job old new out out_new err err_new before now err_before err_now NoKeys files leaves same form count says is five = absurd (omega arith)
+written_part job old new out out_new err err_new before now err_before err_now (TooLong line) files leaves same form count says is five = absurd (omega arith)
+written_part job old new out out_new err err_new before now err_before err_now TooMany files leaves same form count says is five = absurd (omega arith)
 
 -- a build for which memory ran out
 pub emptied : (job : BuildJob) (old new : Option Files) (out out_new : Option (List ℕ)) (stop : Stop) → Leaves job old new out out_new (Err stop) → status_of stop ≡ 6 → (new ≡ old) ⊎ IsEmptied old new job

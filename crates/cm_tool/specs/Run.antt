@@ -153,17 +153,25 @@ KeysSpilled files old new job = (bytes : List ℕ) × (f : Func) × (file_at fil
 abbrev pub IsCored : Files → BuildJob → Type 0
 IsCored files job = (bytes : List ℕ) × (file_at files job.keys ≡ Some bytes) × NoneWorks job.algorithm job.b (keys_in job.first bytes).keys job.c (seeds_tried job)
 
--- the outcome saves a function, of whose dump the function file holds a prefix, or the files are as before; out got nothing
-abbrev pub SavedPart : Files → Option Files → Option Files → Option (List ℕ) → Option (List ℕ) → BuildJob → Type 0
-SavedPart files old new out_old out_new job = (f : Func) × (job_outcome files (Ok (Build job)) ≡ Some (saving job files f)) × IsPart job (dump_of f) old new × (out_new ≡ out_old)
+-- the outcome saves a function, of whose dump the function file holds a prefix, or the files are as before; out got nothing, and the message
+-- names the function file
+abbrev pub SavedPart : Files → Option Files → Option Files → Option (List ℕ) → Option (List ℕ) → ℕ → ℕ → List ℕ → BuildJob → Type 0
+SavedPart files old new out_old out_new before now text job = (f : Func) × (job_outcome files (Ok (Build job)) ≡ Some (saving job files f)) × IsPart job (dump_of f) old new × (out_new ≡ out_old) × (now ≡ before) × (text ≡ cannot_write job.function)
 
--- the outcome shows a report, of which out got a prefix; the files are as before
-abbrev pub ReportedPart : Files → Option Files → Option Files → Option (List ℕ) → Option (List ℕ) → BuildJob → Type 0
-ReportedPart files old new out_old out_new job = (shown : Shown) × (n : ℕ) × (job_outcome files (Ok (Build job)) ≡ Some (reporting files shown)) × (out_new ≡ then_bytes out_old (take n shown.report)) × (new ≡ old)
+-- the outcome shows a report, of which out got a prefix, and its count rose; the files are as before, and the message is that of out
+abbrev pub ReportedPart : Files → Option Files → Option Files → Option (List ℕ) → Option (List ℕ) → ℕ → ℕ → List ℕ → BuildJob → Type 0
+ReportedPart files old new out_old out_new before now text job =
+    (shown : Shown) × (n : ℕ) × (job_outcome files (Ok (Build job)) ≡ Some (reporting files shown)) × (out_new ≡ then_bytes out_old (take n shown.report)) × (new ≡ old) × Rose before now × (text ≡ cannot_write_out)
 
--- the spill of a build by BRZ failed; the files are as before, and out got nothing
-abbrev pub FailedSpill : Option Files → Option Files → Option (List ℕ) → Option (List ℕ) → BuildJob → Type 0
-FailedSpill old new out_old out_new job = UsesSpill job.algorithm × (new ≡ old) × (out_new ≡ out_old)
+-- the spill of a build by BRZ failed; the files are as before, out got nothing, and the message names the directory
+abbrev pub FailedSpill : Option Files → Option Files → Option (List ℕ) → Option (List ℕ) → ℕ → ℕ → List ℕ → BuildJob → Type 0
+FailedSpill old new out_old out_new before now text job = UsesSpill job.algorithm × (new ≡ old) × (out_new ≡ out_old) × (now ≡ before) × (text ≡ cannot_use_spill job.dir)
+
+-- what a build that could not write leaves of the files and of out, by what its message names, with the count of out before and now
+pub record IsUnfinished (files : Files) (old new : Option Files) (out_old out_new err_old err_new : Option (List ℕ)) (before now err_before err_now : ℕ) (job : BuildJob) : Type 0 where
+  pub text : List ℕ
+  pub says : Says text err_old err_new err_before err_now
+  pub part : SavedPart files old new out_old out_new before now text job ⊎ ReportedPart files old new out_old out_new before now text job ⊎ FailedSpill old new out_old out_new before now text job
 
 -- the outcome saves a function, and the function file is empty
 abbrev pub IsEmptied : Option Files → Option Files → BuildJob → Type 0

@@ -10,7 +10,7 @@ ghost use Rattle.cm_tool.specs.Faults.{HasStopForm, reason_of, shown_core, shown
 ghost use Rattle.cm_tool.specs.Jobs.{seeds_of};
 ghost use Rattle.cm_tool.specs.Leaves.{GotReport, HasKeptOut, HasOutCause, HasStopCause, IsFunctionOf, IsOutCause, IsRefused, KeepsOut, Leaves, StopsFor};
 ghost use Rattle.cm_tool.specs.Outcome.{job_outcome, keys_in};
-ghost use Rattle.cm_tool.specs.Run.{FailedSpill, IsBuildMessage, IsCored, IsEmptied, IsStatus, KeysSpilled, LacksFile, Reaches, ReportedPart, SavedNumbers, SavedPart, TookFirst};
+ghost use Rattle.cm_tool.specs.Run.{IsBuildMessage, IsCored, IsEmptied, IsStatus, IsUnfinished, KeysSpilled, LacksFile, Reaches, SavedNumbers, TookFirst};
 ghost use Rattle.cm_tool.specs.Spills.{HasSpilled, UnlessSpilled};
 ghost use Rattle.cm_words.specs.Limits.{IsBuild};
 ghost use Rattle.cm_words.specs.declared.jobs.Job.TheVariants.{Build};
@@ -231,9 +231,8 @@ pub(crate) fn run_build<D: Disk, O: Sink, E: Sink>(
     ensures missing { ForSome (D.files disk.old) (λ files. job_outcome files (Ok (Build job.now)) ≡ None →
         LacksFile result (D.files disk.old) (D.files disk.new) (O.written out.old) (O.written out.new)) }
     ensures kept { result ≢ 0 → result ≢ 5 → result ≢ 6 → D.files disk.new ≡ D.files disk.old }
-    ensures part { result ≡ 5 → ForSome (D.files disk.old) (λ files. SavedPart files (D.files disk.old) (D.files disk.new) (O.written out.old) (O.written out.new) job.now
-        ⊎ ReportedPart files (D.files disk.old) (D.files disk.new) (O.written out.old) (O.written out.new) job.now
-        ⊎ FailedSpill (D.files disk.old) (D.files disk.new) (O.written out.old) (O.written out.new) job.now) }
+    ensures part { result ≡ 5 → ForSome (D.files disk.old) (λ files.
+        IsUnfinished files (D.files disk.old) (D.files disk.new) (O.written out.old) (O.written out.new) (E.written err.old) (E.written err.new) (O.faults out.old) (O.faults out.new) (E.faults err.old) (E.faults err.new) job.now) }
     ensures memory { result ≡ 6 → (D.files disk.new ≡ D.files disk.old) ⊎ IsEmptied (D.files disk.old) (D.files disk.new) job.now }
     ensures out { result ≢ 1 → result ≢ 5 → O.written out.new ≡ O.written out.old }
     ensures sent { O.waits out.old ≡ 0 → IsSent (O.waits out.new) (O.faults out.old) (O.faults out.new) }

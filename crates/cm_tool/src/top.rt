@@ -5,7 +5,7 @@ ghost use Rattle.cm_outer.specs.Causes.{IsSent};
 ghost use Rattle.cm_outer.specs.Writing.{then_bytes};
 ghost use Rattle.cm_tool.specs.Ends.{Says};
 ghost use Rattle.cm_tool.specs.Outcome.{outcome_of};
-ghost use Rattle.cm_tool.specs.Run.{IsStatus, ForBuild, ForQuery, ForTest, ForText, IfBuild, IsEmptied, UnlessBrz, UnlessBuild, UnlessJob, UnlessQuery, UnlessTest, LacksFile, Reaches, TookFirst, SavedNumbers, KeysSpilled, IsCored, SavedPart, ReportedPart, FailedSpill, IsCutShort, IsMessage};
+ghost use Rattle.cm_tool.specs.Run.{IsStatus, ForBuild, ForQuery, ForTest, ForText, IfBuild, IsEmptied, UnlessBrz, UnlessBuild, UnlessJob, UnlessQuery, UnlessTest, LacksFile, Reaches, TookFirst, SavedNumbers, KeysSpilled, IsCored, IsUnfinished, IsCutShort, IsMessage};
 ghost use Rattle.cm_tool.specs.TestEnds.{GotPrefix};
 ghost use Rattle.cm_tool.specs.Tested.{test_outcome};
 ghost use Rattle.cm_words.specs.Meaning.{job_of};
@@ -68,12 +68,11 @@ pub fn run<D: Disk, O: Sink, E: Sink>(
         LacksFile result (D.files disk.old) (D.files disk.new) (O.written out.old) (O.written out.new)) }
 
     // What a refusal leaves of the files. Only a build changes them, and only if the outcome saves a function. A spill that fails leaves
-    // them as before.
+    // them as before. The message of a build that could not write names out if out failed, which got a prefix of the report; or by BRZ the
+    // directory of the spill, and then nothing changed; or the function file, if the outcome saves a function.
     ensures kept { result ≢ 0 → result ≢ 5 → result ≢ 6 → D.files disk.new ≡ D.files disk.old }
-    ensures part { result ≡ 5 → ForSome (D.files disk.old) (λ files. ForBuild (job_of (map string_bytes words.now)) (λ job.
-        SavedPart files (D.files disk.old) (D.files disk.new) (O.written out.old) (O.written out.new) job
-        ⊎ ReportedPart files (D.files disk.old) (D.files disk.new) (O.written out.old) (O.written out.new) job
-        ⊎ FailedSpill (D.files disk.old) (D.files disk.new) (O.written out.old) (O.written out.new) job)) }
+    ensures part { result ≡ 5 → ForSome (D.files disk.old) (λ files. ForBuild (job_of (map string_bytes words.now))
+        (IsUnfinished files (D.files disk.old) (D.files disk.new) (O.written out.old) (O.written out.new) (E.written err.old) (E.written err.new) (O.faults out.old) (O.faults out.new) (E.faults err.old) (E.faults err.new))) }
     ensures memory { result ≡ 6 → (D.files disk.new ≡ D.files disk.old) ⊎ IfBuild (job_of (map string_bytes words.now)) (IsEmptied (D.files disk.old) (D.files disk.new)) }
     ensures asked { UnlessBuild (job_of (map string_bytes words.now)) ((D.files disk.new ≡ D.files disk.old) × UnlessTest (job_of (map string_bytes words.now)) (D.write_faults disk.new ≡ D.write_faults disk.old)) }
 

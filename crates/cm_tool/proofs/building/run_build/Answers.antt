@@ -33,7 +33,13 @@ pub returns-in-Err-clause-missing : goal.returns-in-Err-clause-missing
 returns-in-Err-clause-missing g c = λ files is none. rw c.report.ensures.status (missing c.args.job.now _ _ _ _ c.in-Err.stop files c.in-Err.ensures.leaves c.in-Err.ensures.out is none)
 
 pub returns-in-Err-clause-part : goal.returns-in-Err-clause-part
-returns-in-Err-clause-part g c = λ five files is. written_part c.args.job.now _ _ _ _ c.in-Err.stop files c.in-Err.ensures.leaves c.in-Err.ensures.out c.in-Err.ensures.form is (sym c.report.ensures.status ∙ five)
+returns-in-Err-clause-part g c = λ five files is.
+    let job = c.args.job.now in
+    let keys : c.as_str.result.now ≡ job.keys = c.as_str.ensures.bytes in
+    let function : c.as_str-in-Err.result.now ≡ job.function = c.as_str-in-Err.ensures.bytes in
+    let dir : c.as_str-in-Err-2.result.now ≡ job.dir = c.as_str-in-Err-2.ensures.bytes in
+    let says = rw (keys, function, dir) at c.report.ensures.says in
+    written_part job _ _ _ _ _ _ _ _ _ _ c.in-Err.stop files c.in-Err.ensures.leaves c.in-Err.ensures.out c.in-Err.ensures.form c.in-Err.ensures.out_cause says is (sym c.report.ensures.status ∙ five)
 
 pub returns-in-Err-clause-memory : goal.returns-in-Err-clause-memory
 returns-in-Err-clause-memory g c = λ six. emptied c.args.job.now _ _ _ _ c.in-Err.stop c.in-Err.ensures.leaves (sym c.report.ensures.status ∙ six)
