@@ -1,5 +1,5 @@
 -- From the tests of algorithms to the outcome of a test.
-use Rattle.std.proofs.Common.{◌≡◌, ◌≢◌, ◌∙◌, ◌⊎◌, ℕ, ◌+◌, ◌^◌, ◌<◌, ◌≤◌, List, [], ◌∷◌, ◌++◌, length, take, drop, Option, None, Some, Result, Ok, Err, inl, inr, refl, ap, sym, subst, arith, append-nil, lit<}
+use Rattle.std.proofs.Common.{◌≡◌, ◌≢◌, ◌∙◌, ◌⊎◌, ℕ, ◌+◌, ◌^◌, ◌<◌, ◌≤◌, List, [], ◌∷◌, ◌++◌, length, take, drop, Option, None, Some, Result, Ok, Err, inl, inr, refl, ap, sym, subst, arith, append-nil, append_assoc, lit<}
 use Rattle.cm_algorithm.specs.declared.algorithm.Algorithm.{Algorithm}
 use Rattle.cm_algorithm.specs.declared.algorithm.Algorithm.TheVariants.{Chm, Bdz, BdzPh, Brz}
 use Rattle.cm_dump.specs.Dumps.{dump_of}
@@ -20,13 +20,13 @@ use Rattle.cm_query.specs.Stops.{StopsAt}
 use Rattle.cm_query.specs.Sums.{answer_sum}
 use Rattle.cm_query.specs.declared.fault.QueryFault.TheVariants.{Key}
 use Rattle.cm_tool.specs.Ends.{Says, message_of, status_of}
-use Rattle.cm_tool.specs.Faults.{FailsFunc, HasFuncCause, HasStopForm, IsChangeBy, IsReasonBy, shown_core, shown_overfull, stop_for}
+use Rattle.cm_tool.specs.Faults.{FailsFunc, HasFuncCause, HasStopForm, IsChangeBy, IsReasonBy, UsesSpill, shown_core, shown_overfull, stop_for}
 use Rattle.cm_tool.specs.Jobs.{seeds_of}
-use Rattle.cm_tool.specs.Leaves.{GotReport, IsFuncOf, IsOutCause, StopsFor}
+use Rattle.cm_tool.specs.Leaves.{GotReport, IsFuncOf, IsOutCause, KeepsOut, StopsFor}
 use Rattle.cm_tool.specs.Messages.{reason_message}
 use Rattle.cm_tool.specs.Ending.{Outcome, printing, reporting}
 use Rattle.cm_tool.specs.Run.{IsStatus, Reaches}
-use Rattle.cm_tool.specs.TestEnds.{EndsTest, FailsTest, GotPrefix, HasTestForm, IsTestMessage, test_name}
+use Rattle.cm_tool.specs.TestEnds.{EndsTest, FailsTest, GotPrefix, HasTestForm, IsTestMessage, IsUnfinishedTest, StopsSpilling, test_name}
 use Rattle.cm_tool.specs.Tested as tested
 use Rattle.cm_tool.specs.Tested.{line_text, test_plan, tested_by, tested_then, usual_b}
 use Rattle.cm_tool.specs.Verdict.{Shown}
@@ -187,6 +187,37 @@ pub stop_ends : (job : TestJob) (algorithm : Algorithm) (next : List Algorithm) 
     → EndsTest (tested_by job files (algorithm ∷ [])) old new (Err stop) → EndsTest (tested_by job files (algorithm ∷ next)) old new (Err stop)
 stop_ends job algorithm next files old new stop ends = stop_by job algorithm files (tested.test_verdict job algorithm) (tested_by job files next) old new stop ends
 
+-- one algorithm more, and those after it
+pub one_more : (all : List Algorithm) (i : ℕ) (algorithm : Algorithm) (next : List Algorithm) → take (i + 1) all ≡ take i all ++ algorithm ∷ [] → take (i + 1) all ++ next ≡ take i all ++ algorithm ∷ next
+one_more all i algorithm next more = ap (λ (l : List Algorithm). l ++ next) more ∙ append_assoc (take i all) (algorithm ∷ []) next
+
+-- an algorithm whose spill failed, after others that came to their end
+pub stops_spilling : (job : TestJob) (files : Files) (all first : List Algorithm) (algorithm : Algorithm) (next : List Algorithm) (old mid new : Option (List ℕ)) (stop : Stop) → all ≡ first ++ algorithm ∷ next → HasTestForm algorithm stop → KeepsOut mid new stop
+    → EndsTest (tested_by job files first) old mid (Ok tt) → StopsSpilling job files all old new stop
+stops_spilling job files all first algorithm next old mid new Memory is form same ends = tt
+stops_spilling job files all first algorithm next old mid new Read is form same ends = tt
+stops_spilling job files all first algorithm next old mid new Write is form same ends = tt
+stops_spilling job files all first algorithm next old mid new WriteOut is form same ends = tt
+stops_spilling job files all first algorithm next old mid new (Refused reason) is form same ends = tt
+stops_spilling job files all first algorithm next old mid new (Changed before again) is form same ends = tt
+stops_spilling job files all first algorithm next old mid new Spill is form same ends = (first, algorithm, next, form, is, subst (λ (w : Option (List ℕ)). EndsTest (tested_by job files first) old w (Ok tt)) (sym same) ends)
+stops_spilling job files all first algorithm next old mid new (SpillDamaged offset expected found) is form same ends = tt
+stops_spilling job files all first algorithm next old mid new NoKeys is form same ends = tt
+stops_spilling job files all first algorithm next old mid new (TooLong line) is form same ends = tt
+stops_spilling job files all first algorithm next old mid new TooMany is form same ends = tt
+
+-- BRZ alone has a spill, and the others are tried before it
+before_brz : (first : List Algorithm) (algorithm : Algorithm) (next : List Algorithm) → UsesSpill algorithm → algorithms ≡ first ++ algorithm ∷ next → first ≡ Chm ∷ Bdz ∷ BdzPh ∷ []
+before_brz first Chm next spill is = absurd spill
+before_brz first Bdz next spill is = absurd spill
+before_brz first BdzPh next spill is = absurd spill
+before_brz [] Brz next spill is = absurd (cc)
+before_brz (a ∷ []) Brz next spill is = absurd (cc)
+before_brz (a ∷ b ∷ []) Brz next spill is = absurd (cc)
+before_brz (a ∷ b ∷ d ∷ []) Brz next spill is = cc
+before_brz (a ∷ b ∷ d ∷ e ∷ []) Brz next spill is = absurd (cc)
+before_brz (a ∷ b ∷ d ∷ e ∷ f ∷ more) Brz next spill is = absurd (cc)
+
 -- a test leaves the files as they were
 then_files : (job : TestJob) (algorithm : Algorithm) (files : Files) (v : Result Func Shown) (o : Outcome) → o.files ≡ files → (tested_then job algorithm files v o).files ≡ files
 then_files job algorithm files (Ok f) o same = same
@@ -264,6 +295,24 @@ part_of_test o old new (SpillDamaged offset expected found) ends either = absurd
 part_of_test o old new NoKeys ends either = absurd ends
 part_of_test o old new (TooLong line) ends either = absurd ends
 part_of_test o old new TooMany ends either = absurd ends
+
+-- a test that could not write
+pub unfinished_test : (job : TestJob) (files : Files) (out out_new err err_new : Option (List ℕ)) (before now err_before err_now : ℕ) (stop : Stop) → EndsTest (tested.test_outcome job files) out out_new (Err stop) → StopsSpilling job files algorithms out out_new stop → IsOutCause before now stop
+    → Says (message_of test_name [] job.dir stop) err err_new err_before err_now → status_of stop ≡ 5 → IsUnfinishedTest files out out_new err err_new before now err_before err_now job
+unfinished_test job files out out_new err err_new before now err_before err_now Memory ends spilling count says five = absurd (omega arith)
+unfinished_test job files out out_new err err_new before now err_before err_now Read ends spilling count says five = absurd ends
+unfinished_test job files out out_new err err_new before now err_before err_now Write ends spilling count says five = absurd ends
+unfinished_test job files out out_new err err_new before now err_before err_now WriteOut ends spilling count says five = record { text = _; says = says; part = inl (ends, count.1, refl) }
+unfinished_test job files out out_new err err_new before now err_before err_now (Refused reason) ends spilling count says five = absurd (omega arith)
+unfinished_test job files out out_new err err_new before now err_before err_now (Changed first again) ends spilling count says five = absurd (omega arith)
+unfinished_test job files out out_new err err_new before now err_before err_now Spill ends spilling count says five =
+    let first = before_brz spilling.0 spilling.1 spilling.2 spilling.3 spilling.4 in
+    let others = subst (λ (l : List Algorithm). EndsTest (tested_by job files l) out out_new (Ok tt)) first spilling.5 in
+    record { text = _; says = says; part = inr (others, count, refl) }
+unfinished_test job files out out_new err err_new before now err_before err_now (SpillDamaged offset expected found) ends spilling count says five = absurd (omega arith)
+unfinished_test job files out out_new err err_new before now err_before err_now NoKeys ends spilling count says five = absurd (omega arith)
+unfinished_test job files out out_new err err_new before now err_before err_now (TooLong line) ends spilling count says five = absurd (omega arith)
+unfinished_test job files out out_new err err_new before now err_before err_now TooMany ends spilling count says five = absurd (omega arith)
 
 -- the message of a test that stopped goes with its status
 differs_by : (algorithm : Algorithm) (first again : ℕ) → IsChangeBy algorithm first again → again ≢ first

@@ -1,12 +1,15 @@
 -- How a test ends, by its outcome over files with known contents.
-use Rattle.std.specs.Prelude.{◌≡◌, ◌≢◌, ◌⊎◌, ℕ, List, [], codes, take, Option, Result, Ok, Err}
+use Rattle.std.specs.Prelude.{◌≡◌, ◌≢◌, ◌⊎◌, ◌++◌, ℕ, List, [], ◌∷◌, codes, take, Option, Result, Ok, Err}
 use Rattle.cm_algorithm.specs.declared.algorithm.Algorithm.{Algorithm}
+use Rattle.cm_algorithm.specs.declared.algorithm.Algorithm.TheVariants.{Chm, Bdz, BdzPh}
 use Rattle.cm_outer.specs.Causes.{Rose}
+use Rattle.cm_outer.specs.Files.{Files}
 use Rattle.cm_outer.specs.Writing.{then_bytes}
-use Rattle.cm_tool.specs.Faults.{HasStopForm, IsReasonBy, shown_core, shown_overfull}
+use Rattle.cm_tool.specs.Faults.{HasStopForm, IsReasonBy, UsesSpill, shown_core, shown_overfull}
 use Rattle.cm_tool.specs.Messages.{cannot_use_spill, cannot_write_out, keys_changed, line_too_long, no_keys, out_of_memory, reason_message, spill_damaged, too_many_keys}
 use Rattle.cm_tool.specs.Ending.{Outcome}
-use Rattle.cm_tool.specs.Tested.{test_verdict}
+use Rattle.cm_tool.specs.Ends.{Says}
+use Rattle.cm_tool.specs.Tested.{test_outcome, test_verdict, tested_by}
 use Rattle.cm_tool.specs.declared.fault.FuncFault.{FuncFault}
 use Rattle.cm_tool.specs.declared.fault.FuncFault.TheVariants as func_fault
 use Rattle.cm_tool.specs.declared.stop.Reason.{Reason}
@@ -35,6 +38,11 @@ EndsTest o old new (Err Spill) = GotPrefix o.out old new
 EndsTest o old new (Err WriteOut) = GotPrefix o.out old new
 EndsTest o old new (Err stop) = ⊥
 
+-- if the spill failed, out got the lines of the algorithms before one that has a spill
+abbrev pub StopsSpilling : TestJob → Files → List Algorithm → Option (List ℕ) → Option (List ℕ) → Stop → Type 0
+StopsSpilling job files algorithms old new Spill = (first : List Algorithm) × (algorithm : Algorithm) × (next : List Algorithm) × UsesSpill algorithm × (algorithms ≡ first ++ algorithm ∷ next) × EndsTest (tested_by job files first) old new (Ok tt)
+StopsSpilling job files algorithms old new stop = Unit {0}
+
 -- what a stop has, whatever the disk tells: a test reads and writes no file
 abbrev pub HasTestForm : Algorithm → Stop → Type 0
 HasTestForm algorithm Read = ⊥
@@ -62,3 +70,17 @@ pub record IsTestMessage (job : TestJob) (before now status : ℕ) (text : List 
   pub memory : status ≡ 6 → text ≡ out_of_memory
   pub changed : status ≡ 7 → IsChangedTest job text
   pub keys : status ≡ 8 → (text ≡ no_keys test_name) ⊎ (text ≡ too_many_keys test_name) ⊎ ((line : ℕ) × (text ≡ line_too_long test_name line))
+
+-- out failed, and got a prefix of what the test prints; the message is that of out
+abbrev pub PrintedPart : Files → Option (List ℕ) → Option (List ℕ) → ℕ → ℕ → List ℕ → TestJob → Type 0
+PrintedPart files old new before now text job = GotPrefix (test_outcome job files).out old new × Rose before now × (text ≡ cannot_write_out)
+
+-- the spill of BRZ failed, after out got the lines of the other algorithms; the message names the directory
+abbrev pub PrintedOthers : Files → Option (List ℕ) → Option (List ℕ) → ℕ → ℕ → List ℕ → TestJob → Type 0
+PrintedOthers files old new before now text job = EndsTest (tested_by job files (Chm ∷ Bdz ∷ BdzPh ∷ [])) old new (Ok tt) × (now ≡ before) × (text ≡ cannot_use_spill job.dir)
+
+-- what a test that could not write leaves of out, by what its message names, with the count of out before and now
+pub record IsUnfinishedTest (files : Files) (out_old out_new err_old err_new : Option (List ℕ)) (before now err_before err_now : ℕ) (job : TestJob) : Type 0 where
+  pub text : List ℕ
+  pub says : Says text err_old err_new err_before err_now
+  pub part : PrintedPart files out_old out_new before now text job ⊎ PrintedOthers files out_old out_new before now text job

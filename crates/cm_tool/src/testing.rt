@@ -10,10 +10,10 @@ ghost use Rattle.cm_outer.specs.Writing.{Writes};
 ghost use Rattle.cm_query.specs.Sums.{answer_sum};
 ghost use Rattle.cm_tool.specs.Ends.{Says};
 ghost use Rattle.cm_tool.specs.Faults.{HasFuncCause, HasStopForm, stop_for};
-ghost use Rattle.cm_tool.specs.Leaves.{HasOutCause, HasStopCause};
+ghost use Rattle.cm_tool.specs.Leaves.{HasOutCause, HasStopCause, KeepsOut};
 ghost use Rattle.cm_tool.specs.Plans.{IsPlan};
 ghost use Rattle.cm_tool.specs.Run.{IsStatus, Reaches};
-ghost use Rattle.cm_tool.specs.TestEnds.{EndsTest, FailsTest, GotPrefix, HasTestForm, IsTestMessage};
+ghost use Rattle.cm_tool.specs.TestEnds.{EndsTest, FailsTest, GotPrefix, HasTestForm, IsTestMessage, IsUnfinishedTest, StopsSpilling};
 ghost use Rattle.cm_tool.specs.Tested.{generated, line_text, test_outcome, test_plan, test_verdict, tested_by, usual_b};
 ghost use Rattle.cm_words.specs.Limits.{IsTest};
 ghost use Rattle.cm_words.specs.declared.jobs.Job.TheVariants.{Test};
@@ -187,6 +187,7 @@ fn test_algorithm<D: Disk, O: Sink>(
     ensures cause { HasStopCause 0 0 (D.write_faults disk.old) (D.write_faults disk.new) result }
     ensures out_cause { HasOutCause (O.faults out.old) (O.faults out.new) result }
     ensures form { IfErr result (HasTestForm algorithm) }
+    ensures out { IfErr result (KeepsOut (O.written out.old) (O.written out.new)) }
     ensures sent { O.waits out.old ≡ 0 → IsSent (O.waits out.new) (O.faults out.old) (O.faults out.new) }
     ensures ends { ForSome (D.files disk.old) (λ files. EndsTest (tested_by job.now files (algorithm ∷ [])) (O.written out.old) (O.written out.new) result) }
 {
@@ -219,6 +220,7 @@ fn test_each<D: Disk, O: Sink>(
     ensures cause { HasStopCause 0 0 (D.write_faults disk.old) (D.write_faults disk.new) result }
     ensures out_cause { HasOutCause (O.faults out.old) (O.faults out.new) result }
     ensures form { IfErr result (λ stop. (algorithm : Algorithm) × HasTestForm algorithm stop) }
+    ensures spilling { IfErr result (λ stop. ForSome (D.files disk.old) (λ files. StopsSpilling job.now files algorithms.now (O.written out.old) (O.written out.new) stop)) }
     ensures sent { O.waits out.old ≡ 0 → IsSent (O.waits out.new) (O.faults out.old) (O.faults out.new) }
     ensures ends { ForSome (D.files disk.old) (λ files. EndsTest (tested_by job.now files algorithms.now) (O.written out.old) (O.written out.new) result) }
 {
@@ -250,6 +252,8 @@ pub(crate) fn run_test<D: Disk, O: Sink, E: Sink>(
         Reaches (Some (test_outcome job.now files)) result (O.written out.old) (O.written out.new) (E.written err.old) (E.written err.new) (E.faults err.old) (E.faults err.new) (D.files disk.new)) }
     ensures unchanged { ForSome (D.files disk.old) (λ _. (result ≢ 7) × (result ≢ 8)) }
     ensures part { (result ≡ 5) ⊎ (result ≡ 6) → ForSome (D.files disk.old) (λ files. GotPrefix (test_outcome job.now files).out (O.written out.old) (O.written out.new)) }
+    ensures unfinished { result ≡ 5 → ForSome (D.files disk.old) (λ files.
+        IsUnfinishedTest files (O.written out.old) (O.written out.new) (E.written err.old) (E.written err.new) (O.faults out.old) (O.faults out.new) (E.faults err.old) (E.faults err.new) job.now) }
     ensures sent { O.waits out.old ≡ 0 → IsSent (O.waits out.new) (O.faults out.old) (O.faults out.new) }
     ensures err_sent { E.waits err.old ≡ 0 → IsSent (E.waits err.new) (E.faults err.old) (E.faults err.new) }
     ensures err { (text : List ℕ) × IsTestMessage job.now (O.faults out.old) (O.faults out.new) result text × Says text (E.written err.old) (E.written err.new) (E.faults err.old) (E.faults err.new) }

@@ -6,7 +6,7 @@ ghost use Rattle.cm_outer.specs.Writing.{then_bytes};
 ghost use Rattle.cm_tool.specs.Ends.{Says};
 ghost use Rattle.cm_tool.specs.Outcome.{outcome_of};
 ghost use Rattle.cm_tool.specs.Run.{IsStatus, ForBuild, ForQuery, ForTest, ForText, IfBuild, IsEmptied, UnlessBrz, UnlessBuild, UnlessJob, UnlessQuery, UnlessTest, LacksFile, Reaches, TookFirst, SavedNumbers, KeysSpilled, IsCored, IsUnfinished, IsCutShort, IsMessage};
-ghost use Rattle.cm_tool.specs.TestEnds.{GotPrefix};
+ghost use Rattle.cm_tool.specs.TestEnds.{GotPrefix, IsUnfinishedTest};
 ghost use Rattle.cm_tool.specs.Tested.{test_outcome};
 ghost use Rattle.cm_words.specs.Meaning.{job_of};
 
@@ -84,6 +84,11 @@ pub fn run<D: Disk, O: Sink, E: Sink>(
     ensures front { ForText (job_of (map string_bytes words.now)) (λ text. (n : ℕ) × (O.written out.new ≡ then_bytes (O.written out.old) (take n text))) }
     ensures tested { (result ≡ 5) ⊎ (result ≡ 6) → ForSome (D.files disk.old) (λ files. ForTest (job_of (map string_bytes words.now)) (λ job.
         GotPrefix (test_outcome job files).out (O.written out.old) (O.written out.new))) }
+
+    // The message of a test that could not write names out, if out failed; or the directory of the spill, and then out got the lines of all
+    // algorithms but BRZ.
+    ensures unfinished { result ≡ 5 → ForSome (D.files disk.old) (λ files. ForTest (job_of (map string_bytes words.now))
+        (IsUnfinishedTest files (O.written out.old) (O.written out.new) (E.written err.old) (E.written err.new) (O.faults out.old) (O.faults out.new) (E.faults err.old) (E.faults err.new))) }
 
     // A query that a fault cut short has answered the first keys, and noted what there is to note of them. Its message names the file
     // that could not be read, or out. One for which memory ran out has answered none.

@@ -1,9 +1,9 @@
-use Rattle.std.proofs.Common.{[], ◌∙◌}
+use Rattle.std.proofs.Common.{[], ◌∙◌, sym}
 use Rattle.cm_tool.specs.Ends.{message_of}
 use Rattle.cm_tool.specs.TestEnds.{test_name}
 use Rattle.cm_tool.specs.Tested.{test_outcome}
 use Rattle.cm_tool.proofs.Outcomes.{nothing_said}
-use Rattle.cm_tool.proofs.Tests.{done_message, never_changed, part_of_test, test_done, test_known, test_message, test_status, test_stopped}
+use Rattle.cm_tool.proofs.Tests.{done_message, never_changed, part_of_test, test_done, test_known, test_message, test_status, test_stopped, unfinished_test}
 use Rattle.cm_tool.proofs.testing.run_test.Goals as goal
 
 pub returns-in-Ok-clause-outcome : goal.returns-in-Ok-clause-outcome
@@ -30,6 +30,11 @@ pub returns-in-Err-clause-part : goal.returns-in-Err-clause-part
 returns-in-Err-clause-part g c = λ either files is.
     let status = c.report.ensures.status in
     part_of_test (test_outcome c.args.job.now files) _ _ c.in-Err.stop (c.in-Err.ensures.ends files is) (rw status at either)
+
+pub returns-in-Err-clause-unfinished : goal.returns-in-Err-clause-unfinished
+returns-in-Err-clause-unfinished g c = λ five files is.
+    let says = rw c.as_str.ensures.bytes at c.report.ensures.says in
+    unfinished_test c.args.job.now files _ _ _ _ _ _ _ _ c.in-Err.stop (c.in-Err.ensures.ends files is) (c.in-Err.ensures.spilling files is) c.in-Err.ensures.out_cause says (sym c.report.ensures.status ∙ five)
 
 pub returns-in-Err-clause-err : goal.returns-in-Err-clause-err
 returns-in-Err-clause-err g c =

@@ -1,5 +1,6 @@
-use Rattle.std.proofs.Common.{◌≡◌, ℕ, List, Option, Result, drop}
+use Rattle.std.proofs.Common.{◌≡◌, ◌++◌, ℕ, List, Option, Result, take}
 use Rattle.std.specs.Option.{ForSome}
+use Rattle.cm_algorithm.specs.declared.algorithm.Algorithm.{Algorithm}
 use Rattle.cm_outer.specs.Causes.{IsSent}
 use Rattle.cm_tool.specs.TestEnds.{EndsTest}
 use Rattle.cm_tool.specs.Tested.{tested_by}
@@ -16,6 +17,6 @@ invariant-loop-algorithm g l =
       writes : D.write_faults l.disk ≡ D.write_faults l.fn.disk;
       quiet : O.faults l.out ≡ O.faults l.fn.out;
       sent : O.waits l.fn.out ≡ 0 → IsSent (O.waits l.out) (O.faults l.fn.out) (O.faults l.out);
-      ends : ForSome (D.files l.fn.disk) (λ files. (r : Result (Unit {0}) Stop) (new : Option (List ℕ)) → EndsTest (tested_by l.job files (drop l.algorithm-index l.algorithms)) (O.written l.out) new r
-          → EndsTest (tested_by l.job files l.algorithms) (O.written l.fn.out) new r);
+      ends : ForSome (D.files l.fn.disk) (λ files. (next : List Algorithm) (r : Result (Unit {0}) Stop) (new : Option (List ℕ)) → EndsTest (tested_by l.job files next) (O.written l.out) new r
+          → EndsTest (tested_by l.job files (take l.algorithm-index l.algorithms ++ next)) (O.written l.fn.out) new r);
     }
