@@ -1,5 +1,5 @@
 -- From a build over a pass to the function of a keys file, or to why it was refused.
-use Rattle.std.proofs.Common.{◌≡◌, ◌∙◌, ◌⊎◌, ℕ, ◌<◌, ◌≤◌, List, [], length, Option, None, Some, Result, Ok, Err, inl, inr, refl, ap, sym, subst, arith, is_some, true}
+use Rattle.std.proofs.Common.{◌≡◌, ◌∙◌, ◌⊎◌, ℕ, ◌<◌, ◌≤◌, List, [], length, Option, None, Some, Result, Ok, Err, inl, inr, refl, ap, sym, subst, arith}
 use Rattle.std.specs.Prelude.{slice_index}
 use Rattle.std.specs.Option.{ForSome}
 use Rattle.cm_algo.specs.Fails.{FailsBuild, HasForm, ShowsCore}

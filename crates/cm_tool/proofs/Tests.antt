@@ -1,5 +1,5 @@
 -- From the tests of algorithms to the outcome of a test.
-use Rattle.std.proofs.Common.{◌≡◌, ◌≢◌, ◌∙◌, ◌⊎◌, ℕ, ◌+◌, ◌^◌, ◌<◌, ◌≤◌, List, [], ◌∷◌, ◌++◌, length, take, drop, Option, None, Some, Result, Ok, Err, inl, inr, refl, ap, sym, subst, arith, append-nil, append_assoc, lit<}
+use Rattle.std.proofs.Common.{◌≡◌, ◌≢◌, ◌∙◌, ◌⊎◌, ℕ, ◌+◌, ◌^◌, ◌<◌, ◌≤◌, List, [], ◌∷◌, ◌++◌, length, take, Option, None, Some, Result, Ok, Err, inl, inr, refl, ap, sym, subst, arith, append-nil, append_assoc, lit<}
 use Rattle.cm_algorithm.specs.declared.algorithm.Algorithm.{Algorithm}
 use Rattle.cm_algorithm.specs.declared.algorithm.Algorithm.TheVariants.{Chm, Bdz, BdzPh, Brz}
 use Rattle.cm_dump.specs.Dumps.{dump_of}
@@ -33,7 +33,6 @@ use Rattle.cm_tool.specs.Verdict.{Shown}
 use Rattle.cm_tool.specs.declared.fault.FuncFault.{FuncFault}
 use Rattle.cm_tool.specs.declared.fault.FuncFault.TheVariants as func_fault
 use Rattle.cm_tool.specs.declared.plan.Plan.{Plan}
-use Rattle.cm_tool.specs.declared.stop.Reason.{Reason}
 use Rattle.cm_tool.specs.declared.stop.Stop.{Stop}
 use Rattle.cm_tool.specs.declared.stop.Stop.TheVariants.{Memory, Read, Write, WriteOut, Refused, Changed, Spill, SpillDamaged, NoKeys, TooLong, TooMany}
 use Rattle.cm_tool.proofs.Outcomes.{nothing_said}

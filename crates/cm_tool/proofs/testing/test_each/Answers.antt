@@ -1,4 +1,4 @@
-use Rattle.std.proofs.Common.{[], ◌∷◌, ◌++◌, ◌≡◌, ◌∙◌, ◌+◌, List, Ok, Err, take, drop, get_or, refl, ap, subst, sym, append-nil}
+use Rattle.std.proofs.Common.{[], ◌∷◌, ◌++◌, ◌∙◌, ◌+◌, List, Ok, Err, take, drop, get_or, refl, ap, subst, sym, append-nil}
 use Rattle.std.proofs.lemmas.List.{drop_all, drop_more, take-append-drop, take_more}
 use Rattle.cm_algorithm.specs.declared.algorithm.Algorithm.{Algorithm}
 use Rattle.cm_algorithm.specs.declared.algorithm.Algorithm.TheVariants.{Chm}
