@@ -8,6 +8,8 @@ pub mod BodyLemmas
 pub mod DumpLemmas
 pub mod BucketLemmas
 pub mod RestLemmas
+pub mod PartLemmas
+pub mod PieceLemmas
 pub mod SpellingLemmas
 pub mod ReadBackItems
 pub mod ReadBackBuckets

@@ -1,8 +1,8 @@
 -- What is read after an item.
-use Rattle.std.proofs.Common.{◌≡◌, sym, arith, refl, Bool, true, false, Result, Ok, Err, if◌then◌else◌}
+use Rattle.std.proofs.Common.{◌≡◌, sym, arith, refl, ℕ, Bool, true, false, Result, Ok, Err, if◌then◌else◌}
 use Rattle.cm_dump.specs.declared.fault.LoadFault.{LoadFault}
 use Rattle.cm_dump.specs.declared.fault.LoadFault.TheVariants as faults
-use Rattle.cm_dump.specs.Reading.{◌>>=◌, Fails}
+use Rattle.cm_dump.specs.Reading.{◌>>=◌, Fails, HasLoadCause}
 
 pub ok_err : {A B : Type 0} (x : A) (e : B) → (let r : Result A B = Ok x in r) ≡ Err e → ⊥
 ok_err x e is = grind (arith, is)
@@ -40,3 +40,17 @@ fails_then (faults.BadCell a) r next is = rw is refl
 fails_then (faults.BadCount a) r next is = rw is refl
 fails_then (faults.BadRank a) r next is = rw is refl
 fails_then faults.Trailing r next is = rw is refl
+
+-- what a fault says of the count of faults is the same for any call
+pub cause_then : (A B : Type 0) (before now : ℕ) (f : LoadFault) → HasLoadCause {T = A} before now (Err f) → HasLoadCause {T = B} before now (Err f)
+cause_then A B before now faults.Memory is = is
+cause_then A B before now faults.Read is = is
+cause_then A B before now (faults.Truncated a) is = is
+cause_then A B before now faults.BadMagic is = is
+cause_then A B before now faults.BadAlgorithm is = is
+cause_then A B before now (faults.BadField a) is = is
+cause_then A B before now (faults.BadPadding a) is = is
+cause_then A B before now (faults.BadCell a) is = is
+cause_then A B before now (faults.BadCount a) is = is
+cause_then A B before now (faults.BadRank a) is = is
+cause_then A B before now faults.Trailing is = is

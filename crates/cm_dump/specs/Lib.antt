@@ -5,4 +5,5 @@ pub mod Headings
 pub mod Parts
 pub mod Places
 pub mod Spelling
+pub mod Unreads
 pub mod Examples

@@ -39,6 +39,12 @@ pub record Fills (bytes : List ℕ) (at got : ℕ) (buf : List ℕ) : Type 0 whe
   pub given : take got buf ≡ take got (drop at bytes)
   pub end : got < length buf → length bytes ≡ at + got
 
+-- A part has the bytes from an offset on: no fewer than there is room for, unless they end.
+pub record IsPart (bytes : List ℕ) (at room : ℕ) (part : List ℕ) : Type 0 where
+  pub given : part ≡ take (length part) (drop at bytes)
+  pub inside : at + length part ≤ length bytes
+  pub end : length part < room → length bytes ≡ at + length part
+
 -- Want of memory, and a source that fails, may come at any time. Any other fault is the one that the bytes have.
 abbrev pub Fails : {Y : Type 0} → LoadFault → Result Y LoadFault → Type 0
 Fails faults.Memory read = Unit {0}

@@ -10,6 +10,8 @@ mod front;
 mod image;
 mod items;
 pub mod laws;
+mod part;
+mod piece;
 mod ranks;
 mod reader;
 mod rest;

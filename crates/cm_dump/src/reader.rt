@@ -1,5 +1,5 @@
 //! The function that a source's bytes spell.
-ghost use Rattle.std.specs.Prelude.{◌≡◌, ◌+◌, ◌*◌, ◌/◌, ◌<◌, ◌≤◌, ◌^◌, ℕ, List, Option, Err, IsOk, OnOk, IfOk, count_by, length};
+ghost use Rattle.std.specs.Prelude.{◌≡◌, ◌+◌, ◌*◌, ◌/◌, ◌<◌, ◌≤◌, ◌^◌, ℕ, List, Option, Err, IsOk, Ok, OnOk, IfOk, count_by, length};
 ghost use Rattle.std.specs.Option.{ForSome};
 ghost use Rattle.cm_bits.specs.declared.TheConstants.{MAX_CELLS};
 ghost use Rattle.cm_outer.specs.declared.key_pass.TheConstants.{MAX_KEYS};
@@ -11,7 +11,7 @@ ghost use Rattle.cm_spec.specs.Rule.{IsRatio};
 ghost use Rattle.cm_dump.specs.Headings.{heading_at};
 ghost use Rattle.cm_dump.specs.Functions.{IsBdz, IsBdzPh, IsChm, IsFunction};
 ghost use Rattle.cm_dump.specs.Places.{AreNear, IsPlace};
-ghost use Rattle.cm_dump.specs.Reading.{Answers, IsAt, HasLoadCause};
+ghost use Rattle.cm_dump.specs.Reading.{Answers, IsAt, HasLoadCause, item_at};
 ghost use Rattle.cm_dump.specs.Spelling.{bdz_at, bdz_ph_at, chm_at, counted, fault_at, image_at, ranked_at, spelling_of};
 ghost use Rattle.cm_dump.specs.declared.fault.LoadFault.{LoadFault};
 
@@ -44,9 +44,34 @@ fn placed<C: Cells>(at: u64, bound: u32, fault: ImageFault) -> LoadFault
     }
 }
 
+/// The `n` cells below the bound, whose image begins at this offset, in bytes from 0, and is these bytes.
+#[tactic(auto, unfolding(crate::specs::Spelling::image_at))]
+pub(crate) fn cells_from<C: Cells + Drop>(
+    alloc: Global,
+    at: u64,
+    n: u32,
+    bound: u32,
+    image: Vec<u8>,
+) -> Result<C, LoadFault>
+    requires n { n ≤ MAX_CELLS }
+    requires fit { C.fits bound }
+    requires near { AreNear (C.image_size n bound) (C.cell_place bound) (C.image_fault n bound) }
+    requires short { at < 2 ^ 60 }
+    requires whole { length image.items ≡ C.image_size n bound }
+    ensures bound { IfOk result (λ t. C.bound_of t ≡ bound) }
+    ensures size { IfOk result (λ t. length (C.cells t) ≡ n) }
+    ensures exact { (bytes : List ℕ) → item_at bytes at (C.image_size n bound) ≡ Ok image.items → Answers (λ t. list_of (C.image_byte bound (C.cells t)) (C.image_size n bound)) result (image_at bytes at (C.image_size n bound) (C.cell_place bound) (C.image_fault n bound)) }
+    ensures cause { (k : ℕ) → HasLoadCause k k result }
+{
+    match C::from_bytes(alloc, n, bound, image) {
+        Ok(cells) => Ok(cells),
+        Err(fault) => Err(placed::<C>(at, bound, fault)),
+    }
+}
+
 /// The `n` cells below the bound, whose image begins at this offset.
 #[tactic(auto, unfolding(crate::specs::Spelling::image_at))]
-pub(crate) fn read_cells<C: Cells + Drop, S: Source>(
+fn read_cells<C: Cells + Drop, S: Source>(
     alloc: Global,
     source: &mut S,
     at: u64,
@@ -71,9 +96,9 @@ pub(crate) fn read_cells<C: Cells + Drop, S: Source>(
         Ok(bytes) => bytes,
         Err(fault) => return Err(fault),
     };
-    match C::from_bytes(alloc, n, bound, bytes) {
+    match cells_from(alloc, at, n, bound, bytes) {
         Ok(cells) => Ok(cells),
-        Err(fault) => Err(placed::<C>(at, bound, fault)),
+        Err(fault) => Err(fault),
     }
 }
 

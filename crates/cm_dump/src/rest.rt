@@ -8,18 +8,19 @@ ghost use Rattle.cm_spec.specs.Bdz.{bdz_size};
 ghost use Rattle.cm_spec.specs.Cells.{is_busy};
 ghost use Rattle.cm_spec.specs.Image.{packed_len};
 ghost use Rattle.cm_spec.specs.Rule.{IsRatio};
-ghost use Rattle.cm_dump.specs.Reading.{Answers, Fails, IsAt, HasLoadCause};
+ghost use Rattle.cm_dump.specs.Reading.{Answers, Fails, IsAt, IsPart, HasLoadCause};
 ghost use Rattle.cm_dump.specs.Spelling.{bucket_at, bucket_len, brz_at, crumbs_at, is_off, left_of, most_seed, rest_at, size_at};
 
 use crate::LoadFault;
 use crate::buckets::FRONT;
 use crate::front::Header;
-use crate::items::{end, item, number};
-use crate::reader::read_cells;
+use crate::part::{bytes_of, item_of, number_of};
+use crate::piece::{ENOUGH, Piece};
+use crate::reader::cells_from;
 use cm_bdz::{BdzScheme, PartsFault};
 use cm_bits::{Cells, Crumbs};
 use cm_buckets::{Brz, BrzParts};
-use cm_outer::Source;
+use cm_outer::{Failed, Source};
 use cm_rank::Counted;
 use cm_scheme::Scheme;
 use std::alloc::Global;
@@ -39,24 +40,21 @@ fn is_off(keys: u32, held: u32, left: u32) -> bool
     held > keys || left == 0 && held < keys
 }
 
-/// The number of keys of the next bucket, at this offset, after which `left` are to come.
+/// The number of keys of the next bucket, at this offset and the start of the part, after which `left` are to come.
 #[tactic(auto, unfolding(crate::specs::Spelling::size_at))]
-fn read_size<S: Source>(
-    source: &mut S,
-    at: u64,
-    parts: &BrzParts,
-    left: u32,
-) -> Result<u8, LoadFault>
-    requires room { at < 2 ^ 60 }
-    requires at { IsAt (S.told source.old) (S.place source.old) at }
-    ensures told { S.told source.new ≡ S.told source.old }
-    ensures at { OnOk result (IsAt (S.told source.new) (S.place source.new) (at + 1)) }
+fn read_size(part: &[u8], at: u64, parts: &BrzParts, left: u32) -> Result<u8, LoadFault>
+    requires room { at + length part.now < 2 ^ 62 }
+    ensures inside { OnOk result (1 ≤ length part.now) }
+    ensures few { IfOk result (λ size. size ≤ 255) }
     ensures fits { IfOk result (λ size. is_off parts.now.keys (keys_in parts.now.buckets + size) left ≡ false) }
-    ensures exact { ForSome (S.told source.old) (λ bytes. Answers (λ x. x) result (size_at bytes at parts.now left)) }
-    ensures cause { HasLoadCause (S.faults source.old) (S.faults source.new) result }
+    ensures exact { (bytes : List ℕ) (room : ℕ) → 1 ≤ room → IsPart bytes at room part.now → Answers (λ x. x) result (size_at bytes at parts.now left) }
+    ensures cause { (n : ℕ) → HasLoadCause n n result }
 {
     let mut buf = [0; 1];
-    item(source, at, &mut buf)?;
+    match item_of(part, at, &mut buf) {
+        Ok(()) => {}
+        Err(fault) => return Err(fault),
+    }
     let size = buf[0];
     if is_off(parts.keys(), parts.held() + size as u32, left) {
         Err(LoadFault::BadCount { at })
@@ -84,26 +82,22 @@ fn cells_of(size: u8, c: u32) -> u32
     }
 }
 
-/// The `n` cells of a bucket at this offset, of which `size` are not 3.
+/// The `n` cells of a bucket at this offset and the start of the part, of which `size` are not 3.
 #[tactic(auto, unfolding(crate::specs::Spelling::crumbs_at), using(crate::proofs::CellLemmas::packed_near))]
-fn read_crumbs<S: Source>(
-    alloc: Global,
-    source: &mut S,
-    at: u64,
-    size: u8,
-    n: u32,
-) -> Result<Crumbs, LoadFault>
-    requires room { at < 2 ^ 60 }
+fn read_crumbs(alloc: Global, part: &[u8], at: u64, size: u8, n: u32) -> Result<Crumbs, LoadFault>
+    requires room { at + length part.now < 2 ^ 60 }
     requires few { n ≤ 671088645 }
-    requires at { IsAt (S.told source.old) (S.place source.old) at }
-    ensures told { S.told source.new ≡ S.told source.old }
-    ensures at { OnOk result (IsAt (S.told source.new) (S.place source.new) (at + packed_len 4 n)) }
+    ensures inside { OnOk result (packed_len 4 n ≤ length part.now) }
     ensures size { IfOk result (λ t. length (⟦<Crumbs as Cells>⟧.cells t) ≡ n) }
     ensures busy { IfOk result (λ t. count_by (is_busy 3) (⟦<Crumbs as Cells>⟧.cells t) ≡ size) }
-    ensures exact { ForSome (S.told source.old) (λ bytes. Answers (λ t. ⟦<Crumbs as Cells>⟧.cells t) result (crumbs_at bytes at size n)) }
-    ensures cause { HasLoadCause (S.faults source.old) (S.faults source.new) result }
+    ensures exact { (bytes : List ℕ) (room : ℕ) → packed_len 4 n ≤ room → IsPart bytes at room part.now → Answers (λ t. ⟦<Crumbs as Cells>⟧.cells t) result (crumbs_at bytes at size n) }
+    ensures cause { (k : ℕ) → HasLoadCause k k result }
 {
-    let cells: Crumbs = match read_cells(alloc, source, at, n, 4) {
+    let image = match bytes_of(alloc, part, at, Crumbs::image_len(n, 4) as usize) {
+        Ok(image) => image,
+        Err(fault) => return Err(fault),
+    };
+    let cells: Crumbs = match cells_from(alloc, at, n, 4, image) {
         Ok(cells) => cells,
         Err(fault) => return Err(fault),
     };
@@ -114,30 +108,62 @@ fn read_crumbs<S: Source>(
     }
 }
 
-/// The next bucket, at this offset, after which `left` are to come.
+/// The next bucket, at this offset and the start of the part, after which `left` are to come.
 #[tactic(auto, unfolding(crate::specs::Spelling::bucket_at))]
-fn read_bucket<S: Source>(
+fn read_bucket(
     alloc: Global,
-    source: &mut S,
+    part: &[u8],
     at: u64,
     parts: &BrzParts,
     left: u32,
 ) -> Result<Bucket, LoadFault>
-    requires room { at < 2 ^ 59 }
-    requires at { IsAt (S.told source.old) (S.place source.old) at }
-    ensures told { S.told source.new ≡ S.told source.old }
-    ensures at { IfOk result (λ b. IsAt (S.told source.new) (S.place source.new) (at + (5 + packed_len 4 (length (⟦<Crumbs as Cells>⟧.cells b.cells))))) }
+    requires room { at + length part.now < 2 ^ 60 }
+    ensures inside { IfOk result (λ b. 5 + packed_len 4 (length (⟦<Crumbs as Cells>⟧.cells b.cells)) ≤ length part.now) }
     ensures size { IfOk result (λ b. length (⟦<Crumbs as Cells>⟧.cells b.cells) ≡ bucket_cells b.size parts.now.ratio) }
     ensures unseeded { IfOk result (λ b. b.size ≡ 0 → b.seed ≡ 0) }
     ensures busy { IfOk result (λ b. count_by (is_busy 3) (⟦<Crumbs as Cells>⟧.cells b.cells) ≡ b.size) }
     ensures fits { IfOk result (λ b. is_off parts.now.keys (keys_in parts.now.buckets + b.size) left ≡ false) }
-    ensures exact { ForSome (S.told source.old) (λ bytes. Answers (λ b. record { size = b.size; seed = b.seed; cells = ⟦<Crumbs as Cells>⟧.cells b.cells }) result (bucket_at bytes at parts.now left)) }
-    ensures cause { HasLoadCause (S.faults source.old) (S.faults source.new) result }
+    ensures exact { (bytes : List ℕ) → IsPart bytes at ENOUGH part.now → Answers (λ b. record { size = b.size; seed = b.seed; cells = ⟦<Crumbs as Cells>⟧.cells b.cells }) result (bucket_at bytes at parts.now left) }
+    ensures cause { (n : ℕ) → HasLoadCause n n result }
 {
-    let size = read_size(source, at, parts, left)?;
-    let seed = number(source, at + 1, 0, greatest_seed(size))?;
-    let cells = read_crumbs(alloc, source, at + 5, size, cells_of(size, parts.c()))?;
-    Ok(Bucket { size, seed, cells })
+    let size = match read_size(part, at, parts, left) {
+        Ok(size) => size,
+        Err(fault) => return Err(fault),
+    };
+    let seed = match number_of(&part[1..], at + 1, 0, greatest_seed(size)) {
+        Ok(seed) => seed,
+        Err(fault) => return Err(fault),
+    };
+    let n = cells_of(size, parts.c());
+    match read_crumbs(alloc, &part[FRONT as usize..], at + FRONT, size, n) {
+        Ok(cells) => Ok(Bucket { size, seed, cells }),
+        Err(fault) => Err(fault),
+    }
+}
+
+/// The next bucket, at this offset and the start of the part, becomes one of the function's. Says how many bytes it has.
+fn next_bucket(alloc: Global, part: &[u8], at: u64, parts: &mut BrzParts) -> Result<u64, LoadFault>
+    requires room { at + length part.now < 2 ^ 60 }
+    requires some { length parts.old.buckets < bucket_count parts.old.keys parts.old.width }
+    ensures inside { IfOk result (λ len. len ≤ length part.now) }
+    ensures near { IfOk result (λ len. len ≤ 268435456) }
+    ensures one { OnOk result (length parts.new.buckets ≡ length parts.old.buckets + 1) }
+    ensures same { OnOk result (parts.new ≡ record parts.old { buckets = parts.new.buckets }) }
+    ensures right { IfOk result (λ len. (bytes : List ℕ) → IsPart bytes at ENOUGH part.now → rest_at bytes at (left_of parts.old) parts.old ≡ rest_at bytes (at + len) (left_of parts.new) parts.new) }
+    ensures fault { IfErr result (λ e. (bytes : List ℕ) → IsPart bytes at ENOUGH part.now → Fails e (rest_at bytes at (left_of parts.old) parts.old)) }
+    ensures cause { (n : ℕ) → HasLoadCause n n result }
+{
+    let left = parts.left() - 1;
+    let bucket = match read_bucket(alloc, part, at, parts, left) {
+        Ok(bucket) => bucket,
+        Err(fault) => return Err(fault),
+    };
+    let len = FRONT + Crumbs::image_len(bucket.cells.len(), 4);
+    match parts.push(bucket.size, bucket.seed, bucket.cells) {
+        Ok(()) => Ok(len),
+        Err(PartsFault::Memory) => Err(LoadFault::Memory),
+        Err(PartsFault::BadCount) => unreachable!(),
+    }
 }
 
 /// The BRZ function of a header, whose dump ends with the source.
@@ -156,48 +182,27 @@ pub(crate) fn load_brz<S: Source>(
     ensures valid { IfOk result (λ f. IsBrz f) }
     ensures cause { HasLoadCause (S.faults source.old) (S.faults source.new) result }
 {
+    let mut piece = match Piece::new(alloc) {
+        Ok(piece) => piece,
+        Err(_) => return Err(LoadFault::Memory),
+    };
     let mut parts = BrzParts::new(alloc, header.keys, header.ratio, header.b, header.seed);
     let mut at = 24;
     'buckets: while parts.left() > 0 {
-        match next_bucket(alloc, source, at, &mut parts) {
-            Ok(len) => at += len,
+        match piece.refill(source, at) {
+            Ok(()) => {}
+            Err(Failed) => return Err(LoadFault::Read),
+        }
+        match next_bucket(alloc, piece.rest(), at, &mut parts) {
+            Ok(len) => {
+                piece.skip(len as usize);
+                at += len;
+            }
             Err(fault) => return Err(fault),
         }
     }
-    match end(source, at) {
+    match piece.end(source, at) {
         Ok(()) => Ok(parts.finish()),
         Err(fault) => Err(fault),
-    }
-}
-
-/// Reads the next bucket, at this offset, and says how many bytes it has.
-fn next_bucket<S: Source>(
-    alloc: Global,
-    source: &mut S,
-    at: u64,
-    parts: &mut BrzParts,
-) -> Result<u64, LoadFault>
-    requires room { at < 2 ^ 59 }
-    requires some { length parts.old.buckets < bucket_count parts.old.keys parts.old.width }
-    requires at { IsAt (S.told source.old) (S.place source.old) at }
-    ensures told { S.told source.new ≡ S.told source.old }
-    ensures at { IfOk result (λ len. IsAt (S.told source.new) (S.place source.new) (at + len)) }
-    ensures near { IfOk result (λ len. len ≤ 268435456) }
-    ensures one { OnOk result (length parts.new.buckets ≡ length parts.old.buckets + 1) }
-    ensures same { OnOk result (parts.new ≡ record parts.old { buckets = parts.new.buckets }) }
-    ensures right { IfOk result (λ len. ForSome (S.told source.old) (λ bytes. rest_at bytes at (left_of parts.old) parts.old ≡ rest_at bytes (at + len) (left_of parts.new) parts.new)) }
-    ensures fault { IfErr result (λ e. ForSome (S.told source.old) (λ bytes. Fails e (rest_at bytes at (left_of parts.old) parts.old))) }
-    ensures cause { HasLoadCause (S.faults source.old) (S.faults source.new) result }
-{
-    let left = parts.left() - 1;
-    let bucket = match read_bucket(alloc, source, at, parts, left) {
-        Ok(bucket) => bucket,
-        Err(fault) => return Err(fault),
-    };
-    let len = FRONT + Crumbs::image_len(bucket.cells.len(), 4);
-    match parts.push(bucket.size, bucket.seed, bucket.cells) {
-        Ok(()) => Ok(len),
-        Err(PartsFault::Memory) => Err(LoadFault::Memory),
-        Err(PartsFault::BadCount) => unreachable!(),
     }
 }

@@ -1,8 +1,8 @@
 use Rattle.std.proofs.Common.{◌≡◌, ◌≤◌, ◌+◌, ◌*◌, length}
 use Rattle.std.specs.Option.{ForSome}
 use Rattle.cm_buckets.specs.Functions.{bucket_count}
-use Rattle.cm_dump.specs.Reading.{IsAt}
 use Rattle.cm_dump.specs.Spelling.{brz_at, left_of, rest_at}
+use Rattle.cm_dump.specs.Unreads.{IsNext}
 use Rattle.cm_dump.proofs.rest.load_brz.Given as goal
 
 abbrev pub invariant-buckets : goal.invariant-buckets
@@ -17,7 +17,7 @@ invariant-buckets g l =
       split : l.parts.split ≡ l.fn.header.seed;
       few : length l.parts.buckets ≤ bucket_count l.fn.header.keys l.fn.header.b;
       near : l.at ≤ 24 + 268435456 * length l.parts.buckets;
-      at : IsAt (told l.source) (g.S.Source.place l.source) l.at;
+      next : ForSome (told l.source) (λ bytes. IsNext bytes (g.S.Source.place l.source) l.at l.piece);
       right : ForSome (told l.source) (λ bytes. brz_at bytes l.fn.header ≡ rest_at bytes l.at (left_of l.parts) l.parts);
     }
 

@@ -5,26 +5,25 @@ use Rattle.cm_dump.proofs.RestLemmas.{rest_fault, rest_next}
 use Rattle.cm_dump.proofs.rest.next_bucket.Goals as goal
 
 pub returns-in-Err-clause-fault : goal.returns-in-Err-clause-fault
-returns-in-Err-clause-fault g c = λ x is.
-    rest_fault x c.args.at (c.left-left.result - 1) _ c.args.parts.now c.in-Err.fault (omega (arith, c.left-left.ensures.left, c.requires.some)) (c.in-Err.ensures.exact x is)
+returns-in-Err-clause-fault c = λ x there.
+    rest_fault x c.args.at (c.left-left.result - 1) _ c.args.parts.now c.in-Err.fault (omega (arith, c.left-left.ensures.left, c.requires.some)) (c.in-Err.ensures.exact x there)
 
 pub image_len-len-requires-clause-room : goal.image_len-len-requires-clause-room
-image_len-len-requires-clause-room g c =
+image_len-len-requires-clause-room c =
     let t = c.in-Ok.bucket.cells in
     omega (arith, c.len.ensures, packed_room 4 4 t.n t.bytes.items t.in_room)
 
-pub returns-in-Ok-push-clause-at : goal.returns-in-Ok-push-clause-at
-returns-in-Ok-push-clause-at g c = λ x is.
-    let at = c.in-Ok.ensures.at x is in
+pub returns-in-Ok-push-clause-inside : goal.returns-in-Ok-push-clause-inside
+returns-in-Ok-push-clause-inside c =
     let size = c.image_len-len.ensures ∙ ap (λ (n : ℕ). packed_len 4 n) c.len.ensures in
-    (omega (arith, at.0, size), omega (arith, at.1, size))
+    omega (arith, c.in-Ok.ensures.inside, size)
 
 pub returns-in-Ok-push-clause-near : goal.returns-in-Ok-push-clause-near
-returns-in-Ok-push-clause-near g c =
+returns-in-Ok-push-clause-near c =
     let t = c.in-Ok.bucket.cells in
     omega (arith, c.image_len-len.ensures, c.len.ensures, packed_room 4 4 t.n t.bytes.items t.in_room)
 
 pub returns-in-Ok-push-clause-right : goal.returns-in-Ok-push-clause-right
-returns-in-Ok-push-clause-right g c = λ x is.
+returns-in-Ok-push-clause-right c = λ x there.
     let size = c.image_len-len.ensures ∙ ap (λ (n : ℕ). packed_len 4 n) c.len.ensures in
-    rest_next x c.args.at (c.left-left.result - 1) _ c.args.parts.now c.push.new.self _ c.in-Ok-push.ensures.pushed (omega (arith, c.left-left.ensures.left, c.requires.some)) (ap (λ (n : ℕ). 5 + n) size) (c.in-Ok.ensures.exact x is)
+    rest_next x c.args.at (c.left-left.result - 1) _ c.args.parts.now c.push.new.self _ c.in-Ok-push.ensures.pushed (omega (arith, c.left-left.ensures.left, c.requires.some)) (ap (λ (n : ℕ). 5 + n) size) (c.in-Ok.ensures.exact x there)

@@ -1,0 +1,8 @@
+use Rattle.cm_dump.specs.Reading.{item_at}
+use Rattle.cm_dump.specs.Spelling.{size_at}
+use Rattle.cm_dump.proofs.StepLemmas.{fails_then}
+use Rattle.cm_dump.proofs.rest.read_size.Goals as goal
+
+pub returns-in-Err-clause-exact : goal.returns-in-Err-clause-exact
+unfolding size_at
+returns-in-Err-clause-exact c = λ bytes room few is. fails_then c.in-Err.fault (item_at bytes c.args.at 1) _ (c.in-Err.ensures.exact bytes room few is)

@@ -1,0 +1,78 @@
+//! The items of a part of a file that is in memory. Each is read at the start of what is left, whose offset is known.
+ghost use Rattle.std.specs.Prelude.{◌≡◌, ◌≢◌, ◌+◌, ◌<◌, ◌≤◌, ◌^◌, ℕ, List, Err, OnOk, IfOk, length};
+ghost use Rattle.cm_dump.specs.Reading.{Answers, HasLoadCause, IsPart, item_at, number_at};
+ghost use Rattle.cm_dump.specs.declared.fault.LoadFault.{LoadFault};
+
+use crate::LoadFault;
+use cm_bits::SPARE;
+use std::alloc::Global;
+
+/// The fault of an item that is cut off, in a part that begins at this offset, in bytes from 0.
+fn cut(part: &[u8], at: u64) -> LoadFault
+    requires room { at + length part.now < 2 ^ 63 }
+    ensures { result ≡ LoadFault.Truncated (at + length part.now) }
+{
+    LoadFault::Truncated {
+        at: at + part.len() as u64,
+    }
+}
+
+/// Fills the buffer with the first bytes of a part that begins at this offset, in bytes from 0.
+pub(crate) fn item_of(part: &[u8], at: u64, buf: &mut [u8]) -> Result<(), LoadFault>
+    requires room { at + length part.now < 2 ^ 63 }
+    ensures inside { OnOk result (length buf.old ≤ length part.now) }
+    ensures exact { (bytes : List ℕ) (room : ℕ) → length buf.old ≤ room → IsPart bytes at room part.now → Answers (λ _. buf.new) result (item_at bytes at (length buf.old)) }
+    ensures cause { (n : ℕ) → HasLoadCause n n result }
+    ensures memory { result ≢ Err LoadFault.Memory }
+{
+    let n = buf.len();
+    if part.len() < n {
+        return Err(cut(part, at));
+    }
+    buf.copy_from_slice(&part[..n]);
+    Ok(())
+}
+
+/// The number in the first four bytes of a part that begins at this offset, which is to be from `low` to `high`.
+#[tactic(auto, unfolding(crate::specs::Reading::number_at))]
+pub(crate) fn number_of(part: &[u8], at: u64, low: u32, high: u32) -> Result<u32, LoadFault>
+    requires room { at + length part.now < 2 ^ 63 }
+    ensures inside { OnOk result (4 ≤ length part.now) }
+    ensures range { IfOk result (λ x. (low ≤ x) × (x ≤ high)) }
+    ensures exact { (bytes : List ℕ) (room : ℕ) → 4 ≤ room → IsPart bytes at room part.now → Answers (λ x. x) result (number_at bytes at low high) }
+    ensures cause { (n : ℕ) → HasLoadCause n n result }
+    ensures memory { result ≢ Err LoadFault.Memory }
+{
+    let mut buf = [0; 4];
+    match item_of(part, at, &mut buf) {
+        Ok(()) => {}
+        Err(fault) => return Err(fault),
+    }
+    let x = u32::from_le_bytes(buf);
+    if low <= x && x <= high {
+        Ok(x)
+    } else {
+        Err(LoadFault::BadField { at })
+    }
+}
+
+/// The first `n` bytes of a part that begins at this offset, with room for `SPARE` more.
+pub(crate) fn bytes_of(alloc: Global, part: &[u8], at: u64, n: usize) -> Result<Vec<u8>, LoadFault>
+    requires room { at + length part.now < 2 ^ 62 }
+    ensures inside { OnOk result (n ≤ length part.now) }
+    ensures size { IfOk result (λ v. length v.items ≡ n) }
+    ensures exact { (bytes : List ℕ) (room : ℕ) → n ≤ room → IsPart bytes at room part.now → Answers (λ v. v.items) result (item_at bytes at n) }
+    ensures cause { (k : ℕ) → HasLoadCause k k result }
+{
+    if part.len() < n {
+        return Err(cut(part, at));
+    }
+    let mut item = match Vec::with_capacity(alloc, n + SPARE) {
+        Ok(item) => item,
+        Err(_) => return Err(LoadFault::Memory),
+    };
+    match item.extend_from_slice(&part[..n]) {
+        Ok(()) => Ok(item),
+        Err(_) => Err(LoadFault::Memory),
+    }
+}
