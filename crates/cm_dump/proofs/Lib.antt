@@ -1,5 +1,6 @@
 mod Pieces
 pub mod StepLemmas
+pub mod FormLemmas
 pub mod ItemLemmas
 pub mod ChunkLemmas
 pub mod CellLemmas

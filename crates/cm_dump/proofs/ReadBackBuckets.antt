@@ -1,7 +1,7 @@
 -- The buckets of bytes that spell a function by BRZ.
-use Rattle.std.proofs.Common.{◌≡◌, ◌∙◌, ℕ, zero, eqb, ◌-◌, ◌+◌, ◌/◌, ◌<◌, ◌≤◌, ◌^◌, ◌⊎◌, suc, List, [], ◌∷◌, ◌++◌, append_assoc, length, drop, ap, sym, subst, arith, refl, nat_lt, Bool, true, false, if◌then◌else◌, Result, Ok, Err, w32, inl, inr, append-nil, lit<}
-use Rattle.std.specs.Prelude.{count_by, slice_index}
-use Rattle.std.specs.Int.{to_le_bytes}
+use Rattle.std.proofs.Common.{◌≡◌, ◌∙◌, ℕ, zero, eqb, ◌-◌, ◌+◌, ◌/◌, ◌%◌, ◌<◌, ◌≤◌, ◌^◌, ◌⊎◌, suc, List, [], ◌∷◌, ◌++◌, append_assoc, length, drop, ap, sym, subst, arith, refl, nat_lt, Bool, true, false, if◌then◌else◌, Result, Ok, Err, w32, inl, inr, append-nil, lit<}
+use Rattle.std.specs.Prelude.{count_by}
+use Rattle.std.specs.Int.{to_le_bytes, w8}
 use Rattle.std.specs.List.{All}
 use Rattle.std.proofs.lemmas.List.Elements.{All-cons, All-nil}
 use Rattle.std.proofs.Math.ListN.{drop_of_length-le}
@@ -13,41 +13,40 @@ use Rattle.cm_bits.specs.Fault.{packed_fault}
 use Rattle.cm_bits.specs.Held.{packed_cells}
 use Rattle.cm_buckets.specs.Functions.{Brz, Bucket, IsBucket, bucket_cells, bucket_count, keys_in}
 use Rattle.cm_buckets.specs.Pushing.{with_bucket}
-use Rattle.cm_buckets.specs.declared.limits.TheConstants.{MIN_WIDTH, MAX_WIDTH}
+use Rattle.cm_buckets.specs.declared.limits.TheConstants.{MAX_BUCKET, MIN_WIDTH, MAX_WIDTH}
 use Rattle.cm_spec.specs.Cells.{is_busy}
-use Rattle.cm_spec.specs.Dump.{header}
+use Rattle.cm_dump.specs.Dumps.{header, packed_image, bucket_image, buckets_image, brz_dump}
 use Rattle.cm_spec.specs.Image.{packed_len}
 use Rattle.cm_dump.specs.declared.fault.LoadFault.{LoadFault}
 use Rattle.cm_dump.specs.declared.fault.LoadFault.TheVariants as faults
 use Rattle.cm_dump.specs.declared.front.Algorithm.TheVariants as algorithm
 use Rattle.cm_dump.specs.declared.front.Header.{Header}
 use Rattle.cm_dump.specs.declared.writer.Func.TheVariants as func
-use Rattle.cm_dump.specs.Dumps.{packed_image, bucket_image, buckets_image, brz_dump}
-use Rattle.cm_dump.specs.Reading.{item_at, number_at, end_at}
+use Rattle.cm_dump.specs.Reading.{field_at, end_at}
 use Rattle.cm_dump.specs.Spelling.{packed_at, is_off, most_seed, size_at, crumbs_at, bucket_at, bucket_len, rest_at, brz_at, no_buckets}
 use Rattle.cm_dump.proofs.ItemLemmas.{ltb_no, ltb_yes}
 use Rattle.cm_dump.proofs.StepLemmas.{if_ok, ok_err, ok_same, step}
-use Rattle.cm_dump.proofs.ReadBackItems.{ReadsFunction, ReadsHeader, Small, Stands, end_read, image_back, number_read, one_of, packed_read, small_item, stands}
+use Rattle.cm_dump.specs.Forms.{version_1}
+use Rattle.cm_dump.proofs.ReadBackItems.{ReadsFunction, ReadsHeader, Small, Stands, byte_read, end_read, image_back, number_read, packed_read}
 
 record ReadsSize (bytes : List ℕ) (at : ℕ) (f : Brz) (left size : ℕ) : Type 0 where
   pub there : Stands bytes at 1 (size ∷ [])
-  pub few : size < 256
+  pub few : size ≤ MAX_BUCKET
   pub fits : is_off f.keys (keys_in f.buckets + size) left ≡ false
 
 unless_off : (t : Bool) (e : LoadFault) (x y : ℕ) → (if t then (let r : Result ℕ LoadFault = Err e in r) else Ok x) ≡ Ok y → (t ≡ false) × (x ≡ y)
 unless_off true e x y is = absurd (ok_err y e (sym is))
 unless_off false e x y is = (refl, ok_same is)
 
-size_read : (bytes : List ℕ) (at : ℕ) (f : Brz) (left size : ℕ) → Small bytes → size_at bytes at f left ≡ Ok size → ReadsSize bytes at f left size
+size_read : (bytes : List ℕ) (at : ℕ) (f : Brz) (left size : ℕ) → size_at version_1 bytes at f left ≡ Ok size → ReadsSize bytes at f left size
 unfolding size_at
-size_read bytes at f left size small is =
-    let s = step (item_at bytes at 1) _ size is in
-    let there = stands bytes at 1 s.value s.was in
-    let item : ℕ = slice_index s.value 0 in
-    let test = unless_off (is_off f.keys (keys_in f.buckets + item) left) (faults.BadCount at) item size s.next in
+size_read bytes at f left size is =
+    let s = step (field_at w8 bytes at 0 MAX_BUCKET) _ size is in
+    let read = byte_read bytes at 0 MAX_BUCKET s.value s.was in
+    let test = unless_off (is_off f.keys (keys_in f.buckets + s.value) left) (faults.BadCount at) s.value size s.next in
     record {
-      there = subst (λ (xs : List ℕ). Stands bytes at 1 xs) (one_of s.value size there.long test.1) there;
-      few = subst (λ (x : ℕ). x < 256) test.1 (small_item bytes at 1 s.value small there 0);
+      there = subst (λ (x : ℕ). Stands bytes at 1 (x ∷ [])) test.1 read.there;
+      few = subst (λ (x : ℕ). x ≤ MAX_BUCKET) test.1 read.below;
       fits = subst (λ (x : ℕ). is_off f.keys (keys_in f.buckets + x) left ≡ false) test.1 test.0;
     }
 
@@ -80,7 +79,7 @@ none_seeded size seed within none =
 
 record ReadsBucket (bytes : List ℕ) (at : ℕ) (f : Brz) (left : ℕ) (b : Bucket) : Type 0 where
   pub valid : IsBucket f.ratio b
-  pub cut : drop at bytes ≡ bucket_image b ++ drop (at + bucket_len b) bytes
+  pub cut : drop at bytes ≡ bucket_image version_1 b ++ drop (at + bucket_len version_1 b) bytes
   pub fits : is_off f.keys (keys_in f.buckets + b.size) left ≡ false
 
 most_fits : (size seed : ℕ) → seed ≤ most_seed size → seed < 2 ^ 32
@@ -89,14 +88,14 @@ most_fits size seed within = go (eqb size 0) within where
   go true le = omega (arith, le)
   go false le = omega (arith, le)
 
-bucket_read : (bytes : List ℕ) (at : ℕ) (f : Brz) (left : ℕ) (b : Bucket) → Small bytes → bucket_at bytes at f left ≡ Ok b → ReadsBucket bytes at f left b
+bucket_read : (bytes : List ℕ) (at : ℕ) (f : Brz) (left : ℕ) (b : Bucket) → Small bytes → bucket_at version_1 bytes at f left ≡ Ok b → ReadsBucket bytes at f left b
 unfolding bucket_at bucket_image
 bucket_read bytes at f left b small is =
-    let s = step (size_at bytes at f left) _ b is in
-    let t = step (number_at bytes (at + 1) 0 (most_seed s.value)) _ b s.next in
+    let s = step (size_at version_1 bytes at f left) _ b is in
+    let t = step (field_at w32 bytes (at + 1) 0 (most_seed s.value)) _ b s.next in
     let u = step (crumbs_at bytes (at + 5) s.value (bucket_cells s.value f.ratio)) _ b t.next in
     let n : ℕ = bucket_cells s.value f.ratio in
-    let size = size_read bytes at f left s.value small s.was in
+    let size = size_read bytes at f left s.value s.was in
     let seed = number_read bytes (at + 1) 0 (most_seed s.value) t.value small t.was in
     let crumbs = crumbs_read bytes (at + 5) s.value n u.value u.was in
     let next : at + 1 + 4 ≡ at + 5 = omega arith in
@@ -106,9 +105,11 @@ bucket_read bytes at f left b small is =
     let image_cut : drop (at + 5) bytes ≡ image ++ drop (at + (5 + packed_len 4 (length u.value))) bytes = crumbs.there.cut ∙ ap (λ (k : ℕ). image ++ drop k bytes) place in
     let whole : drop at bytes ≡ s.value ∷ (to_le_bytes w32 t.value ++ (image ++ drop (at + (5 + packed_len 4 (length u.value))) bytes)) =
     size.there.cut ∙ ap (λ (l : List ℕ). s.value ∷ l) (seed_cut ∙ ap (λ (l : List ℕ). to_le_bytes w32 t.value ++ l) image_cut) in
+    let last : List ℕ = drop (at + (5 + packed_len 4 (length u.value))) bytes in
+    let same : s.value ≡ s.value % 256 = omega (arith, size.few) in
     let made : ReadsBucket bytes at f left (record { size = s.value; seed = t.value; cells = u.value }) = record {
-      valid = record { few = omega (arith, size.few); seed = most_fits s.value t.value seed.below; unseeded = none_seeded s.value t.value seed.below; cells = crumbs.long; below = crumbs.below; busy = crumbs.busy };
-      cut = whole ∙ ap (λ (l : List ℕ). s.value ∷ l) (sym (append_assoc (to_le_bytes w32 t.value) image (drop (at + (5 + packed_len 4 (length u.value))) bytes)));
+      valid = record { few = size.few; seed = most_fits s.value t.value seed.below; unseeded = none_seeded s.value t.value seed.below; cells = crumbs.long; below = crumbs.below; busy = crumbs.busy };
+      cut = whole ∙ ap (λ (l : List ℕ). s.value ∷ l) (sym (append_assoc (to_le_bytes w32 t.value) image last)) ∙ ap (λ (x : ℕ). x ∷ ((to_le_bytes w32 t.value ++ image) ++ last)) same;
       fits = size.fits;
     } in
     subst (λ (x : Bucket). ReadsBucket bytes at f left x) (ok_same u.next) made
@@ -116,7 +117,7 @@ bucket_read bytes at f left b small is =
 record ReadsRest (bytes : List ℕ) (at left : ℕ) (f g : Brz) : Type 0 where
   pub later : List Bucket
   pub is : (let h : Brz = record f { buckets = f.buckets ++ later } in h) ≡ g
-  pub cut : drop at bytes ≡ buckets_image later
+  pub cut : drop at bytes ≡ buckets_image version_1 later
   pub many : length later ≡ left
   pub each : All (IsBucket f.ratio) later
   pub all : 0 < left → keys_in f.buckets + keys_in later ≡ f.keys
@@ -143,7 +144,7 @@ all_keys f b (x ∷ later) left fits many rest =
     let pushed : keys_in (f.buckets ++ b ∷ []) ≡ keys_in f.buckets + b.size = sum_by_push (λ (k : Bucket). k.size) f.buckets b in
     omega (arith, rest (omega (arith, many)), size, pushed)
 
-rest_read : (bytes : List ℕ) (at left : ℕ) (f g : Brz) → Small bytes → rest_at bytes at left f ≡ Ok g → ReadsRest bytes at left f g
+rest_read : (bytes : List ℕ) (at left : ℕ) (f g : Brz) → Small bytes → rest_at version_1 bytes at left f ≡ Ok g → ReadsRest bytes at left f g
 unfolding rest_at buckets_image
 rest_read bytes at zero f g small is =
     let s = step (end_at bytes at) _ g is in
@@ -156,28 +157,28 @@ rest_read bytes at zero f g small is =
       all = λ some. absurd (omega (arith, some));
     }
 rest_read bytes at (suc left) f g small is =
-    let s = step (bucket_at bytes at f left) _ g is in
+    let s = step (bucket_at version_1 bytes at f left) _ g is in
     let b : Bucket = s.value in
     let read = bucket_read bytes at f left b small s.was in
-    let rest = rest_read bytes (at + bucket_len b) left (with_bucket f b) g small s.next in
+    let rest = rest_read bytes (at + bucket_len version_1 b) left (with_bucket f b) g small s.next in
     record {
       later = b ∷ rest.later;
       is = ap (λ (bs : List Bucket). let h : Brz = record f { buckets = bs } in h) (sym (append_assoc f.buckets (b ∷ []) rest.later)) ∙ rest.is;
-      cut = read.cut ∙ ap (λ (l : List ℕ). bucket_image b ++ l) rest.cut;
+      cut = read.cut ∙ ap (λ (l : List ℕ). bucket_image version_1 b ++ l) rest.cut;
       many = omega (arith, rest.many);
       each = All-cons (IsBucket f.ratio) b rest.later read.valid rest.each;
       all = λ some. all_keys f b rest.later left read.fits rest.many rest.all;
     }
 
-pub brz_read : (bytes : List ℕ) (h : Header) (f : Brz) → Small bytes → ReadsHeader bytes h → h.algorithm ≡ algorithm.Brz → brz_at bytes h ≡ Ok f → ReadsFunction bytes (func.Brz f)
+pub brz_read : (bytes : List ℕ) (h : Header) (f : Brz) → Small bytes → ReadsHeader bytes h → h.algorithm ≡ algorithm.Brz → brz_at version_1 bytes h ≡ Ok f → ReadsFunction bytes (func.Brz f)
 unfolding brz_at brz_dump
 brz_read bytes h f small heading kind is =
     let rest = rest_read bytes 24 (bucket_count h.keys h.b) (no_buckets h) f small is in
     let width : (MIN_WIDTH ≤ h.b) × (h.b ≤ MAX_WIDTH) = rw kind at heading.parameter in
     let some : 1 ≤ bucket_count h.keys h.b = (le-div_iff_mul-le {k = h.b} {x = 1} {y = h.keys + (h.b - 1)} (omega (arith, width.0))).1 (omega (arith, heading.keys.0, width.0)) in
-    let front : bytes ≡ header 4 h.b h.keys h.ratio h.seed ++ drop 24 bytes = rw kind at heading.front in
+    let front : bytes ≡ header version_1 4 h.b h.keys h.ratio h.seed ++ drop 24 bytes = rw kind at heading.front in
     let made : ReadsFunction bytes (func.Brz (record { keys = h.keys; ratio = h.ratio; width = h.b; split = h.seed; buckets = rest.later })) = record {
-      dump = sym (front ∙ ap (λ (l : List ℕ). header 4 h.b h.keys h.ratio h.seed ++ l) rest.cut);
+      dump = sym (front ∙ ap (λ (l : List ℕ). header version_1 4 h.b h.keys h.ratio h.seed ++ l) rest.cut);
       valid = record { keys = heading.keys; ratio = heading.ratio; width = width; split = heading.seed; count = rest.many; each = rest.each; all = omega (arith, rest.all (omega (arith, some))) };
     } in
     subst (λ (x : Brz). ReadsFunction bytes (func.Brz x)) rest.is made

@@ -1,7 +1,7 @@
 -- The items of bytes that spell a function.
 use Rattle.std.proofs.Common.{◌≡◌, ◌∙◌, ℕ, ◌+◌, ◌*◌, ◌/◌, ◌%◌, ◌<◌, ◌≤◌, ◌^◌, ◌&&◌, ◌⊎◌, suc, List, [], ◌∷◌, ◌++◌, append_assoc, length, get_or, take, drop, ap, sym, subst, arith, refl, length-take, length-drop, nat_lt, nat_le, Bool, true, false, if◌then◌else◌, Option, Some, None, Result, Ok, Err, w32, inl, inr, append-nil, lit<}
 use Rattle.std.specs.Prelude.{nat_eq, slice_index}
-use Rattle.std.specs.Int.{to_le_bytes, from_le_bytes}
+use Rattle.std.specs.Int.{to_le_bytes, from_le_bytes, w8}
 use Rattle.std.specs.List.{flat_map, position_or_len}
 use Rattle.std.specs.Cmp.Lexicographic.{bytes_decides, pointwise}
 use Rattle.std.proofs.Math.ListN.{drop_of_length-le}
@@ -19,7 +19,8 @@ use Rattle.cm_bits.specs.Held.{packed_cells}
 use Rattle.cm_bits.specs.PackedLaws.{AllBelow-packed_cells, length-packed_cells, IsPacked-sound, image-list}
 use Rattle.cm_bits.specs.declared.fault.ImageFault.{ImageFault}
 use Rattle.cm_outer.specs.declared.key_pass.TheConstants.{MAX_KEYS}
-use Rattle.cm_spec.specs.Dump.{magic, header, fields_image}
+use Rattle.cm_spec.specs.Dump.{magic, fields_image}
+use Rattle.cm_dump.specs.Dumps.{header, packed_image, ranks_image, dump_of}
 use Rattle.cm_spec.specs.Image.{digits_sum, width_of, fields_len, fields_byte, fields_number, packed_byte, packed_len}
 use Rattle.cm_spec.specs.Lists.{list_of}
 use Rattle.cm_dump.specs.declared.fault.LoadFault.{LoadFault}
@@ -29,12 +30,13 @@ use Rattle.cm_dump.specs.declared.front.Algorithm.TheVariants as algorithm
 use Rattle.cm_dump.specs.declared.front.Header.{Header}
 use Rattle.cm_dump.specs.declared.front.Kind.{Kind}
 use Rattle.cm_dump.specs.declared.writer.Func.{Func}
-use Rattle.cm_dump.specs.Dumps.{packed_image, ranks_image, dump_of}
 use Rattle.cm_dump.specs.Functions.{IsFunction}
 use Rattle.cm_dump.specs.Headings.{IsParameter, magic_at, algorithm_of, algorithm_at, least_b, most_b, kind_at, heading_at}
-use Rattle.cm_dump.specs.Reading.{item_at, byte_at, number_at, end_at}
+use Rattle.cm_dump.specs.Reading.{item_at, field_at, zeros_at, end_at}
 use Rattle.cm_dump.specs.Spelling.{unless_bad, image_at, ranks_at}
 use Rattle.cm_dump.proofs.ChunkLemmas.{whole_or, ge_of}
+use Rattle.cm_dump.proofs.FormLemmas.{parameter_fits}
+use Rattle.cm_dump.specs.Forms.{version_1}
 use Rattle.cm_dump.proofs.StepLemmas.{if_next, if_ok, ok_err, ok_same, step}
 
 pub both_of : (s t : Bool) → (s && t) ≡ true → (s ≡ true) × (t ≡ true)
@@ -84,7 +86,7 @@ one_of [] b long is = absurd (omega (arith, long))
 one_of (x ∷ []) b long is = ap (λ (y : ℕ). y ∷ []) is
 one_of (x ∷ y ∷ ys) b long is = absurd (omega (arith, long))
 
-pub magic_read : (bytes : List ℕ) (x : Unit {0}) → magic_at bytes ≡ Ok x → Stands bytes 0 8 magic
+pub magic_read : (bytes : List ℕ) (x : Unit {0}) → magic_at version_1 bytes ≡ Ok x → Stands bytes 0 8 magic
 unfolding magic_at
 magic_read bytes x is =
     let s = step (item_at bytes 0 8) _ x is in
@@ -119,8 +121,8 @@ pub record ReadsByte (bytes : List ℕ) (at low high b : ℕ) : Type 0 where
   pub above : low ≤ b
   pub below : b ≤ high
 
-pub byte_read : (bytes : List ℕ) (at low high b : ℕ) → byte_at bytes at low high ≡ Ok b → ReadsByte bytes at low high b
-unfolding byte_at
+pub byte_read : (bytes : List ℕ) (at low high b : ℕ) → field_at w8 bytes at low high ≡ Ok b → ReadsByte bytes at low high b
+unfolding field_at
 byte_read bytes at low high b is =
     let s = step (item_at bytes at 1) _ b is in
     let there = stands bytes at 1 s.value s.was in
@@ -138,8 +140,8 @@ pub record ReadsNumber (bytes : List ℕ) (at low high x : ℕ) : Type 0 where
   pub above : low ≤ x
   pub below : x ≤ high
 
-pub number_read : (bytes : List ℕ) (at low high x : ℕ) → Small bytes → number_at bytes at low high ≡ Ok x → ReadsNumber bytes at low high x
-unfolding number_at
+pub number_read : (bytes : List ℕ) (at low high x : ℕ) → Small bytes → field_at w32 bytes at low high ≡ Ok x → ReadsNumber bytes at low high x
+unfolding field_at
 number_read bytes at low high x small is =
     let s = step (item_at bytes at 4) _ x is in
     let there = stands bytes at 4 s.value s.was in
@@ -156,59 +158,68 @@ number_read bytes at low high x small is =
 -- ---- the header
 
 pub record ReadsHeader (bytes : List ℕ) (h : Header) : Type 0 where
-  pub parameter : IsParameter h.algorithm h.b
+  pub parameter : IsParameter version_1 h.algorithm h.b
   pub keys : (1 ≤ h.keys) × (h.keys ≤ MAX_KEYS)
   pub ratio : (1000000 ≤ h.ratio) × (h.ratio ≤ 10000000)
   pub seed : h.seed < 2 ^ 32
-  pub front : bytes ≡ header (number_of h.algorithm) h.b h.keys h.ratio h.seed ++ drop 24 bytes
+  pub front : bytes ≡ header version_1 (number_of h.algorithm) h.b h.keys h.ratio h.seed ++ drop 24 bytes
 
-pub front_is : (bytes : List ℕ) (number b keys ratio seed : ℕ) → Stands bytes 0 8 magic → Stands bytes 8 1 (number ∷ []) → Stands bytes 9 1 (b ∷ []) → Stands bytes 10 1 (0 ∷ []) → Stands bytes 11 1 (0 ∷ [])
-    → Stands bytes 12 4 (to_le_bytes w32 keys) → Stands bytes 16 4 (to_le_bytes w32 ratio) → Stands bytes 20 4 (to_le_bytes w32 seed) → bytes ≡ header number b keys ratio seed ++ drop 24 bytes
+pub front_is : (bytes : List ℕ) (number b keys ratio seed : ℕ) → b < 2 ^ 8 → Stands bytes 0 8 magic → Stands bytes 8 1 (number ∷ []) → Stands bytes 9 1 (b ∷ []) → Stands bytes 10 1 (0 ∷ []) → Stands bytes 11 1 (0 ∷ [])
+    → Stands bytes 12 4 (to_le_bytes w32 keys) → Stands bytes 16 4 (to_le_bytes w32 ratio) → Stands bytes 20 4 (to_le_bytes w32 seed) → bytes ≡ header version_1 number b keys ratio seed ++ drop 24 bytes
 unfolding header
-front_is bytes number b keys ratio seed begun which parameter first second k r s =
+front_is bytes number b keys ratio seed fits begun which parameter first second k r s =
     let last : drop 16 bytes ≡ to_le_bytes w32 ratio ++ (to_le_bytes w32 seed ++ drop 24 bytes) = r.cut ∙ ap (λ (l : List ℕ). to_le_bytes w32 ratio ++ l) s.cut in
     let numbers : drop 12 bytes ≡ to_le_bytes w32 keys ++ (to_le_bytes w32 ratio ++ (to_le_bytes w32 seed ++ drop 24 bytes)) = k.cut ∙ ap (λ (l : List ℕ). to_le_bytes w32 keys ++ l) last in
+    let same : b ≡ b % 256 = omega (arith, fits) in
     let zeros : drop 9 bytes ≡ b ∷ 0 ∷ 0 ∷ drop 12 bytes = parameter.cut ∙ ap (λ (l : List ℕ). b ∷ l) (first.cut ∙ ap (λ (l : List ℕ). 0 ∷ l) second.cut) in
     let all : bytes ≡ magic ++ (number ∷ drop 9 bytes) = begun.cut ∙ ap (λ (l : List ℕ). magic ++ l) which.cut in
-    all ∙ ap (λ (l : List ℕ). magic ++ (number ∷ l)) (zeros ∙ ap (λ (l : List ℕ). b ∷ 0 ∷ 0 ∷ l) numbers)
+    all ∙ ap (λ (l : List ℕ). magic ++ (number ∷ l)) (zeros ∙ ap (λ (l : List ℕ). b ∷ 0 ∷ 0 ∷ l) numbers ∙ ap (λ (x : ℕ). x ∷ 0 ∷ 0 ∷ (to_le_bytes w32 keys ++ (to_le_bytes w32 ratio ++ (to_le_bytes w32 seed ++ drop 24 bytes)))) same)
 
 pub record ReadsKind (bytes : List ℕ) (k : Kind) : Type 0 where
   pub begun : Stands bytes 0 8 magic
   pub number : Stands bytes 8 1 (number_of k.algorithm ∷ [])
-  pub b : ReadsByte bytes 9 (least_b k.algorithm) (most_b k.algorithm) k.b
+  pub b : ReadsByte bytes 9 (least_b k.algorithm) (most_b version_1 k.algorithm) k.b
   pub first : Stands bytes 10 1 (0 ∷ [])
   pub second : Stands bytes 11 1 (0 ∷ [])
 
-pub zero_read : (bytes : List ℕ) (at b : ℕ) → byte_at bytes at 0 0 ≡ Ok b → Stands bytes at 1 (0 ∷ [])
+pub zero_read : (bytes : List ℕ) (at b : ℕ) → field_at w8 bytes at 0 0 ≡ Ok b → Stands bytes at 1 (0 ∷ [])
 zero_read bytes at b is =
     let r = byte_read bytes at 0 0 b is in
     let none : b ≡ 0 = omega (arith, r.below) in
     subst (λ (x : ℕ). Stands bytes at 1 (x ∷ [])) none r.there
 
-pub kind_read : (bytes : List ℕ) (k : Kind) → kind_at bytes ≡ Ok k → ReadsKind bytes k
+pub two_zeros : (bytes : List ℕ) (at : ℕ) (x : Unit {0}) → zeros_at bytes at 2 ≡ Ok x → Stands bytes at 1 (0 ∷ []) × Stands bytes (at + 1) 1 (0 ∷ [])
+unfolding zeros_at
+two_zeros bytes at x is =
+    let first = step (field_at w8 bytes at 0 0) _ x is in
+    let second = step (field_at w8 bytes (at + 1) 0 0) _ x first.next in
+    (zero_read bytes at first.value first.was, zero_read bytes (at + 1) second.value second.was)
+
+pub kind_read : (bytes : List ℕ) (k : Kind) → kind_at version_1 bytes ≡ Ok k → ReadsKind bytes k
 unfolding kind_at
 kind_read bytes k is =
-    let begun = step (magic_at bytes) _ k is in
+    let begun = step (magic_at version_1 bytes) _ k is in
     let a = step (algorithm_at bytes) _ k begun.next in
-    let b = step (byte_at bytes 9 (least_b a.value) (most_b a.value)) _ k a.next in
-    let first = step (byte_at bytes 10 0 0) _ k b.next in
-    let second = step (byte_at bytes 11 0 0) _ k first.next in
+    let before = step (zeros_at bytes 9 0) _ k a.next in
+    let b = step (field_at w8 bytes 9 (least_b a.value) (most_b version_1 a.value)) _ k before.next in
+    let after = step (zeros_at bytes 10 2) _ k b.next in
+    let zeros = two_zeros bytes 10 after.value after.was in
     let made : ReadsKind bytes (record { algorithm = a.value; b = b.value }) = record {
       begun = magic_read bytes begun.value begun.was;
       number = algorithm_read bytes a.value a.was;
-      b = byte_read bytes 9 (least_b a.value) (most_b a.value) b.value b.was;
-      first = zero_read bytes 10 first.value first.was;
-      second = zero_read bytes 11 second.value second.was;
+      b = byte_read bytes 9 (least_b a.value) (most_b version_1 a.value) b.value b.was;
+      first = zeros.0;
+      second = zeros.1;
     } in
-    subst (λ (x : Kind). ReadsKind bytes x) (ok_same second.next) made
+    subst (λ (x : Kind). ReadsKind bytes x) (ok_same after.next) made
 
-pub heading_read : (bytes : List ℕ) (h : Header) → Small bytes → heading_at bytes ≡ Ok h → ReadsHeader bytes h
+pub heading_read : (bytes : List ℕ) (h : Header) → Small bytes → heading_at version_1 bytes ≡ Ok h → ReadsHeader bytes h
 unfolding heading_at
 heading_read bytes h small is =
-    let k = step (kind_at bytes) _ h is in
-    let a = step (number_at bytes 12 1 MAX_KEYS) _ h k.next in
-    let b = step (number_at bytes 16 1000000 10000000) _ h a.next in
-    let c = step (number_at bytes 20 0 4294967295) _ h b.next in
+    let k = step (kind_at version_1 bytes) _ h is in
+    let a = step (field_at w32 bytes 12 1 MAX_KEYS) _ h k.next in
+    let b = step (field_at w32 bytes 16 1000000 10000000) _ h a.next in
+    let c = step (field_at w32 bytes 20 0 4294967295) _ h b.next in
     let kind = kind_read bytes k.value k.was in
     let keys = number_read bytes 12 1 MAX_KEYS a.value small a.was in
     let ratio = number_read bytes 16 1000000 10000000 b.value small b.was in
@@ -218,7 +229,7 @@ heading_read bytes h small is =
       keys = (keys.above, keys.below);
       ratio = (ratio.above, ratio.below);
       seed = omega (arith, seed.below);
-      front = front_is bytes (number_of k.value.algorithm) k.value.b a.value b.value c.value kind.begun kind.number kind.b.there kind.first kind.second keys.there ratio.there seed.there;
+      front = front_is bytes (number_of k.value.algorithm) k.value.b a.value b.value c.value (parameter_fits k.value.algorithm k.value.b kind.b.below) kind.begun kind.number kind.b.there kind.first kind.second keys.there ratio.there seed.there;
     } in
     subst (λ (x : Header). ReadsHeader bytes x) (ok_same c.next) made
 

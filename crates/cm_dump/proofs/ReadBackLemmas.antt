@@ -10,20 +10,20 @@ use Rattle.cm_rank.specs.Ranks.{sampled}
 use Rattle.cm_spec.specs.Bdz.{bdz_size}
 use Rattle.cm_spec.specs.Cells.{is_busy}
 use Rattle.cm_spec.specs.Chm.{Chm, chm_size}
-use Rattle.cm_spec.specs.Dump.{header, chm_dump}
+use Rattle.cm_dump.specs.Dumps.{header, chm_dump, packed_image, ranks_image, bdz_dump, bdz_ph_dump, dump_of}
 use Rattle.cm_spec.specs.Image.{width_of, fields_len, packed_len}
 use Rattle.cm_dump.specs.declared.front.Algorithm.{Algorithm}
 use Rattle.cm_dump.specs.declared.front.Algorithm.TheVariants as algorithm
 use Rattle.cm_dump.specs.declared.front.Header.{Header}
 use Rattle.cm_dump.specs.declared.writer.Func.{Func}
 use Rattle.cm_dump.specs.declared.writer.Func.TheVariants as func
-use Rattle.cm_dump.specs.Dumps.{packed_image, ranks_image, bdz_dump, bdz_ph_dump, dump_of}
 use Rattle.cm_dump.specs.Functions.{IsFunction}
 use Rattle.cm_dump.specs.Headings.{heading_at}
 use Rattle.cm_dump.specs.Reading.{end_at}
-use Rattle.cm_dump.specs.Spelling.{fields_at, packed_at, chm_at, counted, ranks_at, ranked_at, bdz_at, bdz_ph_at, brz_at, body_at, spelling_of}
+use Rattle.cm_dump.specs.Spelling.{fields_at, packed_at, chm_at, counted, ranks_at, ranked_at, bdz_at, bdz_ph_at, brz_at, body_at, spelling_of, spelling_by}
 use Rattle.cm_dump.proofs.StepLemmas.{if_ok, ok_same, step}
 use Rattle.cm_dump.proofs.ReadBackItems.{ReadsFunction, ReadsHeader, Small, end_read, fields_read, heading_read, image_back, last_item, packed_read, ranks_back, small_bytes, small_item}
+use Rattle.cm_dump.specs.Forms.{version_1}
 use Rattle.cm_dump.proofs.ReadBackBuckets.{brz_read}
 
 chm_read : (bytes : List ℕ) (h : Header) (f : Chm) → Small bytes → ReadsHeader bytes h → h.algorithm ≡ algorithm.Chm → chm_at bytes h ≡ Ok f → ReadsFunction bytes (func.Chm f)
@@ -37,9 +37,9 @@ chm_read bytes h f small heading kind is =
     let cells = fields_read h.keys n b.value (small_item bytes 24 len b.value small read.there) read.there.long read.none in
     let rest : drop 24 bytes ≡ b.value = last_item bytes 24 (24 + len) b.value read.there.cut (end_read bytes _ c.value c.was) in
     let none : h.b ≡ 0 = omega (arith, (rw kind at heading.parameter).1) in
-    let front : bytes ≡ header 1 0 h.keys h.ratio h.seed ++ drop 24 bytes = rw (kind, none) at heading.front in
+    let front : bytes ≡ header version_1 1 0 h.keys h.ratio h.seed ++ drop 24 bytes = rw (kind, none) at heading.front in
     let made : ReadsFunction bytes (func.Chm (record { keys = h.keys; ratio = h.ratio; seed = h.seed; cells = field_cells (width_of h.keys) n (bytes_number b.value) })) = record {
-      dump = sym (front ∙ ap (λ (l : List ℕ). header 1 0 h.keys h.ratio h.seed ++ l) (rest ∙ sym cells.image));
+      dump = sym (front ∙ ap (λ (l : List ℕ). header version_1 1 0 h.keys h.ratio h.seed ++ l) (rest ∙ sym cells.image));
       valid = record { keys = heading.keys; ratio = heading.ratio; seed = heading.seed; size = cells.long; below = cells.below };
     } in
     subst (λ (x : Chm). ReadsFunction bytes (func.Chm x)) (ok_same c.next) made
@@ -72,9 +72,9 @@ bdz_read bytes h f small heading kind is =
     let last : drop (24 + packed_len 4 (length cells)) bytes ≡ ranks_image ranks = last_item bytes at (at + 4 * length ranks) (ranks_image ranks) (ranks_back bytes at ranks d.value ranked) (end_read bytes _ e.value ended) in
     let rest : drop 24 bytes ≡ packed_image 4 4 cells ++ ranks_image ranks =
     read.there.cut ∙ ap (λ (l : List ℕ). l ++ drop (24 + packed_len 4 n) bytes) (sym image.image) ∙ ap (λ (l : List ℕ). packed_image 4 4 cells ++ l) (ap (λ (k : ℕ). drop k bytes) place ∙ last) in
-    let front : bytes ≡ header 2 h.b h.keys h.ratio h.seed ++ drop 24 bytes = rw kind at heading.front in
+    let front : bytes ≡ header version_1 2 h.b h.keys h.ratio h.seed ++ drop 24 bytes = rw kind at heading.front in
     let made : ReadsFunction bytes (func.Bdz (record { keys = h.keys; ratio = h.ratio; seed = h.seed; shift = h.b; cells = cells })) = record {
-      dump = sym (front ∙ ap (λ (l : List ℕ). header 2 h.b h.keys h.ratio h.seed ++ l) rest);
+      dump = sym (front ∙ ap (λ (l : List ℕ). header version_1 2 h.b h.keys h.ratio h.seed ++ l) rest);
       valid = record { keys = heading.keys; ratio = heading.ratio; seed = heading.seed; shift = rw kind at heading.parameter; size = image.long; below = image.below; busy = count.busy };
     } in
     subst (λ (x : Bdz). ReadsFunction bytes (func.Bdz x)) (count.is ∙ ok_same e.next) made
@@ -89,14 +89,14 @@ bdz_ph_read bytes h f small heading kind is =
     let image = packed_read 3 5 n b.value (lit< tt) (lit< tt) read.there.long read.none in
     let rest : drop 24 bytes ≡ b.value = last_item bytes 24 (24 + packed_len 5 n) b.value read.there.cut (end_read bytes _ c.value c.was) in
     let none : h.b ≡ 0 = omega (arith, (rw kind at heading.parameter).1) in
-    let front : bytes ≡ header 3 0 h.keys h.ratio h.seed ++ drop 24 bytes = rw (kind, none) at heading.front in
+    let front : bytes ≡ header version_1 3 0 h.keys h.ratio h.seed ++ drop 24 bytes = rw (kind, none) at heading.front in
     let made : ReadsFunction bytes (func.BdzPh (record { keys = h.keys; ratio = h.ratio; seed = h.seed; cells = packed_cells 3 5 n b.value })) = record {
-      dump = sym (front ∙ ap (λ (l : List ℕ). header 3 0 h.keys h.ratio h.seed ++ l) (rest ∙ sym image.image));
+      dump = sym (front ∙ ap (λ (l : List ℕ). header version_1 3 0 h.keys h.ratio h.seed ++ l) (rest ∙ sym image.image));
       valid = record { keys = heading.keys; ratio = heading.ratio; seed = heading.seed; size = image.long; below = image.below };
     } in
     subst (λ (x : BdzPh). ReadsFunction bytes (func.BdzPh x)) (ok_same c.next) made
 
-body_read : (bytes : List ℕ) (h : Header) (f : Func) (a : Algorithm) → Small bytes → ReadsHeader bytes h → h.algorithm ≡ a → body_at bytes h a ≡ Ok f → ReadsFunction bytes f
+body_read : (bytes : List ℕ) (h : Header) (f : Func) (a : Algorithm) → Small bytes → ReadsHeader bytes h → h.algorithm ≡ a → body_at version_1 bytes h a ≡ Ok f → ReadsFunction bytes f
 body_read bytes h f algorithm.Chm small heading kind is =
     let s = step (chm_at bytes h) _ f is in
     subst (λ (x : Func). ReadsFunction bytes x) (ok_same s.next) (chm_read bytes h s.value small heading kind s.was)
@@ -107,14 +107,14 @@ body_read bytes h f algorithm.BdzPh small heading kind is =
     let s = step (bdz_ph_at bytes h) _ f is in
     subst (λ (x : Func). ReadsFunction bytes x) (ok_same s.next) (bdz_ph_read bytes h s.value small heading kind s.was)
 body_read bytes h f algorithm.Brz small heading kind is =
-    let s = step (brz_at bytes h) _ f is in
+    let s = step (brz_at version_1 bytes h) _ f is in
     subst (λ (x : Func). ReadsFunction bytes x) (ok_same s.next) (brz_read bytes h s.value small heading kind s.was)
 
 -- bytes that spell a function are its dump
 pub dump_of-spelled : (bytes : List ℕ) (f : Func) → AllBelow 256 bytes → spelling_of bytes ≡ Ok f → (dump_of f ≡ bytes) × IsFunction f
-unfolding spelling_of
+unfolding spelling_by
 dump_of-spelled bytes f below is =
     let small = small_bytes bytes below in
-    let a = step (heading_at bytes) _ f is in
+    let a = step (heading_at version_1 bytes) _ f is in
     let r = body_read bytes a.value f a.value.algorithm small (heading_read bytes a.value small a.was) refl a.next in
     (r.dump, r.valid)

@@ -1,22 +1,23 @@
 -- The header of a dump, as it is read.
-use Rattle.std.specs.Prelude.{ℕ, ◌≤◌, List, Result, Ok, Err, ◌==◌, nat_eq, slice_index, if◌then◌else◌}
+use Rattle.std.specs.Prelude.{ℕ, ◌+◌, ◌-◌, ◌≤◌, List, Result, Ok, Err, ◌==◌, nat_eq, slice_index, if◌then◌else◌}
 use Rattle.std.specs.Cmp.Lexicographic.{pointwise}
-use Rattle.cm_buckets.specs.declared.limits.TheConstants.{MIN_WIDTH, MAX_WIDTH}
+use Rattle.std.specs.Int.{byte_len, w32}
+use Rattle.cm_buckets.specs.declared.limits.TheConstants.{MIN_WIDTH}
 use Rattle.cm_outer.specs.declared.key_pass.TheConstants.{MAX_KEYS}
-use Rattle.cm_spec.specs.Dump.{magic}
 use Rattle.cm_dump.specs.declared.fault.LoadFault.{LoadFault}
 use Rattle.cm_dump.specs.declared.fault.LoadFault.TheVariants as faults
 use Rattle.cm_dump.specs.declared.front.Algorithm.{Algorithm}
 use Rattle.cm_dump.specs.declared.front.Algorithm.TheVariants as algorithm
 use Rattle.cm_dump.specs.declared.front.Header.{Header}
 use Rattle.cm_dump.specs.declared.front.Kind.{Kind}
-use Rattle.cm_dump.specs.Reading.{◌>>=◌, item_at, byte_at, number_at}
+use Rattle.cm_dump.specs.Forms.{Form}
+use Rattle.cm_dump.specs.Reading.{◌>>=◌, item_at, field_at, zeros_at}
 
--- the first bytes of every dump
-unfoldable pub magic_at : List ℕ → Result (Unit {0}) LoadFault
-magic_at bytes = do
+-- the first bytes of every dump of a version
+unfoldable pub magic_at : Form → List ℕ → Result (Unit {0}) LoadFault
+magic_at v bytes = do
   item ← item_at bytes 0 8
-  if pointwise nat_eq item magic then Ok tt else Err faults.BadMagic
+  if pointwise nat_eq item v.magic then Ok tt else Err faults.BadMagic
 
 -- the algorithm of a number: 1 is CHM's, 2 BDZ's, 3 BDZ_PH's and 4 BRZ's
 abbrev pub algorithm_of : ℕ → Result Algorithm LoadFault
@@ -37,31 +38,31 @@ least_b algorithm.Bdz = 3
 least_b algorithm.BdzPh = 0
 least_b algorithm.Brz = MIN_WIDTH
 
-abbrev pub most_b : Algorithm → ℕ
-most_b algorithm.Chm = 0
-most_b algorithm.Bdz = 10
-most_b algorithm.BdzPh = 0
-most_b algorithm.Brz = MAX_WIDTH
+abbrev pub most_b : Form → Algorithm → ℕ
+most_b v algorithm.Chm = 0
+most_b v algorithm.Bdz = 10
+most_b v algorithm.BdzPh = 0
+most_b v algorithm.Brz = v.most_width
 
 -- the parameter is in the range of its algorithm
-abbrev pub IsParameter : Algorithm → ℕ → Type 0
-IsParameter a b = (least_b a ≤ b) × (b ≤ most_b a)
+abbrev pub IsParameter : Form → Algorithm → ℕ → Type 0
+IsParameter v a b = (least_b a ≤ b) × (b ≤ most_b v a)
 
--- the magic, the algorithm's number, its parameter b and two zeros
-unfoldable pub kind_at : List ℕ → Result Kind LoadFault
-kind_at bytes = do
-  begun ← magic_at bytes
+-- the magic, the algorithm's number, and its parameter b between zeros
+unfoldable pub kind_at : Form → List ℕ → Result Kind LoadFault
+kind_at v bytes = do
+  begun ← magic_at v bytes
   a ← algorithm_at bytes
-  b ← byte_at bytes 9 (least_b a) (most_b a)
-  first ← byte_at bytes 10 0 0
-  second ← byte_at bytes 11 0 0
+  before ← zeros_at bytes 9 (v.b_at - 9)
+  b ← field_at v.b bytes v.b_at (least_b a) (most_b v a)
+  after ← zeros_at bytes (v.b_at + byte_len v.b) (12 - (v.b_at + byte_len v.b))
   Ok (record { algorithm = a; b = b })
 
 -- the kind, the number of keys, the ratio in millionths and the seed
-unfoldable pub heading_at : List ℕ → Result Header LoadFault
-heading_at bytes = do
-  kind ← kind_at bytes
-  keys ← number_at bytes 12 1 MAX_KEYS
-  ratio ← number_at bytes 16 1000000 10000000
-  seed ← number_at bytes 20 0 4294967295
+unfoldable pub heading_at : Form → List ℕ → Result Header LoadFault
+heading_at v bytes = do
+  kind ← kind_at v bytes
+  keys ← field_at w32 bytes 12 1 MAX_KEYS
+  ratio ← field_at w32 bytes 16 1000000 10000000
+  seed ← field_at w32 bytes 20 0 4294967295
   Ok (record { algorithm = kind.algorithm; b = kind.b; keys = keys; ratio = ratio; seed = seed })

@@ -1,3 +1,4 @@
+pub mod Forms
 pub mod Dumps
 pub mod Functions
 pub mod Reading

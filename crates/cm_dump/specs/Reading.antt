@@ -1,7 +1,7 @@
 -- The items of a file, each at its offset, and the first fault.
-use Rattle.std.specs.Prelude.{◌≡◌, ◌+◌, ◌<◌, ◌≤◌, ℕ, List, length, take, drop, Option, Result, Ok, Err, nat_lt, nat_le, slice_index, ◌&&◌, if◌then◌else◌}
+use Rattle.std.specs.Prelude.{◌≡◌, ◌+◌, ◌<◌, ◌≤◌, ℕ, zero, suc, List, length, take, drop, Option, Result, Ok, Err, nat_lt, nat_le, ◌&&◌, if◌then◌else◌}
 use Rattle.std.specs.Option.{ForSome}
-use Rattle.std.specs.Int.{w32, from_le_bytes}
+use Rattle.std.specs.Int.{Width, byte_len, from_le_bytes, w8}
 use Rattle.cm_outer.specs.Causes.{Rose}
 use Rattle.cm_dump.specs.declared.fault.LoadFault.{LoadFault}
 use Rattle.cm_dump.specs.declared.fault.LoadFault.TheVariants as faults
@@ -16,19 +16,19 @@ abbrev pub ◌>>=◌ : {A B : Type 0} → Result A LoadFault → (A → Result B
 unfoldable pub item_at : List ℕ → ℕ → ℕ → Result (List ℕ) LoadFault
 item_at bytes at n = if nat_lt (length bytes) (at + n) then Err (faults.Truncated (length bytes)) else Ok (take n (drop at bytes))
 
--- the byte at an offset, from low to high
-unfoldable pub byte_at : List ℕ → ℕ → ℕ → ℕ → Result ℕ LoadFault
-byte_at bytes at low high = do
-  item ← item_at bytes at 1
-  let b = slice_index item 0
-  if nat_le low b && nat_le b high then Ok b else Err (faults.BadField at)
-
--- the number of four bytes at an offset, from low to high
-unfoldable pub number_at : List ℕ → ℕ → ℕ → ℕ → Result ℕ LoadFault
-number_at bytes at low high = do
-  item ← item_at bytes at 4
-  let x = from_le_bytes w32 item
+-- the number of a width at an offset, from low to high
+unfoldable pub field_at : Width → List ℕ → ℕ → ℕ → ℕ → Result ℕ LoadFault
+field_at w bytes at low high = do
+  item ← item_at bytes at (byte_len w)
+  let x = from_le_bytes w item
   if nat_le low x && nat_le x high then Ok x else Err (faults.BadField at)
+
+-- so many bytes from an offset on are zero
+unfoldable pub zeros_at : List ℕ → ℕ → ℕ → Result (Unit {0}) LoadFault
+zeros_at bytes at zero = Ok tt
+zeros_at bytes at (suc n) = do
+  first ← field_at w8 bytes at 0 0
+  zeros_at bytes (at + 1) n
 
 -- nothing follows an offset
 unfoldable pub end_at : List ℕ → ℕ → Result (Unit {0}) LoadFault

@@ -1,7 +1,7 @@
 -- The function that bytes spell, or their first fault.
-use Rattle.std.specs.Prelude.{zero, suc, nat_lt, slice_index, ◌&&◌, ◌||◌, ◌-◌, ◌+◌, ◌*◌, ◌/◌, ℕ, Bool, List, [], ◌∷◌, length, nat_eq, ◌==◌, if◌then◌else◌, count_by, Option, Some, None, Result, Ok, Err}
+use Rattle.std.specs.Prelude.{zero, suc, nat_lt, ◌&&◌, ◌||◌, ◌-◌, ◌+◌, ◌*◌, ◌/◌, ℕ, Bool, List, [], ◌∷◌, length, nat_eq, ◌==◌, if◌then◌else◌, count_by, Option, Some, None, Result, Ok, Err}
 use Rattle.std.specs.Cmp.Lexicographic.{pointwise}
-use Rattle.std.specs.Int.{to_le_bytes, w32}
+use Rattle.std.specs.Int.{byte_len, to_le_bytes, w32}
 use Rattle.cm_bdz.specs.Functions.{Bdz, BdzPh}
 use Rattle.cm_bits.specs.declared.fault.ImageFault.{ImageFault}
 use Rattle.cm_bits.specs.declared.fault.ImageFault.TheVariants as image
@@ -21,8 +21,9 @@ use Rattle.cm_dump.specs.declared.front.Algorithm.TheVariants as algorithm
 use Rattle.cm_dump.specs.declared.front.Header.{Header}
 use Rattle.cm_dump.specs.declared.writer.Func.{Func}
 use Rattle.cm_dump.specs.declared.writer.Func.TheVariants as func
-use Rattle.cm_dump.specs.Reading.{◌>>=◌, item_at, number_at, end_at}
+use Rattle.cm_dump.specs.Forms.{Form, version_1}
 use Rattle.cm_dump.specs.Headings.{heading_at}
+use Rattle.cm_dump.specs.Reading.{◌>>=◌, field_at, item_at, end_at}
 
 -- the fault of an image that begins at an offset: a bad cell is named by the byte of its lowest bit or digit
 abbrev pub fault_at : ℕ → (ℕ → ℕ) → ImageFault → LoadFault
@@ -94,10 +95,9 @@ abbrev pub is_off : ℕ → ℕ → ℕ → Bool
 is_off keys held left = nat_lt keys held || (left == 0 && nat_lt held keys)
 
 -- the number of keys of a function's next bucket, after which `left` are to come
-unfoldable pub size_at : List ℕ → ℕ → Brz → ℕ → Result ℕ LoadFault
-size_at bytes at f left = do
-  item ← item_at bytes at 1
-  let size = slice_index item 0
+unfoldable pub size_at : Form → List ℕ → ℕ → Brz → ℕ → Result ℕ LoadFault
+size_at v bytes at f left = do
+  size ← field_at v.size bytes at 0 v.most_size
   if is_off f.keys (keys_in f.buckets + size) left then Err (faults.BadCount at) else Ok size
 
 -- the greatest seed of a bucket of so many keys: an empty one has the seed 0
@@ -111,25 +111,25 @@ crumbs_at bytes at size n = do
   if count_by (is_busy 3) (packed_cells 4 4 n image) == size then Ok (packed_cells 4 4 n image) else Err (faults.BadCount at)
 
 -- a function's next bucket, after which `left` are to come
-unfoldable pub bucket_at : List ℕ → ℕ → Brz → ℕ → Result Bucket LoadFault
-bucket_at bytes at f left = do
-  size ← size_at bytes at f left
-  seed ← number_at bytes (at + 1) 0 (most_seed size)
-  cells ← crumbs_at bytes (at + 5) size (bucket_cells size f.ratio)
+unfoldable pub bucket_at : Form → List ℕ → ℕ → Brz → ℕ → Result Bucket LoadFault
+bucket_at v bytes at f left = do
+  size ← size_at v bytes at f left
+  seed ← field_at w32 bytes (at + byte_len v.size) 0 (most_seed size)
+  cells ← crumbs_at bytes (at + (byte_len v.size + 4)) size (bucket_cells size f.ratio)
   Ok (record { size = size; seed = seed; cells = cells })
 
 -- how many bytes a bucket has
-abbrev pub bucket_len : Bucket → ℕ
-bucket_len bucket = 5 + packed_len 4 (length bucket.cells)
+abbrev pub bucket_len : Form → Bucket → ℕ
+bucket_len v bucket = byte_len v.size + 4 + packed_len 4 (length bucket.cells)
 
 -- a function with so many buckets more, which are the last that the bytes have
-unfoldable pub rest_at : List ℕ → ℕ → ℕ → Brz → Result Brz LoadFault
-rest_at bytes at zero f = do
+unfoldable pub rest_at : Form → List ℕ → ℕ → ℕ → Brz → Result Brz LoadFault
+rest_at v bytes at zero f = do
   ended ← end_at bytes at
   Ok f
-rest_at bytes at (suc left) f = do
-  bucket ← bucket_at bytes at f left
-  rest_at bytes (at + bucket_len bucket) left (with_bucket f bucket)
+rest_at v bytes at (suc left) f = do
+  bucket ← bucket_at v bytes at f left
+  rest_at v bytes (at + bucket_len v bucket) left (with_bucket f bucket)
 
 -- how many buckets of a function are to come
 abbrev pub left_of : Brz → ℕ
@@ -140,26 +140,30 @@ abbrev pub no_buckets : Header → Brz
 no_buckets h = record { keys = h.keys; ratio = h.ratio; width = h.b; split = h.seed; buckets = [] }
 
 -- the BRZ function of a header and the buckets after it
-unfoldable pub brz_at : List ℕ → Header → Result Brz LoadFault
-brz_at bytes h = rest_at bytes 24 (bucket_count h.keys h.b) (no_buckets h)
+unfoldable pub brz_at : Form → List ℕ → Header → Result Brz LoadFault
+brz_at v bytes h = rest_at v bytes 24 (bucket_count h.keys h.b) (no_buckets h)
 
 -- the function of a header and what is after it
-abbrev pub body_at : List ℕ → Header → Algorithm → Result Func LoadFault
-body_at bytes h algorithm.Chm = do
+abbrev pub body_at : Form → List ℕ → Header → Algorithm → Result Func LoadFault
+body_at v bytes h algorithm.Chm = do
   f ← chm_at bytes h
   Ok (func.Chm f)
-body_at bytes h algorithm.Bdz = do
+body_at v bytes h algorithm.Bdz = do
   f ← bdz_at bytes h
   Ok (func.Bdz f)
-body_at bytes h algorithm.BdzPh = do
+body_at v bytes h algorithm.BdzPh = do
   f ← bdz_ph_at bytes h
   Ok (func.BdzPh f)
-body_at bytes h algorithm.Brz = do
-  f ← brz_at bytes h
+body_at v bytes h algorithm.Brz = do
+  f ← brz_at v bytes h
   Ok (func.Brz f)
 
 -- the function whose dump the bytes are, or the first fault of the bytes
-unfoldable pub spelling_of : List ℕ → Result Func LoadFault
-spelling_of bytes = do
-  h ← heading_at bytes
-  body_at bytes h h.algorithm
+unfoldable pub spelling_by : Form → List ℕ → Result Func LoadFault
+spelling_by v bytes = do
+  h ← heading_at v bytes
+  body_at v bytes h h.algorithm
+
+-- the same of the dumps that are read
+abbrev pub spelling_of : List ℕ → Result Func LoadFault
+spelling_of bytes = spelling_by version_1 bytes

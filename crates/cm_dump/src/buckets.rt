@@ -4,6 +4,7 @@ ghost use Rattle.cm_buckets.specs.Functions.{no_bucket};
 ghost use Rattle.cm_outer.specs.Causes.{HasCause};
 ghost use Rattle.cm_outer.specs.Writing.{Writes};
 ghost use Rattle.cm_dump.specs.Dumps.{bucket_image, buckets_image};
+ghost use Rattle.cm_dump.specs.Forms.{version_1};
 
 use cm_bits::{Cells, Crumbs};
 use cm_buckets::Brz;
@@ -16,13 +17,13 @@ pub(crate) const FRONT: u64 = 5;
 #[tactic(auto, unfolding(crate::specs::Dumps::bucket_image, crate::specs::Dumps::packed_image))]
 fn save_bucket<O: Sink>(brz: &Brz, j: u32, out: &mut O) -> Result<(), Failed>
     requires inside { j < length brz.now.buckets }
-    ensures bytes { Writes (O.written out.old) (O.written out.new) (bucket_image (slice_index_or brz.now.buckets j no_bucket)) result }
+    ensures bytes { Writes (O.written out.old) (O.written out.new) (bucket_image version_1 (slice_index_or brz.now.buckets j no_bucket)) result }
     ensures cause { HasCause (O.faults out.old) (O.faults out.new) result }
 {
     write_pieces(
         out,
         &[
-            &[brz.size_of(j)],
+            &brz.size_of(j).to_le_bytes(),
             &brz.seed_of(j).to_le_bytes(),
             brz.cells_of(j).image(),
         ],
@@ -32,7 +33,7 @@ fn save_bucket<O: Sink>(brz: &Brz, j: u32, out: &mut O) -> Result<(), Failed>
 /// Writes the buckets. Fails exactly where the sink does, which has then taken a prefix of them.
 #[tactic(auto, unfolding(crate::specs::Dumps::buckets_image))]
 pub(crate) fn save_buckets<O: Sink>(brz: &Brz, out: &mut O) -> Result<(), Failed>
-    ensures bytes { Writes (O.written out.old) (O.written out.new) (buckets_image brz.now.buckets) result }
+    ensures bytes { Writes (O.written out.old) (O.written out.new) (buckets_image version_1 brz.now.buckets) result }
     ensures cause { HasCause (O.faults out.old) (O.faults out.new) result }
 {
     for j in 0..brz.buckets() {
@@ -44,7 +45,7 @@ pub(crate) fn save_buckets<O: Sink>(brz: &Brz, out: &mut O) -> Result<(), Failed
 /// How many bytes the buckets have.
 #[tactic(auto, unfolding(crate::specs::Dumps::buckets_image))]
 pub(crate) fn buckets_len(brz: &Brz) -> u64
-    ensures len { result ≡ length (buckets_image brz.now.buckets) }
+    ensures len { result ≡ length (buckets_image version_1 brz.now.buckets) }
     ensures few { result < 2 ^ 61 }
 {
     let mut len = 0;

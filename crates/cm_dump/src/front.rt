@@ -3,6 +3,7 @@ ghost use Rattle.std.specs.Prelude.{◌≡◌, ◌≢◌, ◌+◌, ◌<◌, ◌�
 ghost use Rattle.std.specs.Option.{ForSome};
 ghost use Rattle.cm_outer.specs.declared.key_pass.TheConstants.{MAX_KEYS};
 ghost use Rattle.cm_spec.specs.Rule.{IsRatio};
+ghost use Rattle.cm_dump.specs.Forms.{version_1};
 ghost use Rattle.cm_dump.specs.Reading.{Answers, IsAt, HasLoadCause};
 ghost use Rattle.cm_dump.specs.Headings.{IsParameter, algorithm_at, heading_at, kind_at, least_b, magic_at, most_b};
 ghost use Rattle.cm_dump.specs.declared.fault.LoadFault.{LoadFault};
@@ -11,6 +12,9 @@ use crate::LoadFault;
 use crate::items::{byte, item, number};
 use cm_buckets::{MAX_WIDTH, MIN_WIDTH};
 use cm_outer::{MAX_KEYS, Source};
+
+/// What every dump begins with.
+pub(crate) const MAGIC: [u8; 8] = *b"CMPHDMP1";
 
 /// The least ratio of vertices to keys, in millionths.
 const MIN_RATIO: u32 = 1_000_000;
@@ -57,13 +61,13 @@ fn magic<S: Source>(source: &mut S) -> Result<(), LoadFault>
     requires at { IsAt (S.told source.old) (S.place source.old) 0 }
     ensures told { S.told source.new ≡ S.told source.old }
     ensures at { OnOk result (IsAt (S.told source.new) (S.place source.new) 8) }
-    ensures exact { ForSome (S.told source.old) (λ bytes. Answers (λ x. x) result (magic_at bytes)) }
+    ensures exact { ForSome (S.told source.old) (λ bytes. Answers (λ x. x) result (magic_at version_1 bytes)) }
     ensures cause { HasLoadCause (S.faults source.old) (S.faults source.new) result }
     ensures memory { result ≢ Err LoadFault.Memory }
 {
     let mut buf = [0; 8];
     item(source, 0, &mut buf)?;
-    if buf == *b"CMPHDMP1" {
+    if buf == MAGIC {
         Ok(())
     } else {
         Err(LoadFault::BadMagic)
@@ -94,7 +98,7 @@ fn read_algorithm<S: Source>(source: &mut S) -> Result<Algorithm, LoadFault>
 /// The least and the greatest parameter of an algorithm.
 fn parameters(algorithm: Algorithm) -> (u8, u8)
     ensures least { result.0 ≡ least_b algorithm }
-    ensures most { result.1 ≡ most_b algorithm }
+    ensures most { result.1 ≡ most_b version_1 algorithm }
 {
     match algorithm {
         Algorithm::Chm | Algorithm::BdzPh => (0, 0),
@@ -104,13 +108,13 @@ fn parameters(algorithm: Algorithm) -> (u8, u8)
 }
 
 /// The magic, the algorithm's number, its parameter `b` and two zeros.
-#[tactic(auto, unfolding(crate::specs::Headings::kind_at))]
+#[tactic(auto, unfolding(crate::specs::Headings::kind_at, crate::specs::Reading::zeros_at))]
 fn read_kind<S: Source>(source: &mut S) -> Result<Kind, LoadFault>
     requires at { IsAt (S.told source.old) (S.place source.old) 0 }
     ensures told { S.told source.new ≡ S.told source.old }
     ensures at { OnOk result (IsAt (S.told source.new) (S.place source.new) 12) }
-    ensures parameter { IfOk result (λ k. IsParameter k.algorithm k.b) }
-    ensures exact { ForSome (S.told source.old) (λ bytes. Answers (λ k. k) result (kind_at bytes)) }
+    ensures parameter { IfOk result (λ k. IsParameter version_1 k.algorithm k.b) }
+    ensures exact { ForSome (S.told source.old) (λ bytes. Answers (λ k. k) result (kind_at version_1 bytes)) }
     ensures cause { HasLoadCause (S.faults source.old) (S.faults source.new) result }
     ensures memory { result ≢ Err LoadFault.Memory }
 {
@@ -129,10 +133,10 @@ pub(crate) fn read_header<S: Source>(source: &mut S) -> Result<Header, LoadFault
     requires at { IsAt (S.told source.old) (S.place source.old) 0 }
     ensures told { S.told source.new ≡ S.told source.old }
     ensures at { OnOk result (IsAt (S.told source.new) (S.place source.new) 24) }
-    ensures parameter { IfOk result (λ h. IsParameter h.algorithm h.b) }
+    ensures parameter { IfOk result (λ h. IsParameter version_1 h.algorithm h.b) }
     ensures keys { IfOk result (λ h. (1 ≤ h.keys) × (h.keys ≤ MAX_KEYS)) }
     ensures ratio { IfOk result (λ h. IsRatio h.ratio) }
-    ensures exact { ForSome (S.told source.old) (λ bytes. Answers (λ h. h) result (heading_at bytes)) }
+    ensures exact { ForSome (S.told source.old) (λ bytes. Answers (λ h. h) result (heading_at version_1 bytes)) }
     ensures cause { HasLoadCause (S.faults source.old) (S.faults source.new) result }
     ensures memory { result ≢ Err LoadFault.Memory }
 {

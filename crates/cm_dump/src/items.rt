@@ -1,9 +1,10 @@
 //! The items of a file, each read at its offset and checked. A source that stands there gives the item, or the first fault of
 //! what it tells.
 ghost use Rattle.std.specs.Prelude.{◌≡◌, ◌≢◌, ◌+◌, ◌<◌, ◌≤◌, ◌^◌, ℕ, List, Option, Err, OnOk, IfOk, length};
+ghost use Rattle.std.specs.Int.{w8, w32};
 ghost use Rattle.std.specs.Option.{ForSome};
 ghost use Rattle.cm_outer.specs.Causes.{HasCause};
-ghost use Rattle.cm_dump.specs.Reading.{Answers, Fills, IsAt, HasLoadCause, item_at, byte_at, number_at, end_at};
+ghost use Rattle.cm_dump.specs.Reading.{Answers, Fills, IsAt, HasLoadCause, item_at, field_at, end_at};
 ghost use Rattle.cm_dump.specs.declared.fault.LoadFault.{LoadFault};
 
 use crate::LoadFault;
@@ -55,14 +56,14 @@ pub(crate) fn item<S: Source>(source: &mut S, at: u64, buf: &mut [u8]) -> Result
 }
 
 /// The byte at this offset, which is to be from `low` to `high`.
-#[tactic(auto, unfolding(crate::specs::Reading::byte_at))]
+#[tactic(auto, unfolding(crate::specs::Reading::field_at))]
 pub(crate) fn byte<S: Source>(source: &mut S, at: u64, low: u8, high: u8) -> Result<u8, LoadFault>
     requires room { at + 1 < 2 ^ 63 }
     requires at { IsAt (S.told source.old) (S.place source.old) at }
     ensures told { S.told source.new ≡ S.told source.old }
     ensures at { OnOk result (IsAt (S.told source.new) (S.place source.new) (at + 1)) }
     ensures range { IfOk result (λ b. (low ≤ b) × (b ≤ high)) }
-    ensures exact { ForSome (S.told source.old) (λ bytes. Answers (λ b. b) result (byte_at bytes at low high)) }
+    ensures exact { ForSome (S.told source.old) (λ bytes. Answers (λ b. b) result (field_at w8 bytes at low high)) }
     ensures cause { HasLoadCause (S.faults source.old) (S.faults source.new) result }
     ensures memory { result ≢ Err LoadFault.Memory }
 {
@@ -77,7 +78,7 @@ pub(crate) fn byte<S: Source>(source: &mut S, at: u64, low: u8, high: u8) -> Res
 }
 
 /// The number of four bytes at this offset, which is to be from `low` to `high`.
-#[tactic(auto, unfolding(crate::specs::Reading::number_at))]
+#[tactic(auto, unfolding(crate::specs::Reading::field_at))]
 pub(crate) fn number<S: Source>(
     source: &mut S,
     at: u64,
@@ -89,7 +90,7 @@ pub(crate) fn number<S: Source>(
     ensures told { S.told source.new ≡ S.told source.old }
     ensures at { OnOk result (IsAt (S.told source.new) (S.place source.new) (at + 4)) }
     ensures range { IfOk result (λ x. (low ≤ x) × (x ≤ high)) }
-    ensures exact { ForSome (S.told source.old) (λ bytes. Answers (λ x. x) result (number_at bytes at low high)) }
+    ensures exact { ForSome (S.told source.old) (λ bytes. Answers (λ x. x) result (field_at w32 bytes at low high)) }
     ensures cause { HasLoadCause (S.faults source.old) (S.faults source.new) result }
     ensures memory { result ≢ Err LoadFault.Memory }
 {

@@ -1,6 +1,7 @@
 //! The items of a part of a file that is in memory. Each is read at the start of what is left, whose offset is known.
 ghost use Rattle.std.specs.Prelude.{◌≡◌, ◌≢◌, ◌+◌, ◌<◌, ◌≤◌, ◌^◌, ℕ, List, Err, OnOk, IfOk, length};
-ghost use Rattle.cm_dump.specs.Reading.{Answers, HasLoadCause, IsPart, item_at, number_at};
+ghost use Rattle.std.specs.Int.{w8, w32};
+ghost use Rattle.cm_dump.specs.Reading.{Answers, HasLoadCause, IsPart, item_at, field_at};
 ghost use Rattle.cm_dump.specs.declared.fault.LoadFault.{LoadFault};
 
 use crate::LoadFault;
@@ -33,13 +34,36 @@ pub(crate) fn item_of(part: &[u8], at: u64, buf: &mut [u8]) -> Result<(), LoadFa
     Ok(())
 }
 
+/// The first byte of a part that begins at this offset, which is to be from `low` to `high`.
+#[tactic(auto, unfolding(crate::specs::Reading::field_at))]
+pub(crate) fn byte_of(part: &[u8], at: u64, low: u8, high: u8) -> Result<u8, LoadFault>
+    requires room { at + length part.now < 2 ^ 63 }
+    ensures inside { OnOk result (1 ≤ length part.now) }
+    ensures range { IfOk result (λ b. (low ≤ b) × (b ≤ high)) }
+    ensures exact { (bytes : List ℕ) (room : ℕ) → 1 ≤ room → IsPart bytes at room part.now → Answers (λ b. b) result (field_at w8 bytes at low high) }
+    ensures cause { (n : ℕ) → HasLoadCause n n result }
+    ensures memory { result ≢ Err LoadFault.Memory }
+{
+    let mut buf = [0; 1];
+    match item_of(part, at, &mut buf) {
+        Ok(()) => {}
+        Err(fault) => return Err(fault),
+    }
+    let b = buf[0];
+    if low <= b && b <= high {
+        Ok(b)
+    } else {
+        Err(LoadFault::BadField { at })
+    }
+}
+
 /// The number in the first four bytes of a part that begins at this offset, which is to be from `low` to `high`.
-#[tactic(auto, unfolding(crate::specs::Reading::number_at))]
+#[tactic(auto, unfolding(crate::specs::Reading::field_at))]
 pub(crate) fn number_of(part: &[u8], at: u64, low: u32, high: u32) -> Result<u32, LoadFault>
     requires room { at + length part.now < 2 ^ 63 }
     ensures inside { OnOk result (4 ≤ length part.now) }
     ensures range { IfOk result (λ x. (low ≤ x) × (x ≤ high)) }
-    ensures exact { (bytes : List ℕ) (room : ℕ) → 4 ≤ room → IsPart bytes at room part.now → Answers (λ x. x) result (number_at bytes at low high) }
+    ensures exact { (bytes : List ℕ) (room : ℕ) → 4 ≤ room → IsPart bytes at room part.now → Answers (λ x. x) result (field_at w32 bytes at low high) }
     ensures cause { (n : ℕ) → HasLoadCause n n result }
     ensures memory { result ≢ Err LoadFault.Memory }
 {

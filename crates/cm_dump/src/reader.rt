@@ -8,6 +8,7 @@ ghost use Rattle.cm_spec.specs.Cells.{is_busy};
 ghost use Rattle.cm_spec.specs.Image.{packed_len};
 ghost use Rattle.cm_spec.specs.Lists.{list_of};
 ghost use Rattle.cm_spec.specs.Rule.{IsRatio};
+ghost use Rattle.cm_dump.specs.Forms.{version_1};
 ghost use Rattle.cm_dump.specs.Headings.{heading_at};
 ghost use Rattle.cm_dump.specs.Functions.{IsBdz, IsBdzPh, IsChm, IsFunction};
 ghost use Rattle.cm_dump.specs.Places.{AreNear, IsPlace};
@@ -240,14 +241,14 @@ fn load_bdz_ph<S: Source>(alloc: Global, source: &mut S, header: Header) -> Resu
 /// Loads a function from a source at its start: the one whose dump all the bytes are. `Read` is answered exactly where the
 /// source fails, `Memory` only where memory runs out after a header without a fault, and any other refusal is the first fault of
 /// the bytes. Memory is taken as the bytes come, whatever the header claims.
-#[tactic(auto, unfolding(crate::specs::Spelling::spelling_of))]
+#[tactic(auto, unfolding(crate::specs::Spelling::spelling_by))]
 pub fn load<S: Source>(alloc: Global, source: &mut S) -> Result<Func, LoadFault>
     requires start { ForSome (S.told source.old) (λ _. S.place source.old ≡ 0) }
     ensures told { S.told source.new ≡ S.told source.old }
     ensures spelling { ForSome (S.told source.old) (λ bytes. Answers (λ f. f) result (spelling_of bytes)) }
     ensures valid { IfOk result (λ f. IsFunction f) }
     ensures cause { HasLoadCause (S.faults source.old) (S.faults source.new) result }
-    ensures memory { result ≡ Err LoadFault.Memory → ForSome (S.told source.old) (λ bytes. IsOk (heading_at bytes)) }
+    ensures memory { result ≡ Err LoadFault.Memory → ForSome (S.told source.old) (λ bytes. IsOk (heading_at version_1 bytes)) }
 {
     let header = read_header(source)?;
     match header.algorithm {

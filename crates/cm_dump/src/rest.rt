@@ -2,19 +2,20 @@
 ghost use Rattle.std.specs.Prelude.{◌≡◌, ◌+◌, ◌*◌, ◌<◌, ◌≤◌, ◌^◌, ◌↔◌, ℕ, List, Option, OnOk, IfOk, IfErr, IsTrue, false, count_by, length};
 ghost use Rattle.std.specs.Option.{ForSome};
 ghost use Rattle.cm_buckets.specs.Functions.{IsBrz, bucket_cells, bucket_count, keys_in};
-ghost use Rattle.cm_buckets.specs.declared.limits.TheConstants.{MIN_WIDTH, MAX_WIDTH};
+ghost use Rattle.cm_buckets.specs.declared.limits.TheConstants.{MAX_BUCKET, MIN_WIDTH, MAX_WIDTH};
 ghost use Rattle.cm_outer.specs.declared.key_pass.TheConstants.{MAX_KEYS};
 ghost use Rattle.cm_spec.specs.Bdz.{bdz_size};
 ghost use Rattle.cm_spec.specs.Cells.{is_busy};
 ghost use Rattle.cm_spec.specs.Image.{packed_len};
 ghost use Rattle.cm_spec.specs.Rule.{IsRatio};
+ghost use Rattle.cm_dump.specs.Forms.{version_1};
 ghost use Rattle.cm_dump.specs.Reading.{Answers, Fails, IsAt, IsPart, HasLoadCause};
 ghost use Rattle.cm_dump.specs.Spelling.{bucket_at, bucket_len, brz_at, crumbs_at, is_off, left_of, most_seed, rest_at, size_at};
 
 use crate::LoadFault;
 use crate::buckets::FRONT;
 use crate::front::Header;
-use crate::part::{bytes_of, item_of, number_of};
+use crate::part::{byte_of, bytes_of, number_of};
 use crate::piece::{ENOUGH, Piece};
 use crate::reader::cells_from;
 use cm_bdz::{BdzScheme, PartsFault};
@@ -45,17 +46,15 @@ fn is_off(keys: u32, held: u32, left: u32) -> bool
 fn read_size(part: &[u8], at: u64, parts: &BrzParts, left: u32) -> Result<u8, LoadFault>
     requires room { at + length part.now < 2 ^ 62 }
     ensures inside { OnOk result (1 ≤ length part.now) }
-    ensures few { IfOk result (λ size. size ≤ 255) }
+    ensures few { IfOk result (λ size. size ≤ MAX_BUCKET) }
     ensures fits { IfOk result (λ size. is_off parts.now.keys (keys_in parts.now.buckets + size) left ≡ false) }
-    ensures exact { (bytes : List ℕ) (room : ℕ) → 1 ≤ room → IsPart bytes at room part.now → Answers (λ x. x) result (size_at bytes at parts.now left) }
+    ensures exact { (bytes : List ℕ) (room : ℕ) → 1 ≤ room → IsPart bytes at room part.now → Answers (λ x. x) result (size_at version_1 bytes at parts.now left) }
     ensures cause { (n : ℕ) → HasLoadCause n n result }
 {
-    let mut buf = [0; 1];
-    match item_of(part, at, &mut buf) {
-        Ok(()) => {}
+    let size = match byte_of(part, at, 0, u8::MAX) {
+        Ok(size) => size,
         Err(fault) => return Err(fault),
-    }
-    let size = buf[0];
+    };
     if is_off(parts.keys(), parts.held() + size as u32, left) {
         Err(LoadFault::BadCount { at })
     } else {
@@ -123,7 +122,7 @@ fn read_bucket(
     ensures unseeded { IfOk result (λ b. b.size ≡ 0 → b.seed ≡ 0) }
     ensures busy { IfOk result (λ b. count_by (is_busy 3) (⟦<Crumbs as Cells>⟧.cells b.cells) ≡ b.size) }
     ensures fits { IfOk result (λ b. is_off parts.now.keys (keys_in parts.now.buckets + b.size) left ≡ false) }
-    ensures exact { (bytes : List ℕ) → IsPart bytes at ENOUGH part.now → Answers (λ b. record { size = b.size; seed = b.seed; cells = ⟦<Crumbs as Cells>⟧.cells b.cells }) result (bucket_at bytes at parts.now left) }
+    ensures exact { (bytes : List ℕ) → IsPart bytes at ENOUGH part.now → Answers (λ b. record { size = b.size; seed = b.seed; cells = ⟦<Crumbs as Cells>⟧.cells b.cells }) result (bucket_at version_1 bytes at parts.now left) }
     ensures cause { (n : ℕ) → HasLoadCause n n result }
 {
     let size = match read_size(part, at, parts, left) {
@@ -149,8 +148,8 @@ fn next_bucket(alloc: Global, part: &[u8], at: u64, parts: &mut BrzParts) -> Res
     ensures near { IfOk result (λ len. len ≤ 268435456) }
     ensures one { OnOk result (length parts.new.buckets ≡ length parts.old.buckets + 1) }
     ensures same { OnOk result (parts.new ≡ record parts.old { buckets = parts.new.buckets }) }
-    ensures right { IfOk result (λ len. (bytes : List ℕ) → IsPart bytes at ENOUGH part.now → rest_at bytes at (left_of parts.old) parts.old ≡ rest_at bytes (at + len) (left_of parts.new) parts.new) }
-    ensures fault { IfErr result (λ e. (bytes : List ℕ) → IsPart bytes at ENOUGH part.now → Fails e (rest_at bytes at (left_of parts.old) parts.old)) }
+    ensures right { IfOk result (λ len. (bytes : List ℕ) → IsPart bytes at ENOUGH part.now → rest_at version_1 bytes at (left_of parts.old) parts.old ≡ rest_at version_1 bytes (at + len) (left_of parts.new) parts.new) }
+    ensures fault { IfErr result (λ e. (bytes : List ℕ) → IsPart bytes at ENOUGH part.now → Fails e (rest_at version_1 bytes at (left_of parts.old) parts.old)) }
     ensures cause { (n : ℕ) → HasLoadCause n n result }
 {
     let left = parts.left() - 1;
@@ -178,7 +177,7 @@ pub(crate) fn load_brz<S: Source>(
     requires b { (MIN_WIDTH ≤ header.b) × (header.b ≤ MAX_WIDTH) }
     requires at { IsAt (S.told source.old) (S.place source.old) 24 }
     ensures told { S.told source.new ≡ S.told source.old }
-    ensures exact { ForSome (S.told source.old) (λ bytes. Answers (λ f. f) result (brz_at bytes header)) }
+    ensures exact { ForSome (S.told source.old) (λ bytes. Answers (λ f. f) result (brz_at version_1 bytes header)) }
     ensures valid { IfOk result (λ f. IsBrz f) }
     ensures cause { HasLoadCause (S.faults source.old) (S.faults source.new) result }
 {

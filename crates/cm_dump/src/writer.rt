@@ -2,10 +2,11 @@
 ghost use Rattle.std.specs.Prelude.{◌≡◌, ◌++◌, ◌∷◌, [], List, ℕ, length};
 ghost use Rattle.cm_outer.specs.Causes.{HasCause};
 ghost use Rattle.cm_outer.specs.Writing.{Writes};
-ghost use Rattle.cm_spec.specs.Dump.{header, chm_dump};
-ghost use Rattle.cm_dump.specs.Dumps.{bdz_dump, bdz_ph_dump, brz_dump, dump_of};
+ghost use Rattle.cm_dump.specs.Dumps.{bdz_dump, bdz_ph_dump, brz_dump, chm_dump, dump_of, header};
+ghost use Rattle.cm_dump.specs.Forms.{version_1};
 
 use crate::buckets::{buckets_len, save_buckets};
+use crate::front::MAGIC;
 use crate::image::save_image;
 use crate::ranks::save_ranks;
 use cm_bdz::{Bdz, BdzPh};
@@ -25,7 +26,7 @@ pub enum Func {
 
 /// Writes the header of a dump: the algorithm's number, its parameter `b`, the number of keys, the ratio in millionths and the
 /// seed.
-#[tactic(auto, unfolding(cm_spec::specs::Dump::header))]
+#[tactic(auto, unfolding(crate::specs::Dumps::header))]
 fn save_header<O: Sink>(
     algorithm: u8,
     b: u8,
@@ -34,13 +35,13 @@ fn save_header<O: Sink>(
     seed: u32,
     out: &mut O,
 ) -> Result<(), Failed>
-    ensures bytes { Writes (O.written out.old) (O.written out.new) (header algorithm b keys ratio seed) result }
+    ensures bytes { Writes (O.written out.old) (O.written out.new) (header version_1 algorithm b keys ratio seed) result }
     ensures cause { HasCause (O.faults out.old) (O.faults out.new) result }
 {
     write_pieces(
         out,
         &[
-            b"CMPHDMP1",
+            &MAGIC,
             &[algorithm, b, 0, 0],
             &keys.to_le_bytes(),
             &ratio.to_le_bytes(),
@@ -50,9 +51,9 @@ fn save_header<O: Sink>(
 }
 
 /// Writes the dump of a CHM function.
-#[tactic(auto, unfolding(cm_spec::specs::Dump::chm_dump, cm_spec::specs::Dump::fields_image))]
+#[tactic(auto, unfolding(crate::specs::Dumps::chm_dump, cm_spec::specs::Dump::fields_image))]
 fn save_chm<O: Sink>(chm: &Chm, out: &mut O) -> Result<(), Failed>
-    ensures bytes { Writes (O.written out.old) (O.written out.new) (chm_dump chm.now) result }
+    ensures bytes { Writes (O.written out.old) (O.written out.new) (chm_dump version_1 chm.now) result }
     ensures cause { HasCause (O.faults out.old) (O.faults out.new) result }
 {
     save_header(1, 0, chm.keys(), chm.c(), chm.seed(), out)?;
@@ -62,7 +63,7 @@ fn save_chm<O: Sink>(chm: &Chm, out: &mut O) -> Result<(), Failed>
 /// Writes the dump of a BDZ function.
 #[tactic(auto, unfolding(crate::specs::Dumps::bdz_dump, crate::specs::Dumps::packed_image))]
 fn save_bdz<O: Sink>(bdz: &Bdz, out: &mut O) -> Result<(), Failed>
-    ensures bytes { Writes (O.written out.old) (O.written out.new) (bdz_dump bdz.now) result }
+    ensures bytes { Writes (O.written out.old) (O.written out.new) (bdz_dump version_1 bdz.now) result }
     ensures cause { HasCause (O.faults out.old) (O.faults out.new) result }
 {
     save_header(2, bdz.b(), bdz.keys(), bdz.c(), bdz.seed(), out)?;
@@ -73,7 +74,7 @@ fn save_bdz<O: Sink>(bdz: &Bdz, out: &mut O) -> Result<(), Failed>
 /// Writes the dump of a BDZ_PH function.
 #[tactic(auto, unfolding(crate::specs::Dumps::bdz_ph_dump, crate::specs::Dumps::packed_image))]
 fn save_bdz_ph<O: Sink>(bdz_ph: &BdzPh, out: &mut O) -> Result<(), Failed>
-    ensures bytes { Writes (O.written out.old) (O.written out.new) (bdz_ph_dump bdz_ph.now) result }
+    ensures bytes { Writes (O.written out.old) (O.written out.new) (bdz_ph_dump version_1 bdz_ph.now) result }
     ensures cause { HasCause (O.faults out.old) (O.faults out.new) result }
 {
     save_header(3, 0, bdz_ph.keys(), bdz_ph.c(), bdz_ph.seed(), out)?;
@@ -83,7 +84,7 @@ fn save_bdz_ph<O: Sink>(bdz_ph: &BdzPh, out: &mut O) -> Result<(), Failed>
 /// Writes the dump of a BRZ function.
 #[tactic(auto, unfolding(crate::specs::Dumps::brz_dump))]
 fn save_brz<O: Sink>(brz: &Brz, out: &mut O) -> Result<(), Failed>
-    ensures bytes { Writes (O.written out.old) (O.written out.new) (brz_dump brz.now) result }
+    ensures bytes { Writes (O.written out.old) (O.written out.new) (brz_dump version_1 brz.now) result }
     ensures cause { HasCause (O.faults out.old) (O.faults out.new) result }
 {
     save_header(4, brz.b(), brz.keys(), brz.c(), brz.split(), out)?;
@@ -107,7 +108,7 @@ pub fn save<O: Sink>(function: &Func, out: &mut O) -> Result<(), Failed>
 /// How many bytes the dump of a CHM function has.
 #[tactic(auto, using(crate::proofs::DumpLemmas::chm_dump_len))]
 fn chm_len(chm: &Chm) -> u64
-    ensures { result ≡ length (chm_dump chm.now) }
+    ensures { result ≡ length (chm_dump version_1 chm.now) }
 {
     let cells = chm.cells();
     24 + Fields::image_len(cells.len(), cells.bound())
@@ -116,7 +117,7 @@ fn chm_len(chm: &Chm) -> u64
 /// How many bytes the dump of a BDZ function has.
 #[tactic(auto, using(crate::proofs::DumpLemmas::bdz_dump_len))]
 fn bdz_len(bdz: &Bdz) -> u64
-    ensures { result ≡ length (bdz_dump bdz.now) }
+    ensures { result ≡ length (bdz_dump version_1 bdz.now) }
 {
     24 + Crumbs::image_len(bdz.cells().len(), 4) + 4 * bdz.ranks().entries() as u64
 }
@@ -124,7 +125,7 @@ fn bdz_len(bdz: &Bdz) -> u64
 /// How many bytes the dump of a BDZ_PH function has.
 #[tactic(auto, using(crate::proofs::DumpLemmas::bdz_ph_dump_len))]
 fn bdz_ph_len(bdz_ph: &BdzPh) -> u64
-    ensures { result ≡ length (bdz_ph_dump bdz_ph.now) }
+    ensures { result ≡ length (bdz_ph_dump version_1 bdz_ph.now) }
 {
     24 + Trits::image_len(bdz_ph.cells().len(), 3)
 }
@@ -132,7 +133,7 @@ fn bdz_ph_len(bdz_ph: &BdzPh) -> u64
 /// How many bytes the dump of a BRZ function has.
 #[tactic(auto, using(crate::proofs::DumpLemmas::brz_dump_len))]
 fn brz_len(brz: &Brz) -> u64
-    ensures { result ≡ length (brz_dump brz.now) }
+    ensures { result ≡ length (brz_dump version_1 brz.now) }
 {
     24 + buckets_len(brz)
 }
