@@ -2,6 +2,10 @@ mod Coding
 mod Laying
 mod Rising
 mod Sorting
+mod Merging
+mod Closing
+mod Merged
+mod Adding
 mod Appending
 mod Pieces
 mod Leaving

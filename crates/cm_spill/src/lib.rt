@@ -8,6 +8,7 @@ mod header;
 pub mod laws;
 mod run;
 mod runs;
+mod segments;
 mod waiting;
 
 pub use fault::SpillError;
