@@ -65,6 +65,25 @@ pub(crate) fn brz_build() -> Command<'static> {
     Command::build(&["cmph", "-g", "-a", "brz", "-s", "0", "keys"], &BRZ_TWO)
 }
 
+/// A build by CHM that says what it has built.
+pub(crate) fn verbose_chm_build() -> Command<'static> {
+    Command {
+        err: "cmph: chm keys 2 cells 5 seed 0\n",
+        ..Command::build(&["cmph", "-g", "-v", "-s", "0", "keys"], &CHM_TWO)
+    }
+}
+
+/// A build by BRZ that says what it has built.
+pub(crate) fn verbose_brz_build() -> Command<'static> {
+    Command {
+        err: "cmph: brz keys 2 buckets 1 seed 0\n",
+        ..Command::build(
+            &["cmph", "-g", "-v", "-a", "brz", "-s", "0", "keys"],
+            &BRZ_TWO,
+        )
+    }
+}
+
 /// A query by the function of CHM.
 pub(crate) fn chm_query() -> Command<'static> {
     Command::query(TWO_KEYS, &CHM_TWO, b" -> 0\na -> 1\n")
@@ -84,7 +103,8 @@ pub(crate) fn one_key_test() -> Command<'static> {
 
 /// A command over an older function file.
 pub(crate) fn over_older(command: Command<'static>) -> Command<'static> {
-    let mut over = command;
-    over.older = Some(b"older");
-    over
+    Command {
+        older: Some(b"older"),
+        ..command
+    }
 }

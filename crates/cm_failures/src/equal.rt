@@ -22,3 +22,8 @@ pub fn expect_equal_at<R: PartialEq + Debug, T: PartialEq + Debug>(
 pub fn expect_prefix_at<R: PartialEq + Debug>(rt: &impl Abort, row: &R, part: &[u8], whole: &[u8]) {
     expect_equal_at(rt, row, &Some(part), &whole.get(..part.len()));
 }
+
+/// Fails the test if this does not hold.
+pub fn expect_true(rt: &impl Abort, holds: bool) {
+    assert!(rt; holds);
+}

@@ -6,9 +6,13 @@ mod calls;
 #[cfg(test)]
 mod command;
 #[cfg(test)]
+mod dumps;
+#[cfg(test)]
 mod equal;
 #[cfg(test)]
 mod faults;
+#[cfg(test)]
+mod key_reads;
 #[cfg(test)]
 mod rooms;
 #[cfg(test)]

@@ -63,8 +63,10 @@ fn fill_disk(
 
 /// The keys file isn't there.
 fn miss_keys(rt: &impl Abort, alloc: Global, command: Command<'static>) -> Result<(), AllocError> {
-    let mut missing = command;
-    missing.keys = None;
+    let missing = Command {
+        keys: None,
+        ..command
+    };
     let left = run_with(alloc, &missing, Faults::none())?;
     expect_stopped(rt, &missing, &left, 4, KEYS_UNREAD);
     expect_equal_at(rt, &missing.words, &left.out.len(), &0);

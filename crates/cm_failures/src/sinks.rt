@@ -1,5 +1,7 @@
 //! Each write to out or err fails in turn, and each of them has too little room.
-use crate::command::{Command, brz_build, chm_build, chm_query, one_key_test};
+use crate::command::{
+    Command, brz_build, chm_build, chm_query, one_key_test, verbose_brz_build, verbose_chm_build,
+};
 use crate::equal::{expect_equal_at, expect_prefix_at};
 use crate::faults::{
     FUNCTION_UNREAD, FUNCTION_UNWRITTEN, Faults, KEYS_UNREAD, Left, OUT_UNWRITTEN, SPILL_UNUSED,
@@ -31,8 +33,9 @@ fn cut_out(rt: &impl Abort, alloc: Global, command: &Command) -> Result<(), Allo
 
 /// Out has just room for the command's text.
 fn fill_out(rt: &impl Abort, alloc: Global, command: &Command) -> Result<(), AllocError> {
+    let room = command.out.len();
     let mut faults = Faults::none();
-    faults.out.room = command.out.len();
+    faults.out.room = room;
     let left = run_with(alloc, command, faults)?;
     expect_done(rt, command, &left);
     Ok(())
@@ -175,14 +178,10 @@ fn expect_no_out(rt: &impl Abort, alloc: Global, command: &Command) -> Result<()
 /// A failing err changes nothing but err, in builds that say what they have built.
 #[test]
 fn verbose_err(rt: HostRuntime) -> Result<(), Fail> {
-    let mut chm = chm_build();
-    chm.words = &["cmph", "-g", "-v", "-s", "0", "keys"];
-    let text = "cmph: chm keys 2 cells 5 seed 0\n";
-    fail_each_err(&rt, rt.alloc(), &chm, Faults::none(), text)?;
-    let mut brz = brz_build();
-    brz.words = &["cmph", "-g", "-v", "-a", "brz", "-s", "0", "keys"];
-    let text = "cmph: brz keys 2 buckets 1 seed 0\n";
-    fail_each_err(&rt, rt.alloc(), &brz, Faults::none(), text)?;
+    let chm = verbose_chm_build();
+    fail_each_err(&rt, rt.alloc(), &chm, Faults::none(), chm.err)?;
+    let brz = verbose_brz_build();
+    fail_each_err(&rt, rt.alloc(), &brz, Faults::none(), brz.err)?;
     Ok(())
 }
 
