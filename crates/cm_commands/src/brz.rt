@@ -87,7 +87,7 @@ fn failing_spill(rt: HostRuntime) -> Result<(), Fail> {
     kept.file = Some(b"older");
     let cases = [
         unspilled(b"\na\n", &[(DiskCall::Spill, 0)]),
-        // The spill is taken before the keys are counted, and after their file is opened.
+        // The spill is made before the keys are counted, and after their file is opened.
         unspilled(b"", &[(DiskCall::Spill, 0)]),
         Case::refused(IN_DIR, b"", 8, "cmph: keys: no keys\n"),
         unspilled(b"\na\n", &[(DiskCall::Append, 0)]),

@@ -13,8 +13,8 @@ use std::process::Abort;
 use std::sync::ledger::{Blank, Ledger};
 use std::test::Fail;
 
-/// Keys that change from pass to pass, after a number of rewinds that are refused. It tells nothing of them. After its last
-/// pass it gives none. So many of the next keys are at hand.
+/// Keys that change from pass to pass, after `refusals` rewinds that fail. They are not known. After the last pass there are none.
+/// `ready` of the next keys are buffered.
 #[derive(Drop)]
 struct Changing<'a> {
     refusals: usize,
@@ -155,7 +155,7 @@ fn add(edges: &mut Edges<2>, first: u32, second: u32) -> Result<bool, AllocError
     }
 }
 
-/// CHM's cells of a graph, or none where it has no edge, or where peeling leaves one.
+/// CHM's cells of a graph, or none if it has no edge or if peeling leaves one.
 fn assign_pairs<L: Ledger>(
     alloc: Global,
     edges: &Edges<2>,
@@ -185,7 +185,7 @@ const PAIR: &[&[u8]] = &[b"a", b"b"];
 
 const TRIPLE: &[&[u8]] = &[b"a", b"b", b"c"];
 
-/// Checks that a build over such passes is refused because the keys changed: first there were so many, and then so many.
+/// Checks that a build over these passes fails because the keys changed: at first there were `first` keys, and then `now` keys.
 fn check_change(rt: &impl Abort, alloc: Global, passes: &[&[&[u8]]], first: u32, now: u32) {
     let mut keys = keys_of(0, passes);
     match built(alloc, &mut keys) {

@@ -25,15 +25,15 @@ pub(crate) const EMPTY_AND_A: [u8; 25] = [
     0, 0, 0, 4,
 ];
 
-/// How many bytes a file, out and err may have where nothing is to fail.
+/// The room for a file, out and err if nothing is to fail, in bytes.
 pub(crate) const AMPLE: usize = 1_000_000;
 
 const PLAIN: &[&str] = &["cmph", "-g", "keys"];
 
 const SEEDED: &[&str] = &["cmph", "-g", "-s", "0", "keys"];
 
-/// A command over a disk with these files, where a file or a spill, out and err have so much room and such calls of the disk fail, and what
-/// it answers, writes and leaves.
+/// A command over a disk with these files, with the room for a file or a spill, for out and for err, and the calls of the disk that fail;
+/// and what it returns, writes and leaves.
 #[derive(Drop)]
 pub(crate) struct Case<'a> {
     pub words: &'a [&'a str],
@@ -87,7 +87,7 @@ impl<'a> Case<'a> {
         case
     }
 
-    /// A command that is refused, with its message.
+    /// A command that fails, with its message.
     pub(crate) fn refused(
         words: &'a [&'a str],
         keys: &'a [u8],
@@ -150,7 +150,7 @@ fn list_calls(disk: &mut MemDisk, calls: &[(DiskCall, u64)]) -> Result<(), Alloc
     Ok(())
 }
 
-/// Runs a command, and gives its status.
+/// Runs a command, and returns its status.
 pub(crate) fn run_words<D: Disk>(
     alloc: Global,
     words: &[&str],
@@ -165,7 +165,7 @@ pub(crate) fn run_words<D: Disk>(
     Ok(run(alloc, &owned, disk, out, err))
 }
 
-/// The function file that a build makes over a disk with so much room for a file or a spill, unless it fails.
+/// The function file that a build makes over a disk with this room for a file or a spill, unless it fails.
 pub(crate) fn built_file(
     alloc: Global,
     words: &[&str],

@@ -18,7 +18,7 @@ const CHM: &[&str] = &["cmph", "-g", "keys"];
 
 const BRZ: &[&str] = &["cmph", "-g", "-a", "brz", "-s", "0", "keys"];
 
-/// A build over a file with these contents, pass by pass, where the spill has a wrong byte at a place, and what it returns, writes and
+/// A build over a file with these contents, pass by pass, and a spill that has a wrong byte at a place; and what it returns, writes and
 /// makes.
 #[derive(Drop)]
 struct Build<'a> {
@@ -47,7 +47,7 @@ impl<'a> Build<'a> {
         }
     }
 
-    /// A build that is refused, as its keys or its spill differ from what they were.
+    /// A build that fails because its keys or its spill changed.
     fn refused(words: &'a [&'a str], passes: &'a [&'a [u8]], err: &'a str) -> Build<'a> {
         Build {
             words,

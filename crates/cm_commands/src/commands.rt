@@ -42,7 +42,7 @@ const FIRST: &[&str] = &["cmph", "-g", "-s", "0", "-k", "1", "keys"];
 
 const HALF: &[&str] = &["cmph", "-g", "-c", "1.5", "-s", "0", "keys"];
 
-/// `-b` counts for nothing where ranks are not sampled.
+/// `-b` has no effect if ranks are not sampled.
 const UNSAMPLED: &[&str] = &["cmph", "-g", "-b", "11", "keys"];
 
 const NAMED: &[&str] = &[

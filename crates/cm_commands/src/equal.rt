@@ -1,5 +1,5 @@
-//! Comparisons as calls that fail the test: a test of many checks is much cheaper to prove if the two ways on from a check are
-//! proved once, here, and not at its place. What a test's proof needs is checked by `assert!` in the test.
+//! Comparisons as calls that fail the test: a test of many checks is much cheaper to prove if the branch of a check is proved once, here,
+//! and not at its place. What a test's proof needs is checked by `assert!` in the test.
 use std::fmt::Debug;
 use std::process::Abort;
 

@@ -61,7 +61,7 @@ impl<P: KeyPass> KeyPass for Counting<P> {
     }
 }
 
-/// So many keys of 8 bytes, one a line.
+/// `count` keys of 8 bytes, one a line.
 fn text(alloc: Global, count: u32) -> Result<Vec<u8>, AllocError> {
     let mut bytes = Vec::new(alloc);
     for number in 0..count {
@@ -75,7 +75,7 @@ fn text(alloc: Global, count: u32) -> Result<Vec<u8>, AllocError> {
     Ok(bytes)
 }
 
-/// A build by BDZ over so many keys: the seed that it took, and how many keys were copied.
+/// A build by BDZ over `count` keys: the seed that it took, and how many keys were copied.
 fn copied_by<L: Ledger>(alloc: Global, count: u32, blank: Blank) -> Result<(u32, u64), BuildFault>
     requires name { blank.name ≡ L.name }
     requires parts { blank.parts ≡ L.parts }

@@ -51,7 +51,7 @@ fn damaged_dumps(rt: HostRuntime) -> Result<(), Fail> {
 fn missing_files(rt: HostRuntime) -> Result<(), Fail> {
     let mut no_keys = Case::query(QUERY, b"", &ONE_EMPTY, 4, b"", "cmph: keys: cannot read\n");
     no_keys.keys = None;
-    // A damaged function file is told before a keys file that isn't there.
+    // A damaged function file is reported before a missing keys file.
     let fault = "cmph: keys.mph: bad dump: truncated at 1\n";
     let mut damaged = Case::query(QUERY, b"", b"C", 3, b"", fault);
     damaged.keys = None;

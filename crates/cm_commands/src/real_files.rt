@@ -30,7 +30,7 @@ struct Left {
     err: Vec<u8>,
 }
 
-/// Runs with these words after the program's name.
+/// Runs with these arguments after the program's name.
 fn run_on<R: Files + AllocGlobal>(rt: &R, rest: &[&str]) -> Result<Left, Fail> {
     let alloc = rt.alloc();
     let mut words = Vec::new(alloc);
@@ -73,7 +73,7 @@ fn real_files(rt: HostRuntime) -> Result<(), Fail> {
         ]
         .as_slice(),
     );
-    // The text has been sent on by the end of the query.
+    // Out is flushed by the end of the query.
     expect_equal(&rt, &asked.status, &0);
     expect_bytes(&rt, asked.out.as_slice(), b"a -> 0\nb -> 1\n");
     expect_bytes(&rt, asked.err.as_slice(), b"");

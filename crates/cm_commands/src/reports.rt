@@ -1,4 +1,4 @@
-//! Reports of refused builds over a disk in memory.
+//! Reports of failed builds over a disk in memory.
 use crate::cases::{Case, LETTERS, check_all};
 use std::test::Fail;
 
@@ -22,7 +22,7 @@ const BDZ_PH: &[&str] = &["cmph", "-g", "-a", "bdz_ph", "-s", "0", "keys"];
 
 const TWO_EMPTY: &[u8] = b"core chm seed 0 edges 2\nedge 1 4 1\nedge 2 4 1\nequal 1 2\n";
 
-/// A build that no seed gives a function of, with its report.
+/// A build that fails under every seed, with its report.
 fn reported<'a>(words: &'a [&'a str], keys: &'a [u8], report: &'a [u8]) -> Case<'a> {
     Case::new(words, keys, 1, report, NO_SEED)
 }
@@ -87,7 +87,7 @@ fn older_function_kept(rt: HostRuntime) -> Result<(), Fail> {
 
 #[test]
 fn reports_cut_short(rt: HostRuntime) -> Result<(), Fail> {
-    // The message of the refusal isn't written.
+    // The message of the failure isn't written.
     for room in 0..TWO_EMPTY.len() {
         let report = &TWO_EMPTY[..room];
         let message = "cmph: cannot write standard output\n";

@@ -41,7 +41,7 @@ fn one_key(rt: HostRuntime) -> Result<(), Fail> {
     Ok(())
 }
 
-/// What a test of 100,000 keys prints, with a buffer of so many megabytes.
+/// What a test of 100,000 keys prints, with a buffer of this size in megabytes.
 fn printed(rt: &impl Abort, alloc: Global, megabytes: &str) -> Result<Vec<u8>, AllocError> {
     let words = ["cmph", "-T", "100000", "-r", "1000", "-M", megabytes];
     let mut disk = MemDisk::new(alloc, 8_000_000);
@@ -53,7 +53,7 @@ fn printed(rt: &impl Abort, alloc: Global, megabytes: &str) -> Result<Vec<u8>, A
     Ok(out.into_bytes())
 }
 
-/// The buffer changes nothing of the functions.
+/// The functions don't depend on the buffer's size.
 #[test]
 fn many_keys(rt: HostRuntime) -> Result<(), Fail> {
     let small = printed(&rt, rt.alloc(), "1")?;

@@ -14,7 +14,7 @@ use Rattle.cm_dump.specs.declared.writer.Func.{Func}
 use Rattle.cm_dump.specs.declared.writer.Func.TheVariants as func
 use Rattle.cm_dump.specs.Forms.{Form, version_1}
 
--- the algorithm's number and its parameter b, in four bytes, of which the rest is zero
+-- the algorithm's number and its parameter b, in four bytes, of which the others are zero
 abbrev pub kind_bytes : Form → ℕ → ℕ → List ℕ
 kind_bytes v algorithm b = algorithm ∷ (replicate (v.b_at - 9) 0 ++ (to_le_bytes v.b b ++ replicate (12 - (v.b_at + byte_len v.b)) 0))
 

@@ -4,7 +4,7 @@ use Rattle.cm_bdz.specs.Functions.{Bdz, BdzPh}
 use Rattle.cm_buckets.specs.Functions.{Brz}
 use Rattle.cm_spec.specs.Chm.{Chm}
 
--- the header of a CHM function of so few keys, with the ratio 2.09 and the seed 0
+-- the header of a CHM function of some keys, with the ratio 2.09 and the seed 0
 abbrev pub front : ℕ → List ℕ
 front keys = codes "CMPHDMP1" ++ 1 ∷ 0 ∷ 0 ∷ 0 ∷ keys ∷ 0 ∷ 0 ∷ 0 ∷ 0x10 ∷ 0xe4 ∷ 0x1f ∷ 0 ∷ 0 ∷ 0 ∷ 0 ∷ 0 ∷ []
 
@@ -16,7 +16,7 @@ one_key = record { keys = 1; ratio = 2090000; seed = 0; cells = 0 ∷ 0 ∷ 0 �
 abbrev pub two_keys : Chm
 two_keys = record { keys = 2; ratio = 2090000; seed = 0; cells = 0 ∷ 0 ∷ 1 ∷ 0 ∷ 0 ∷ [] }
 
--- the header of a function by an algorithm of this number, with its parameter, of so few keys, with the ratio 1.23 and the seed 0
+-- the header of a function by an algorithm of this number, with its parameter, of some keys, with the ratio 1.23 and the seed 0
 abbrev pub front_of : ℕ → ℕ → ℕ → List ℕ
 front_of algorithm b keys = codes "CMPHDMP1" ++ algorithm ∷ b ∷ 0 ∷ 0 ∷ keys ∷ 0 ∷ 0 ∷ 0 ∷ 0xb0 ∷ 0xc4 ∷ 0x12 ∷ 0 ∷ 0 ∷ 0 ∷ 0 ∷ 0 ∷ []
 

@@ -8,7 +8,7 @@ use Rattle.cm_spec.specs.Dump.{magic}
 pub record Form : Type 0 where
   -- the first bytes, of which there are eight
   pub magic : List ℕ
-  -- where the parameter b stands in the bytes 9 to 11, and how wide it is; the rest of these bytes is zero
+  -- where the parameter b stands in the bytes 9 to 11, and how wide it is; the others of these bytes are zero
   pub b_at : ℕ
   pub b : Width
   -- how wide the number of keys of a bucket is, and the greatest such number

@@ -56,7 +56,7 @@ span_by (func.Bdz f) = f.keys
 span_by (func.BdzPh f) = length f.cells
 span_by (func.Brz f) = f.keys
 
--- where a function looks for the bytes of a key
+-- the place that a function computes from the bytes of a key
 abbrev pub place_by : Func → List ℕ → List ℕ
 place_by (func.Chm f) key = chm_place f key
 place_by (func.Bdz f) key = bdz_place (words key f.seed) (length f.cells)

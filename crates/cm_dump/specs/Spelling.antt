@@ -31,12 +31,12 @@ fault_at at place image.Memory = faults.Memory
 fault_at at place (image.BadCell i) = faults.BadCell (at + place i)
 fault_at at place (image.BadPadding q) = faults.BadPadding (at + q)
 
--- the image, where it has no fault
+-- the image, if it has no fault
 abbrev pub unless_bad : ℕ → (ℕ → ℕ) → Option ImageFault → List ℕ → Result (List ℕ) LoadFault
 unless_bad at place None item = Ok item
 unless_bad at place (Some f) item = Err (fault_at at place f)
 
--- the image of so many bytes at an offset, by the byte that holds a cell's lowest bit or digit, and by the fault of bytes
+-- the image of a size in bytes at an offset, by the byte that holds a cell's lowest bit or digit, and by the fault of bytes
 unfoldable pub image_at : List ℕ → ℕ → ℕ → (ℕ → ℕ) → (List ℕ → Option ImageFault) → Result (List ℕ) LoadFault
 image_at bytes at size place fault = do
   item ← item_at bytes at size
@@ -90,27 +90,27 @@ bdz_ph_at bytes h = do
   ended ← end_at bytes (24 + packed_len 5 (bdz_size h.keys h.ratio))
   Ok (record { keys = h.keys; ratio = h.ratio; seed = h.seed; cells = packed_cells 3 5 (bdz_size h.keys h.ratio) image })
 
--- whether a function that has so many keys in its buckets, of which `left` are to come, has too many, or too few
+-- whether a function has too many keys in its buckets, or too few if none of its buckets is left
 abbrev pub is_off : ℕ → ℕ → ℕ → Bool
 is_off keys held left = nat_lt keys held || (left == 0 && nat_lt held keys)
 
--- the number of keys of a function's next bucket, after which `left` are to come
+-- the number of keys of a function's next bucket, after which `left` buckets follow
 unfoldable pub size_at : Form → List ℕ → ℕ → Brz → ℕ → Result ℕ LoadFault
 size_at v bytes at f left = do
   size ← field_at v.size bytes at 0 v.most_size
   if is_off f.keys (keys_in f.buckets + size) left then Err (faults.BadCount at) else Ok size
 
--- the greatest seed of a bucket of so many keys: an empty one has the seed 0
+-- the greatest seed of a bucket of a size: an empty one has the seed 0
 abbrev pub most_seed : ℕ → ℕ
 most_seed size = if size == 0 then 0 else 4294967295
 
--- the n cells of a bucket of so many keys, of which as many are not 3
+-- the n cells of a bucket, of which as many are not 3 as it has keys
 unfoldable pub crumbs_at : List ℕ → ℕ → ℕ → ℕ → Result (List ℕ) LoadFault
 crumbs_at bytes at size n = do
   image ← packed_at bytes at 4 4 n
   if count_by (is_busy 3) (packed_cells 4 4 n image) == size then Ok (packed_cells 4 4 n image) else Err (faults.BadCount at)
 
--- a function's next bucket, after which `left` are to come
+-- a function's next bucket, after which `left` buckets follow
 unfoldable pub bucket_at : Form → List ℕ → ℕ → Brz → ℕ → Result Bucket LoadFault
 bucket_at v bytes at f left = do
   size ← size_at v bytes at f left
@@ -122,7 +122,7 @@ bucket_at v bytes at f left = do
 abbrev pub bucket_len : Form → Bucket → ℕ
 bucket_len v bucket = byte_len v.size + 4 + packed_len 4 (length bucket.cells)
 
--- a function with so many buckets more, which are the last that the bytes have
+-- a function with some more buckets, which are the last that the bytes have
 unfoldable pub rest_at : Form → List ℕ → ℕ → ℕ → Brz → Result Brz LoadFault
 rest_at v bytes at zero f = do
   ended ← end_at bytes at

@@ -30,7 +30,7 @@ fn save_bucket<O: Sink>(brz: &Brz, j: u32, out: &mut O) -> Result<(), Failed>
     )
 }
 
-/// Writes the buckets. Fails exactly where the sink does, which has then taken a prefix of them.
+/// Writes the buckets. Fails exactly if the sink does, which has then taken a prefix of them.
 #[tactic(auto, unfolding(crate::specs::Dumps::buckets_image))]
 pub(crate) fn save_buckets<O: Sink>(brz: &Brz, out: &mut O) -> Result<(), Failed>
     ensures bytes { Writes (O.written out.old) (O.written out.new) (buckets_image version_1 brz.now.buckets) result }

@@ -12,10 +12,10 @@ use std::alloc::{AllocError, Global};
 /// How many bytes are read at a time.
 const CHUNK: u64 = 65_536;
 
-/// For how many bytes there is room from the start, so that a short item is never moved.
+/// The initial capacity in bytes, so that a short item is never moved.
 const FIRST: u64 = 524_288;
 
-/// Adds zeros, up to `len` bytes, where a table can add those that it keeps past its image.
+/// Appends zeros, up to `len` bytes, with room for the bytes that a table keeps past its image.
 fn room_for(all: &mut Vec<u8>, len: usize) -> Result<(), AllocError>
     requires more { length all.old.items ≤ len }
     requires few { len < 2 ^ 62 }
@@ -25,7 +25,8 @@ fn room_for(all: &mut Vec<u8>, len: usize) -> Result<(), AllocError>
     all.resize(len, 0)
 }
 
-/// The item of `n` bytes at this offset, with room for `SPARE` more. Memory is taken as the bytes come, whatever `n` is, and they are read to where they stay.
+/// The item of `n` bytes at this offset, with room for `SPARE` more. Memory is allocated as bytes are read, whatever `n` is. The bytes are
+/// read directly into the result.
 pub(crate) fn long_item<S: Source>(
     alloc: Global,
     source: &mut S,

@@ -57,7 +57,7 @@ pub fn saved_by_buckets()
     ensures dump { dump_of (Brz brz_of_two) ≡ front_of 4 128 2 ++ bucket_of_two }
 {}
 
-/// Its answers to the keys that it was built over.
+/// The answers of that function to the keys that it was built over.
 #[tactic(auto, unfolding(cm_spec::specs::Lookup2::words, cm_spec::specs::Lookup2::finish, cm_spec::specs::Lookup2::absorb, cm_spec::specs::Lookup2::three_lines, cm_spec::specs::Lookup2::left_line, cm_spec::specs::Lookup2::right_line))]
 pub fn answered_by_buckets()
     ensures first { brz_answer brz_of_two [] ≡ Some 0 }

@@ -2,10 +2,10 @@
 
 use thiserror::Error;
 
-/// Why a source gave no function: the first fault of its bytes. Places are counted in bytes from the start, from 0.
+/// Why no function was loaded from a source: the first fault of its bytes. Places are counted in bytes from the start, from 0.
 #[derive(Clone, Copy, Debug, PartialEq, Eq, Error)]
 pub enum LoadFault {
-    /// There was too little memory.
+    /// Out of memory.
     #[error("out of memory")]
     Memory,
     /// The source failed.
@@ -29,10 +29,10 @@ pub enum LoadFault {
     /// The cell whose lowest bit or digit this byte holds isn't below the bound.
     #[error("bad cell at {at}")]
     BadCell { at: u64 },
-    /// A number that is counted here is another than the one that was stated.
+    /// A number that is counted here differs from the one that was stated.
     #[error("bad count at {at}")]
     BadCount { at: u64 },
-    /// The rank that begins here is another than the plain count.
+    /// The rank that begins here differs from the plain count.
     #[error("bad rank at {at}")]
     BadRank { at: u64 },
     /// Bytes follow the dump.

@@ -1,5 +1,5 @@
-//! The items of a file, each read at its offset and checked. A source that stands there gives the item, or the first fault of
-//! what it tells.
+//! The items of a file, each read at its offset and checked. A read from a source that stands there returns the item, or the first fault
+//! of the bytes.
 ghost use Rattle.std.specs.Prelude.{◌≡◌, ◌≢◌, ◌+◌, ◌<◌, ◌≤◌, ◌^◌, ℕ, List, Option, Err, OnOk, IfOk, length};
 ghost use Rattle.std.specs.Int.{w8, w32};
 ghost use Rattle.std.specs.Option.{ForSome};
@@ -10,8 +10,8 @@ ghost use Rattle.cm_dump.specs.declared.fault.LoadFault.{LoadFault};
 use crate::LoadFault;
 use cm_outer::{Failed, Source};
 
-/// Fills the buffer from this offset on, in bytes from 0, where the source stands, and says how many bytes it got: fewer than
-/// it has room for only where the source's bytes end. Fails exactly where the source does.
+/// Fills the buffer from this offset on, in bytes from 0, where the source stands, and returns how many bytes were read: fewer than the
+/// buffer has room for only if the source ends. Fails exactly if the source does.
 pub(crate) fn fill<S: Source>(source: &mut S, at: u64, buf: &mut [u8]) -> Result<usize, Failed>
     requires room { at + length buf.old < 2 ^ 63 }
     requires at { IsAt (S.told source.old) (S.place source.old) at }
@@ -104,7 +104,7 @@ pub(crate) fn number<S: Source>(
     }
 }
 
-/// Nothing is to follow this offset.
+/// Checks that nothing follows this offset.
 #[tactic(auto, unfolding(crate::specs::Reading::end_at))]
 pub(crate) fn end<S: Source>(source: &mut S, at: u64) -> Result<(), LoadFault>
     requires at { IsAt (S.told source.old) (S.place source.old) at }

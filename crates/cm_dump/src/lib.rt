@@ -1,4 +1,4 @@
-//! The dump of a function, as bytes that a sink is given and a source gives.
+//! The dump of a function, as bytes that are written to a sink and read from a source.
 #![tactic(auto)]
 
 mod answers;

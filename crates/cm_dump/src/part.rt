@@ -1,4 +1,4 @@
-//! The items of a part of a file that is in memory. Each is read at the start of what is left, whose offset is known.
+//! The items of a part of a file that is in memory. Each is read at the start of the bytes that are left, whose offset is known.
 ghost use Rattle.std.specs.Prelude.{◌≡◌, ◌≢◌, ◌+◌, ◌<◌, ◌≤◌, ◌^◌, ℕ, List, Err, OnOk, IfOk, length};
 ghost use Rattle.std.specs.Int.{w8, w32};
 ghost use Rattle.cm_dump.specs.Reading.{Answers, HasLoadCause, IsPart, item_at, field_at};

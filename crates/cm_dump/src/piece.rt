@@ -14,7 +14,7 @@ use std::marker::Model;
 /// How many bytes are read at a time.
 const PIECE: usize = 16_384;
 
-/// How many bytes stand in a piece at least, unless the source ends with it. No bucket of a function has more.
+/// How many bytes are in a piece at least, unless the source ends with it. No bucket of a function has more.
 pub(crate) const ENOUGH: usize = 1024;
 
 /// The bytes that were read and not used yet: those of the buffer from `from` up to `until`. The source has ended if the buffer
@@ -37,9 +37,9 @@ impl Model for Piece {
     ghost invariant = { λ p. (p.from ≤ p.until) × (p.until ≤ 16384) × (length p.buf.items ≡ 16384) };
 }
 
-/// Moves the bytes of the buffer from `from` on to its start and reads as many more as there is then room for. The first of
-/// them stands at this offset, in bytes from 0. Says how many bytes of the buffer are filled: all, unless the source has ended.
-/// Fails exactly where the source does.
+/// Moves the bytes of the buffer from `from` on to its start, and reads as many more as there is then room for. The first of them stands
+/// at this offset, in bytes from 0. Returns how many bytes of the buffer are filled: all, unless the source has ended. Fails exactly if
+/// the source does.
 fn refilled<S: Source>(
     source: &mut S,
     at: u64,
@@ -85,8 +85,7 @@ impl Piece {
         &self.buf[self.from..self.until]
     }
 
-    /// Reads more unless there is enough. The first byte that was not used yet stands at this offset. Fails exactly where the
-    /// source does.
+    /// Reads more unless there is enough. The first byte that was not used yet stands at this offset. Fails exactly if the source does.
     pub(crate) fn refill<S: Source>(&mut self, source: &mut S, at: u64) -> Result<(), Failed>
         requires room { at < 2 ^ 60 }
         requires next { ForSome (S.told source.old) (λ bytes. IsNext bytes (S.place source.old) at self.old) }
@@ -108,7 +107,7 @@ impl Piece {
         }
     }
 
-    /// Uses so many bytes.
+    /// Uses `n` bytes.
     pub(crate) fn skip(&mut self, n: usize)
         requires inside { n ≤ length self.old.rest }
         ensures rest { self.new ≡ record self.old { rest = drop n self.old.rest } }
@@ -116,7 +115,7 @@ impl Piece {
         self.from += n;
     }
 
-    /// Nothing is to follow this offset, at which the first byte that was not used yet stands.
+    /// Checks that nothing follows this offset, at which the first byte that was not used yet stands.
     #[tactic(auto, unfolding(crate::specs::Reading::end_at))]
     pub(crate) fn end<S: Source>(&self, source: &mut S, at: u64) -> Result<(), LoadFault>
         requires next { ForSome (S.told source.old) (λ bytes. IsNext bytes (S.place source.old) at self.now) }

@@ -37,7 +37,7 @@ fn gather_ranks(ranks: &RankTable, from: u32, until: u32, piece: &mut ArrayVec<u
     }
 }
 
-/// Writes the ranks. Fails exactly where the sink does, which has then taken a prefix of them.
+/// Writes the ranks. Fails exactly if the sink does, which has then taken a prefix of them.
 #[tactic(auto, unfolding(crate::specs::Dumps::ranks_image))]
 pub(crate) fn save_ranks<O: Sink>(ranks: &RankTable, out: &mut O) -> Result<(), Failed>
     ensures bytes { Writes (O.written out.old) (O.written out.new) (ranks_image ranks.now.ranks) result }
@@ -55,8 +55,7 @@ pub(crate) fn save_ranks<O: Sink>(ranks: &RankTable, out: &mut O) -> Result<(), 
     Ok(())
 }
 
-/// The first of the `count` ranks in these bytes that is another than that of the table, counted from 0 here and from `from`
-/// on there.
+/// The first of the `count` ranks in these bytes that differs from that of the table, counted from 0 here and from `from` on there.
 fn first_wrong(part: &[u8], ranks: &RankTable, from: u32, count: u32) -> Option<u32>
     requires room { 4 * count ≤ length part.now }
     requires inside { from + count ≤ length ranks.now.ranks }

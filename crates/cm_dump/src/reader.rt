@@ -130,8 +130,7 @@ fn load_chm<S: Source>(alloc: Global, source: &mut S, header: Header) -> Result<
     }
 }
 
-/// The BDZ function of a header and its cells. `BadCount` is answered where the cells that aren't 3 are other in number than
-/// the keys.
+/// The BDZ function of a header and its cells. Returns `BadCount` if the number of cells that aren't 3 is not the number of keys.
 #[tactic(auto, unfolding(crate::specs::Spelling::counted))]
 fn count_cells(alloc: Global, header: Header, cells: Crumbs) -> Result<Bdz, LoadFault>
     requires keys { (1 ≤ header.keys) × (header.keys ≤ MAX_KEYS) }
@@ -156,8 +155,8 @@ fn count_cells(alloc: Global, header: Header, cells: Crumbs) -> Result<Bdz, Load
     }
 }
 
-/// The BDZ function of a header and its cells, whose dump ends with the source, after the ranks. They are counted once, for
-/// all the cells.
+/// The BDZ function of a header and its cells, whose dump ends with the source, after the ranks. The ranks are computed once, for all
+/// cells.
 #[tactic(auto, unfolding(crate::specs::Spelling::ranked_at))]
 fn load_ranked<S: Source>(
     alloc: Global,
@@ -238,9 +237,9 @@ fn load_bdz_ph<S: Source>(alloc: Global, source: &mut S, header: Header) -> Resu
     }
 }
 
-/// Loads a function from a source at its start: the one whose dump all the bytes are. `Read` is answered exactly where the
-/// source fails, `Memory` only where memory runs out after a header without a fault, and any other refusal is the first fault of
-/// the bytes. Memory is taken as the bytes come, whatever the header claims.
+/// Loads a function from a source at its start: the one whose dump all the bytes are. Returns `Read` exactly if the source fails, and
+/// `Memory` only if memory runs out after a header without a fault. Any other error is the first fault of the bytes. Memory is allocated
+/// as bytes are read, whatever the header claims.
 #[tactic(auto, unfolding(crate::specs::Spelling::spelling_by))]
 pub fn load<S: Source>(alloc: Global, source: &mut S) -> Result<Func, LoadFault>
     requires start { ForSome (S.told source.old) (λ _. S.place source.old ≡ 0) }

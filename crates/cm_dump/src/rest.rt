@@ -34,14 +34,15 @@ struct Bucket {
     cells: Crumbs,
 }
 
-/// Whether so many keys in the buckets of a function, of which `left` are to come, are too many, or too few.
+/// Whether `held` keys in the buckets that were read are too many for a function of `keys` keys, or too few if `left`, the number of
+/// further buckets, is 0.
 fn is_off(keys: u32, held: u32, left: u32) -> bool
     ensures { result ≡ is_off keys held left }
 {
     held > keys || left == 0 && held < keys
 }
 
-/// The number of keys of the next bucket, at this offset and the start of the part, after which `left` are to come.
+/// The number of keys of the next bucket, at this offset and the start of the part, after which `left` buckets follow.
 #[tactic(auto, unfolding(crate::specs::Spelling::size_at))]
 fn read_size(part: &[u8], at: u64, parts: &BrzParts, left: u32) -> Result<u8, LoadFault>
     requires room { at + length part.now < 2 ^ 62 }
@@ -62,14 +63,14 @@ fn read_size(part: &[u8], at: u64, parts: &BrzParts, left: u32) -> Result<u8, Lo
     }
 }
 
-/// The greatest seed of a bucket of so many keys.
+/// The greatest seed of a bucket of `size` keys.
 fn greatest_seed(size: u8) -> u32
     ensures { result ≡ most_seed size }
 {
     if size == 0 { 0 } else { u32::MAX }
 }
 
-/// How many cells a bucket of so many keys has.
+/// How many cells a bucket of `size` keys has.
 fn cells_of(size: u8, c: u32) -> u32
     requires ratio { IsRatio c }
     ensures { result ≡ bucket_cells size c }
@@ -107,7 +108,7 @@ fn read_crumbs(alloc: Global, part: &[u8], at: u64, size: u8, n: u32) -> Result<
     }
 }
 
-/// The next bucket, at this offset and the start of the part, after which `left` are to come.
+/// The next bucket, at this offset and the start of the part, after which `left` buckets follow.
 #[tactic(auto, unfolding(crate::specs::Spelling::bucket_at))]
 fn read_bucket(
     alloc: Global,
@@ -140,7 +141,7 @@ fn read_bucket(
     }
 }
 
-/// The next bucket, at this offset and the start of the part, becomes one of the function's. Says how many bytes it has.
+/// Reads the next bucket, at this offset and the start of the part, and adds it to the function. Returns how many bytes it has.
 fn next_bucket(alloc: Global, part: &[u8], at: u64, parts: &mut BrzParts) -> Result<u64, LoadFault>
     requires room { at + length part.now < 2 ^ 60 }
     requires some { length parts.old.buckets < bucket_count parts.old.keys parts.old.width }

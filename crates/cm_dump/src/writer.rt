@@ -91,8 +91,7 @@ fn save_brz<O: Sink>(brz: &Brz, out: &mut O) -> Result<(), Failed>
     save_buckets(brz, out)
 }
 
-/// Writes the dump of a function. Fails exactly where the sink does, which has then taken a prefix of the dump. It takes no
-/// memory.
+/// Writes the dump of a function. Fails exactly if the sink does, which has then taken a prefix of the dump. Allocates no memory.
 pub fn save<O: Sink>(function: &Func, out: &mut O) -> Result<(), Failed>
     ensures bytes { Writes (O.written out.old) (O.written out.new) (dump_of function.now) result }
     ensures cause { HasCause (O.faults out.old) (O.faults out.new) result }
@@ -138,7 +137,7 @@ fn brz_len(brz: &Brz) -> u64
     24 + buckets_len(brz)
 }
 
-/// How many bytes the dump of a function has. It takes no memory.
+/// How many bytes the dump of a function has. Allocates no memory.
 pub fn saved_len(function: &Func) -> u64
     ensures { result ≡ length (dump_of function.now) }
 {

@@ -18,7 +18,7 @@ enum Calls<'a> {
     AtLeastOne(&'a str),
 }
 
-/// No command here makes so many calls of a kind.
+/// More calls of a kind than any command here makes.
 const MOST: usize = 64;
 
 /// The status of a command of which a call of this kind fails.
@@ -57,7 +57,7 @@ impl<'a> Calls<'a> {
     }
 }
 
-/// Lets one call fail, and says whether the command came to it.
+/// Lets one call fail, and returns whether the command reached it.
 fn fail_one(
     rt: &impl Abort,
     alloc: Global,

@@ -30,7 +30,7 @@ const GREATEST: [u8; 24] = [
     0, 0, 0,
 ];
 
-/// Queries the empty key by a function file. It is refused with this fault, nothing is written to out, and all files stay.
+/// Queries the empty key by a function file. It fails with this fault, nothing is written to out, and all files stay.
 fn expect_fault(
     rt: &impl Abort,
     alloc: Global,
@@ -45,7 +45,7 @@ fn expect_fault(
     Ok(())
 }
 
-/// Each prefix of a dump but the whole is refused as cut off at its end.
+/// Each proper prefix of a dump is rejected as cut off at its end.
 fn expect_truncated(rt: &impl Abort, alloc: Global, dump: &[u8]) -> Result<(), AllocError> {
     for len in 0..dump.len() {
         let fault = format!(in alloc; "truncated at {len}")?;
@@ -54,7 +54,7 @@ fn expect_truncated(rt: &impl Abort, alloc: Global, dump: &[u8]) -> Result<(), A
     Ok(())
 }
 
-/// A dump with other bytes from a place on is refused.
+/// A dump with other bytes from a place on is rejected.
 fn expect_changed(
     rt: &impl Abort,
     alloc: Global,
@@ -69,12 +69,12 @@ fn expect_changed(
             *old = *byte;
         }
     }
-    // A change that changes nothing shows nothing.
+    // A change must change some byte.
     expect_equal_at(rt, &(place, fault), &(changed.as_slice() == dump), &false);
     expect_fault(rt, alloc, &changed, fault)
 }
 
-/// Each proper prefix of a dump by each algorithm is refused at its length.
+/// Each proper prefix of a dump by each algorithm is rejected at its length.
 #[test]
 fn prefixes(rt: HostRuntime) -> Result<(), Fail> {
     let dumps: [&[u8]; 4] = [&CHM_TWO, &BDZ_ONE, &BDZ_PH_TWO, &BRZ_TWO];

@@ -67,7 +67,7 @@ impl Faults {
         faults
     }
 
-    /// A disk has so much room for each file and each spill.
+    /// A disk has this room for each file and each spill.
     pub(crate) fn disk_room(room: usize) -> Faults {
         let mut faults = Faults::none();
         faults.disk_room = room;
@@ -166,8 +166,8 @@ pub(crate) fn expect_done(rt: &impl Abort, command: &Command, left: &Left) {
     expect_others_kept(rt, command, left);
 }
 
-/// Fails the test unless the run ended with this status and message, and wrote a prefix of the command's own text to out. What it left of the function file
-/// is another matter.
+/// Fails the test unless the run ended with this status and message, and wrote a prefix of the command's own text to out. The function
+/// file is not checked.
 pub(crate) fn expect_stopped(
     rt: &impl Abort,
     command: &Command,

@@ -18,7 +18,7 @@ fn longest_key(alloc: Global) -> Result<Vec<u8>, AllocError> {
     vec![in alloc; b'b'; 65_535]
 }
 
-/// So many lines of the longest key, each with this end.
+/// `count` lines of the longest key, each with this end.
 fn long_lines(alloc: Global, count: u64, end: &[u8]) -> Result<Vec<u8>, AllocError> {
     let key = longest_key(alloc)?;
     let mut lines = Vec::new(alloc);
@@ -29,7 +29,7 @@ fn long_lines(alloc: Global, count: u64, end: &[u8]) -> Result<Vec<u8>, AllocErr
     Ok(lines)
 }
 
-/// What a query says after so many lines: each but the first has its number again, and then the keys file can't be read.
+/// What a query says after `lines` lines: each except the first repeats its number, and then the keys file can't be read.
 fn message_after(alloc: Global, lines: u64) -> Result<String, AllocError> {
     let mut text = String::new(alloc);
     for line in 0..lines {
@@ -42,7 +42,7 @@ fn message_after(alloc: Global, lines: u64) -> Result<String, AllocError> {
     Ok(text)
 }
 
-/// Lets one read fail, and says whether it was one of the keys file. Then the lines that were read before are out, and noted.
+/// Lets one read fail, and returns whether it was one of the keys file. Then the lines that were read before are out, and noted.
 fn fail_read(
     rt: &impl Abort,
     alloc: Global,
@@ -65,7 +65,7 @@ fn fail_read(
     Ok(true)
 }
 
-/// Lets each read fail up to the one that finds the end of the keys file, and says whether one of them was of the keys file.
+/// Lets each read fail up to the one that finds the end of the keys file, and returns whether one of them was of the keys file.
 fn fail_each_read(rt: &impl Abort, alloc: Global, command: &Command) -> Result<bool, AllocError> {
     let mut found = false;
     for number in 0..=LINES {
@@ -76,8 +76,8 @@ fn fail_each_read(rt: &impl Abort, alloc: Global, command: &Command) -> Result<b
     Ok(found)
 }
 
-/// In a query of a long keys file the reads of the function file fail first and then those of the keys file. The function of one key gives
-/// every key the number 0.
+/// In a query of a long keys file the reads of the function file fail first and then those of the keys file. The function of one key maps
+/// every key to 0.
 #[test]
 fn long_keys_file(rt: HostRuntime) -> Result<(), Fail> {
     let alloc = rt.alloc();

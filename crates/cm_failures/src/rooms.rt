@@ -17,7 +17,7 @@ const TWO_RECORDS: usize = 21;
 /// How many bytes the spill of one generated key has: a record with 10 bytes before its key of 14.
 const ONE_RECORD: usize = 24;
 
-/// The disk has each room from this one on that is too little for the function file, which then gets just so many bytes.
+/// The disk has each room from this one on that is too little for the function file, which is then filled up to the room.
 fn cut_file(
     rt: &impl Abort,
     alloc: Global,
@@ -34,7 +34,7 @@ fn cut_file(
     Ok(())
 }
 
-/// The disk has each room that is too little for a spill of so many bytes. The function file is as before.
+/// The disk has each room that is too little for a spill of this size. The function file is as before.
 fn cut_spill(
     rt: &impl Abort,
     alloc: Global,
@@ -74,7 +74,7 @@ fn miss_keys(rt: &impl Abort, alloc: Global, command: Command<'static>) -> Resul
     Ok(())
 }
 
-/// A build by CHM leaves just as much of its function file as there is room for.
+/// A build by CHM leaves as much of its function file as there is room for.
 #[test]
 fn chm_rooms(rt: HostRuntime) -> Result<(), Fail> {
     let alloc = rt.alloc();
@@ -95,7 +95,7 @@ fn brz_rooms(rt: HostRuntime) -> Result<(), Fail> {
     Ok(())
 }
 
-/// A test of one key needs room on the disk for its spill alone.
+/// A test of one key needs room on the disk only for its spill.
 #[test]
 fn test_rooms(rt: HostRuntime) -> Result<(), Fail> {
     let alloc = rt.alloc();

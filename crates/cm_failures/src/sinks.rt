@@ -12,13 +12,13 @@ use std::alloc::{AllocError, Global};
 use std::process::Abort;
 use std::test::Fail;
 
-/// No command here writes so often to out.
+/// More writes than any command here makes to out.
 const MOST: u64 = 64;
 
-/// No message has so many pieces, which are a write each.
+/// More pieces than any message has. Each is one write.
 const MOST_PIECES: u64 = 12;
 
-/// Out has each room that is too little for the command's text, and takes just so many bytes of it.
+/// Out has each room that is too little for the command's text, and takes as much of it as fits.
 fn cut_out(rt: &impl Abort, alloc: Global, command: &Command) -> Result<(), AllocError> {
     for room in 0..command.out.len() {
         let mut faults = Faults::none();
@@ -41,7 +41,7 @@ fn fill_out(rt: &impl Abort, alloc: Global, command: &Command) -> Result<(), All
     Ok(())
 }
 
-/// Lets one write to out fail, and says whether the command came to it.
+/// Lets one write to out fail, and returns whether the command reached it.
 fn fail_out(
     rt: &impl Abort,
     alloc: Global,
@@ -80,7 +80,7 @@ fn fail_each_out(rt: &impl Abort, alloc: Global, command: &Command) -> Result<()
     Ok(())
 }
 
-/// Fails the test unless two runs differ in nothing but err.
+/// Fails the test unless two runs differ at most in err.
 fn expect_same(rt: &impl Abort, command: &Command, left: &Left, sound: &Left) {
     let at = (command.words, left.faults);
     expect_equal_at(rt, &at, &left.status, &sound.status);
@@ -94,7 +94,7 @@ fn expect_same(rt: &impl Abort, command: &Command, left: &Left, sound: &Left) {
     );
 }
 
-/// Err has each room that is too little for its text, and takes just so many bytes of it.
+/// Err has each room that is too little for its text, and takes as much of it as fits.
 fn cut_err(
     rt: &impl Abort,
     alloc: Global,
@@ -175,7 +175,7 @@ fn expect_no_out(rt: &impl Abort, alloc: Global, command: &Command) -> Result<()
     Ok(())
 }
 
-/// A failing err changes nothing but err, in builds that say what they have built.
+/// A failing err changes only err, in builds that say what they have built.
 #[test]
 fn verbose_err(rt: HostRuntime) -> Result<(), Fail> {
     let chm = verbose_chm_build();
@@ -185,7 +185,7 @@ fn verbose_err(rt: HostRuntime) -> Result<(), Fail> {
     Ok(())
 }
 
-/// A failing err changes nothing but err, where a call of the disk has failed before.
+/// A failing err changes only err, if a call of the disk has failed before.
 #[test]
 fn err_after_a_fault(rt: HostRuntime) -> Result<(), Fail> {
     let alloc = rt.alloc();
@@ -202,7 +202,7 @@ fn err_after_a_fault(rt: HostRuntime) -> Result<(), Fail> {
     Ok(())
 }
 
-/// A failing err changes nothing but err, where out has failed before.
+/// A failing err changes only err, if out has failed before.
 #[test]
 fn err_after_out(rt: HostRuntime) -> Result<(), Fail> {
     let mut faults = Faults::none();

@@ -15,6 +15,6 @@ new_turns passes = record { passes = passes; turn = 0; place = 0 }
 abbrev pub contents : TurnsInMemory → List ℕ
 contents source = slice_index_or source.passes source.turn []
 
--- the start of the next pass; after the last pass comes the last again
+-- the start of the next pass; the last pass is repeated
 abbrev pub turned : TurnsInMemory → TurnsInMemory
 turned source = record source { turn = min (source.turn + 1) (length source.passes - 1); place = 0 }

@@ -13,7 +13,7 @@ use std::alloc::{AllocError, Global};
 use std::marker::Model;
 
 /// A disk where each path is a file whose contents change from pass to pass, and where one byte of each spill reads wrongly. Each writer
-/// and each spill has room for so many bytes. The disk's own calls fail only if memory runs out.
+/// and each spill has room for `room` bytes. The disk's own calls fail only if memory runs out.
 #[derive(Drop)]
 pub struct BentDisk {
     alloc: Global,
@@ -45,8 +45,8 @@ impl Model for BentDisk {
 }
 
 impl BentDisk {
-    /// A disk whose files have these contents, one entry for each pass and one at least, and whose writers and spills have room for
-    /// `room` bytes. The byte at `place`, counted from 0, of each spill reads as `value`.
+    /// A disk whose files have these contents, one entry for each pass and at least one, and whose writers and spills have room for `room`
+    /// bytes. The byte at `place`, counted from 0, of each spill reads as `value`.
     pub fn new(alloc: Global, room: usize, passes: Vec<Vec<u8>>, place: u64, value: u8) -> BentDisk
         requires some { 0 < length passes.items }
         ensures state { result ≡ record {
@@ -99,7 +99,7 @@ impl Disk for BentDisk {
         ensures write_faults { self.new.write_faults ≡ self.old.write_faults }
         ensures cause { HasDiskCause 0 0 result }
 
-        // It gives a reader over a copy of the contents, or there is too little memory. Nothing changes.
+        // Returns a reader over a copy of the contents, or fails if memory runs out. Nothing changes.
         ensures reader { IfOk result (λ reader. reader ≡ new_turns self.old.passes) }
         ensures memory { IfErr result (λ fault. fault ≡ DiskFault.Memory) }
         ensures state { self.new ≡ self.old }
@@ -121,7 +121,7 @@ impl Disk for BentDisk {
         ensures fresh { IfOk result (λ writer. writer.faults ≡ 0) }
         ensures empty { IfOk result (λ writer. ForSome (Some writer.bytes) (λ bytes. bytes ≡ [])) }
 
-        // It gives a writer with the room, or there is too little memory. Nothing changes.
+        // Returns a writer with the room, or fails if memory runs out. Nothing changes.
         ensures writer { IfOk result (λ writer. writer ≡ new_sink self.old.room []) }
         ensures memory { IfErr result (λ fault. fault ≡ DiskFault.Memory) }
         ensures state { self.new ≡ self.old }
@@ -133,7 +133,7 @@ impl Disk for BentDisk {
         ensures files { Closes path.now (Some writer.bytes) None None result }
         ensures cause { HasCloseCause writer.faults self.old.write_faults self.new.write_faults result }
 
-        // It never fails, and keeps what was written.
+        // Never fails, and keeps what was written.
         ensures fine { IsOk result }
         ensures state { self.new ≡ record self.old {
           made = Some writer.bytes;
@@ -151,7 +151,7 @@ impl Disk for BentDisk {
         ensures cause { HasDiskCause self.old.write_faults self.new.write_faults result }
         ensures fresh { IfOk result (λ spill. spill.faults ≡ 0) }
 
-        // It gives a spill with the room and the wrong byte, or there is too little memory. Nothing changes.
+        // Returns a spill with the room and the wrong byte, or fails if memory runs out. Nothing changes.
         ensures spill { IfOk result (λ spill. spill ≡ new_bent self.old.room self.old.place self.old.value) }
         ensures memory { IfErr result (λ fault. fault ≡ DiskFault.Memory) }
         ensures state { self.new ≡ self.old }

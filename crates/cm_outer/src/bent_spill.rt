@@ -9,8 +9,8 @@ use crate::{Failed, MemSpill, Spill};
 use std::alloc::{AllocError, Global};
 use std::marker::Model;
 
-/// Memory with room for so many bytes, which are read from any place. The byte at one place reads as a fixed value, whatever was
-/// appended there. An append fails if its piece doesn't fit, and no other call does.
+/// Memory with room for `room` bytes, which are read from any place. The byte at `place` reads as a fixed value, whatever was appended
+/// there. An append fails if its piece doesn't fit, and no other call does.
 #[derive(Drop)]
 pub struct BentSpill {
     spill: MemSpill,
@@ -36,7 +36,7 @@ impl Model for BentSpill {
 }
 
 impl BentSpill {
-    /// Room for `room` bytes, of which none is appended. The byte at `place`, counted from 0, will read as `value`.
+    /// An empty spill with room for `room` bytes. The byte at `place`, counted from 0, will read as `value`.
     pub fn new(alloc: Global, room: usize, place: u64, value: u8) -> Result<BentSpill, AllocError>
         ensures state { IfOk result (λ spill. spill ≡ new_bent room place value) }
     {
@@ -65,7 +65,7 @@ impl Spill for BentSpill {
         ensures bytes { Writes None None piece.now result }
         ensures cause { HasCause self.old.faults self.new.faults result }
 
-        // It fails exactly if the piece doesn't fit, and then takes what does.
+        // Fails exactly if the piece doesn't fit, and then takes what does.
         ensures fails { IsErr result ↔ (self.old.room < length self.old.bytes + length piece.now) }
         ensures ok { OnOk result (self.new ≡ record self.old { bytes = self.old.bytes ++ piece.now }) }
         ensures err { OnErr result (self.new ≡ record self.old {
@@ -80,7 +80,7 @@ impl Spill for BentSpill {
         ensures bound { IfOk result (λ n. n ≤ length buf.old) }
         ensures cause { HasCause self.old.faults self.new.faults result }
 
-        // It never fails, changes nothing, and gives as many bytes as there are and fit.
+        // Never fails, changes nothing, and reads as many bytes as are left and fit.
         ensures fine { IsOk result }
         ensures count { IfOk result (λ n. n ≡ min (length self.old.bytes - offset) (length buf.old)) }
         ensures bytes { IfOk result (λ n. buf.new ≡ take n (drop offset (bent self.old)) ++ drop n buf.old) }
@@ -92,7 +92,7 @@ impl Spill for BentSpill {
     }
 }
 
-/// Sets the byte of a place to the value, in bytes that begin at an offset. Bytes that don't reach the place stay.
+/// Sets the byte at a place to the value, in bytes that begin at an offset. Bytes that don't reach the place stay.
 fn bend(bytes: &mut [u8], offset: u64, place: u64, value: u8)
     ensures before { place < offset → bytes.new ≡ bytes.old }
     ensures within { offset ≤ place → bytes.new ≡ slice_set bytes.old (place - offset) value }

@@ -6,8 +6,8 @@ ghost use Rattle.cm_outer.specs.TurnSources.{new_turns, contents, turned};
 use crate::{Failed, Source};
 use std::marker::Model;
 
-/// Bytes in memory that change from pass to pass: the first entry's, after a rewind the second's, and so on. The last entry's come again
-/// from then on. No call fails.
+/// Bytes in memory that change from pass to pass: those of the first entry, after a rewind those of the second, and so on. The last entry
+/// is repeated from then on. No call fails.
 #[derive(Drop)]
 pub struct TurnSource {
     passes: Vec<Vec<u8>>,
@@ -28,7 +28,7 @@ impl Model for TurnSource {
 }
 
 impl TurnSource {
-    /// A source at the start of the first of these entries, of which there is one at least.
+    /// A source at the start of the first of these entries. There is at least one.
     pub fn new(passes: Vec<Vec<u8>>) -> TurnSource
         requires some { 0 < length passes.items }
         ensures state { result ≡ new_turns (map (λ v. v.items) passes.items) }
@@ -40,7 +40,7 @@ impl TurnSource {
         }
     }
 
-    /// The bytes that the current pass has not given.
+    /// The bytes of the current pass that were not read.
     fn rest(&self) -> &[u8]
         ensures rest { result.now ≡ drop self.now.place (contents self.now) }
         ensures end { self.now.place + length result.now < 2 ^ 64 }
@@ -61,7 +61,7 @@ impl Source for TurnSource {
         ensures bound { IfOk result (λ n. n ≤ length buf.old) }
         ensures cause { HasCause 0 0 result }
 
-        // It never fails, and gives as many bytes as there are and fit.
+        // Never fails, and reads as many bytes as are left and fit.
         ensures fine { IsOk result }
         ensures count { IfOk result (λ n. n ≡ min (length (contents self.old) - self.old.place) (length buf.old)) }
         ensures bytes { IfOk result (λ n. buf.new ≡ take n (drop self.old.place (contents self.old)) ++ drop n buf.old) }
@@ -78,7 +78,7 @@ impl Source for TurnSource {
         ensures start { OnOk result (self.new.place ≡ 0) }
         ensures cause { HasCause 0 0 result }
 
-        // It never fails, and the next entry is read from then on, or the last one again.
+        // Never fails, and the next entry is read from then on, or the last one is repeated.
         ensures fine { IsOk result }
         ensures state { self.new ≡ turned self.old }
     {

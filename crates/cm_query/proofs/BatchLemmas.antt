@@ -127,7 +127,7 @@ pub same_first : (keys : List (ℕ × List ℕ)) → 0 < length keys → (none d
 same_first [] some none d = absurd (omega (arith, some))
 same_first (k ∷ ks) some none d = refl
 
--- After the line of a key, a further one waits or is at hand, or all was sent on.
+-- After the line of a key, a further one waits or is buffered, or out was flushed.
 pub sent_next : (sends : Bool) (now next left : ℕ) (at_hand : Type 0) → now ≡ 1 + next → (sends ≡ true → left ≡ 0) → (sends ≡ false → (1 < now) ⊎ at_hand) → (0 < next) ⊎ (at_hand ⊎ (left ≡ 0))
 sent_next true now next left at_hand one sent more = inr (inr (sent refl))
 sent_next false now next left at_hand one sent more = ⊎_elim (λ some. inl (omega (arith, one, some))) (λ there. inr (inl there)) (more refl)

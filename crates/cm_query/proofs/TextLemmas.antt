@@ -42,7 +42,7 @@ front_of_next end f keys before i old new is =
       is ∙ ap (then_bytes old) (ap (λ (l : List ℕ). a ++ l) (sym (take_min i x) ∙ sym (take-append-le m x rest in_text)) ∙ sym (take-append-add a (x ++ rest) m) ∙ ap (λ (l : List ℕ). take (length a + m) l) (sym whole)),
     )
 
--- What out has after a refusal is a prefix of the text of all keys.
+-- After a failure out has a prefix of the text of all keys.
 pub front_after : (end : ℕ) (f : List ℕ → Option ℕ) (keys : List (ℕ × List ℕ)) (given : ℕ) (old new : Option (List ℕ)) (fault : QueryFault) → TextAfter end f keys given old new fault → (n : ℕ) × (new ≡ then_bytes old (take n (text_of end f keys)))
 front_after end f keys given old new Memory is = (0, is ∙ then_nothing old)
 front_after end f keys given old new (Key fault) is = front_of_given end f keys given old new is

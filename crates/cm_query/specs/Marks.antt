@@ -1,4 +1,4 @@
--- Marks of answers: a cell for each number, which is 1 where an earlier key has that answer.
+-- Marks of answers: a cell for each number, which is 1 if an earlier key has that answer.
 use Rattle.std.specs.Prelude.{ℕ, ◌==◌, List, Option, None, Some, Bool, false, slice_index, slice_set}
 
 -- the answer is there and is marked

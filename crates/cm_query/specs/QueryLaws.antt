@@ -5,7 +5,7 @@ use Rattle.cm_query.specs.Stops.{IsReached, StopsAt}
 use Rattle.cm_query.specs.declared.fault.QueryFault.{QueryFault}
 use Rattle.cm_query.specs.declared.fault.QueryFault.TheVariants.{Memory, Key, Write}
 
--- the keys that were come to stop where those given do
+-- what `StopsAt` says of the keys yielded holds also of the keys reached
 pub stops_reached : (told : Told) (given reached : ℕ) (fault : QueryFault) → StopsAt told given fault → IsReached given reached fault → StopsAt told reached fault
 stops_reached told given reached Memory stops is = is
 stops_reached told given reached (Key fault) stops is = subst (λ (n : ℕ). StopsAt told n (Key fault)) (sym is) stops

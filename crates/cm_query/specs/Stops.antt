@@ -8,21 +8,21 @@ use Rattle.cm_query.specs.Texts.{text_of}
 use Rattle.cm_query.specs.declared.fault.QueryFault.{QueryFault}
 use Rattle.cm_query.specs.declared.fault.QueryFault.TheVariants.{Memory, Key, Write}
 
--- `Key Read` exactly where the count of the pass rose, and `Write` exactly where that of out did
+-- `Key Read` exactly if the count of the pass rose, and `Write` exactly if that of out did
 abbrev pub HasQueryCause : {T : Type 0} → ℕ → ℕ → ℕ → ℕ → Result T QueryFault → Type 0
 HasQueryCause keys keys' out out' (Ok x) = (keys' ≡ keys) × (out' ≡ out)
 HasQueryCause keys keys' out out' (Err Memory) = (keys' ≡ keys) × (out' ≡ out)
 HasQueryCause keys keys' out out' (Err (Key fault)) = HasKeyCause {T = Unit {0}} keys keys' (Err fault) × (out' ≡ out)
 HasQueryCause keys keys' out out' (Err Write) = (keys' ≡ keys) × (out ≤ out') × Rose out out'
 
--- whether the pass is usable after a query: unless it was the pass that refused
+-- whether the pass is usable after a query: unless it was the pass that failed
 abbrev pub is_usable_after : {T : Type 0} → Result T QueryFault → Bool
 is_usable_after (Ok x) = true
 is_usable_after (Err Memory) = true
 is_usable_after (Err (Key fault)) = false
 is_usable_after (Err Write) = true
 
--- where a refusal comes, by how many of the told keys were given: those of the keys' end after all of them
+-- where a failure comes, by how many of the known keys were yielded: the fault at the keys' end after all of them
 abbrev pub StopsAt : Told → ℕ → QueryFault → Type 0
 StopsAt told given Memory = given ≡ 0
 StopsAt told given (Key Read) = given ≤ length told.keys
@@ -30,20 +30,21 @@ StopsAt told given (Key (TooLong line)) = Ends told given (Some (TooLong line))
 StopsAt told given (Key TooMany) = Ends told given (Some TooMany)
 StopsAt told given Write = (0 < given) × (given ≤ length told.keys)
 
--- how many of the keys given were come to at a refusal: all; after `Write` those up to the one whose line failed
+-- how many of the keys yielded were reached at a failure: all; after `Write` those up to the one whose line failed
 abbrev pub IsReached : ℕ → ℕ → QueryFault → Type 0
 IsReached given reached Memory = reached ≡ 0
 IsReached given reached (Key fault) = reached ≡ given
 IsReached given reached Write = (0 < reached) × (reached ≤ given)
 
--- what out has after a refusal: the text of the keys that were come to; after `Write` that of all but the last, and a prefix of the last one's
+-- what out has after a failure: the text of the keys that were reached; after `Write` that of all except the last, and a prefix of the
+-- last one's
 abbrev pub TextAfter : ℕ → (List ℕ → Option ℕ) → List (ℕ × List ℕ) → ℕ → Option (List ℕ) → Option (List ℕ) → QueryFault → Type 0
 TextAfter end f keys reached old new Memory = new ≡ old
 TextAfter end f keys reached old new (Key fault) = new ≡ then_bytes old (text_of end f (take reached keys))
 TextAfter end f keys reached old new Write =
     (n : ℕ) × (new ≡ then_bytes old (text_of end f (take (reached - 1) keys) ++ take n (text_of end f (take 1 (drop (reached - 1) keys)))))
 
--- the keys whose notes err has after a refusal: those that were come to; after `Write` all but the last
+-- the keys whose notes err has after a failure: those that were reached; after `Write` all except the last
 abbrev pub noted_keys : List (ℕ × List ℕ) → ℕ → QueryFault → List (ℕ × List ℕ)
 noted_keys keys reached Memory = []
 noted_keys keys reached (Key fault) = take reached keys

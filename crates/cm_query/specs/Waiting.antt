@@ -41,17 +41,17 @@ pub record AreAnswers (f : List ℕ → Option ℕ) (span : ℕ) (waiting : Wait
   pub are : waiting.answers ≡ map (λ k. f k.1) waiting.keys
   pub inside : All (λ a. IfSome a (λ v. v < span)) waiting.answers
 
--- the keys that wait and those that the pass has not given are still the same
+-- the keys that wait and those that the pass has not yielded are still the same
 abbrev pub Takes : Told → ℕ → ℕ → List (ℕ × List ℕ) → List (ℕ × List ℕ) → Type 0
 Takes told before now old new = new ++ drop now told.keys ≡ old ++ drop before told.keys
 
--- A key waits, or there is none more, or the pass refused.
+-- A key waits, or there is no further one, or the pass failed.
 abbrev pub Refills : Told → ℕ → ℕ → List (ℕ × List ℕ) → List (ℕ × List ℕ) → Result Bool KeyFault → Type 0
 Refills told before now old new (Ok true) = Takes told before now old new
 Refills told before now old new (Ok false) = Ends told before None
 Refills told before now old new (Err fault) = GivesKey told before now 0 [] (Err fault)
 
--- how many keys the pass gave then: where none waits any more, it was asked
+-- how many keys the pass yielded then: if none waits any more, it was called
 abbrev pub RefillsBy : ℕ → ℕ → ℕ → ℕ → Result Bool KeyFault → Type 0
 RefillsBy before now old new (Ok true) = (0 < new) × (now + old ≡ before + new)
 RefillsBy before now old new (Ok false) = (old ≡ 0) × (now ≡ before)

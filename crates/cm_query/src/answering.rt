@@ -19,10 +19,10 @@ use cm_scheme::Answers;
 use itoa::Buffer;
 use std::alloc::Global;
 
-/// Answers each key of a pass that stands at its start: its line goes to out and then, where it has no answer or one that an
-/// earlier key has, a note to err. One bit for each number of the span is taken first, and no other memory. Keys at hand are taken
-/// some at a time, with all lines of those before written. The lines so far are sent on before a key is read that is not at hand,
-/// so none waits at the end or where a read fails.
+/// Looks up each key of a pass that stands at its start. If it has an answer, its line goes to out; if it has none, or one that an earlier
+/// key has, a note goes to err. One bit for each number of the span is allocated first, and no other memory. Buffered keys are taken
+/// several at a time, after all lines of earlier keys were written. Out is flushed before a key is read that is not buffered, so no line
+/// is left in its buffer at the end or if a read fails.
 pub fn query<A: Answers, P: KeyPass, O: Sink, E: Sink>(
     alloc: Global,
     function: &A,
@@ -34,7 +34,7 @@ pub fn query<A: Answers, P: KeyPass, O: Sink, E: Sink>(
     requires usable { IsTrue (P.usable keys.old) }
     requires start { P.place keys.old ≡ 0 }
 
-    // Whatever the pass tells.
+    // Whether or not the keys are known.
     ensures told { P.told keys.new ≡ P.told keys.old }
     ensures usable { P.usable keys.new ≡ is_usable_after result }
     ensures cause { HasQueryCause (P.faults keys.old) (P.faults keys.new) (O.faults out.old) (O.faults out.new) result }
@@ -43,21 +43,21 @@ pub fn query<A: Answers, P: KeyPass, O: Sink, E: Sink>(
     ensures appends { (text : List ℕ) × (O.written out.new ≡ then_bytes (O.written out.old) text) }
     ensures says { (text : List ℕ) × Noted notes.old notes.new (E.written err.old) (E.written err.new) (E.faults err.old) (E.faults err.new) text }
 
-    // Want of memory comes before all else.
+    // If memory runs out, nothing has changed.
     ensures memory { result ≡ Err QueryFault.Memory → (keys.new ≡ keys.old) × (out.new ≡ out.old) × (err.new ≡ err.old) × (notes.new ≡ notes.old) }
 
-    // What was written has been sent on, unless out failed, and what was noted, unless a note failed.
+    // The buffer of out is empty, unless out failed, and that of err, unless a note failed.
     ensures sent { O.waits out.old ≡ 0 → IsSent (O.waits out.new) (O.faults out.old) (O.faults out.new) }
     ensures notes_sent { (notes.old ≡ false → E.waits err.old ≡ 0) → notes.new ≡ false → E.waits err.new ≡ 0 }
 
-    // The end of told keys.
+    // The end of known keys.
     ensures end { OnOk result (ForSome (P.told keys.old) (λ told. told.fault ≡ None)) }
     ensures tally { IfOk result (λ tally. ForSome (P.told keys.old) (λ told. tally ≡ tally_of (A.answer_of function.now) told.keys)) }
     ensures text { OnOk result (ForSome (P.told keys.old) (λ told. O.written out.new ≡ then_bytes (O.written out.old) (text_of LINE_END (A.answer_of function.now) told.keys))) }
     ensures notes { OnOk result (ForSome (P.told keys.old) (λ told.
         Noted notes.old notes.new (E.written err.old) (E.written err.new) (E.faults err.old) (E.faults err.new) (notes_of (A.answer_of function.now) told.keys))) }
 
-    // A refusal over told keys. After `Write` the pass may have given more keys than were come to.
+    // A failure over known keys. After `Write` the pass may have yielded more keys than were reached.
     ensures stops { IfErr result (λ fault. ForSome (P.told keys.old) (λ told. StopsAt told (P.place keys.new) fault)) }
     ensures after { IfErr result (λ fault. ForSome (P.told keys.old) (λ told. (reached : ℕ) × IsReached (P.place keys.new) reached fault
         × TextAfter LINE_END (A.answer_of function.now) told.keys reached (O.written out.old) (O.written out.new) fault
@@ -93,7 +93,7 @@ pub fn query<A: Answers, P: KeyPass, O: Sink, E: Sink>(
     }
 }
 
-/// Whether the next key has to be read: that may fail, so the lines of all keys before it are sent on first.
+/// Whether the next key is not buffered. Its read may fail, so out is flushed first.
 fn reads_next<P: KeyPass>(batch: &Batch, keys: &P) -> bool
     requires usable { IsTrue (P.usable keys.now) }
     requires waits { 0 < length batch.now.keys }

@@ -10,8 +10,8 @@ use cm_outer::{KeyBuf, KeyFault, KeyPass, MAX_KEYS};
 use cm_scheme::Answers;
 use std::marker::Model;
 
-/// Keys that were taken together and answered together, of which some still wait. Clauses see those that wait, with their lines,
-/// and their answers.
+/// Keys that were taken together and looked up together, of which some still wait. Clauses see those that wait, with their lines, and
+/// their answers.
 #[derive(Drop)]
 pub(crate) struct Batch {
     taken: Taken,
@@ -48,9 +48,9 @@ impl Batch {
         }
     }
 
-    /// Answers true where a key waits. Where none does, the next of a pass are taken and answered: one that is at hand, or else the
-    /// one that `next` gives, and those that are at hand then. False says that there is no further key; a refusal is that of the
-    /// pass. Neither comes where a key waits or is at hand.
+    /// Returns true if a key waits. If none does, takes and looks up the next keys of a pass: one that is buffered, or else the one that
+    /// `next` yields, and those that are buffered then. Returns false if there is no further key, and fails if the pass does. It does
+    /// neither if a key waits or is buffered.
     #[inline]
     pub(crate) fn refill<A: Answers, P: KeyPass>(
         &mut self,
@@ -78,7 +78,7 @@ impl Batch {
         self.fill(function, keys, key)
     }
 
-    /// The same where no key waits.
+    /// `refill`, if no key waits.
     fn fill<A: Answers, P: KeyPass>(
         &mut self,
         function: &A,

@@ -1,12 +1,12 @@
-//! Why a query was refused.
+//! Why a query failed.
 use cm_outer::KeyFault;
 
 /// Why a query stopped before the end of its keys.
 #[derive(Clone, Copy, Debug, PartialEq, Eq)]
 pub enum QueryFault {
-    /// Want of memory for the marks. It comes before the first key.
+    /// Out of memory for the marks, before the first key.
     Memory,
-    /// The pass of the keys was refused.
+    /// The pass over the keys failed.
     Key(KeyFault),
     /// Out failed.
     Write,

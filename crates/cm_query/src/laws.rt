@@ -7,12 +7,12 @@ ghost use Rattle.cm_query.specs.Tallies.{tally_of};
 ghost use Rattle.cm_query.specs.Texts.{notes_of, text_of};
 ghost use Rattle.cm_query.specs.declared.fault.QueryFault.{QueryFault};
 
-/// There is a note exactly where the tally has a key that is repeated or unknown.
+/// There is a note exactly if the tally has a key that is repeated or unknown.
 pub fn noted_exactly()
     ensures { (f : List ℕ → Option ℕ) (keys : List (ℕ × List ℕ)) → (notes_of f keys ≡ []) ↔ ((tally_of f keys).repeated + (tally_of f keys).unknown ≡ 0) }
 {}
 
-/// What out has after a refusal is a prefix of the text of all keys.
+/// After a failure out has a prefix of the text of all keys.
 pub fn front_of_text()
     ensures { (end : ℕ) (f : List ℕ → Option ℕ) (keys : List (ℕ × List ℕ)) (given : ℕ) (old new : Option (List ℕ)) (fault : QueryFault)
         → TextAfter end f keys given old new fault → (n : ℕ) × (new ≡ then_bytes old (take n (text_of end f keys))) }

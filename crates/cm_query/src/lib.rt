@@ -1,5 +1,4 @@
-//! Queries: the keys of a pass with the answers of a function, as text, with notes of keys that it doesn't know and of answers
-//! that come again.
+//! Queries: the keys of a pass with the answers of a function, as text, with notes of unknown keys and of repeated answers.
 #![tactic(auto)]
 
 mod answering;

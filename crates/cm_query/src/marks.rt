@@ -5,7 +5,7 @@ ghost use Rattle.cm_query.specs.Marks.{is_marked, marked};
 
 use cm_bits::{Bits, Cells};
 
-/// Marks an answer, and says whether it was marked before.
+/// Marks an answer, and returns whether it was marked before.
 pub(crate) fn mark(marks: &mut Bits, answer: Option<u32>) -> bool
     requires inside { ForSome answer (λ v. v < length (⟦<Bits as Cells>⟧.cells marks.old)) }
     ensures repeated { result ≡ is_marked (⟦<Bits as Cells>⟧.cells marks.old) answer }

@@ -10,8 +10,8 @@ use crate::batch::Batch;
 use cm_outer::{KeyBuf, KeyFault, KeyPass, MAX_KEYS};
 use cm_scheme::Answers;
 
-/// The sum of the answers of a function to the keys of a pass that stands at its start. A key without an answer counts 0. Keys at hand
-/// are taken and answered some at a time. It fails exactly where the pass does, and takes no memory.
+/// The sum of the answers of a function to the keys of a pass that stands at its start. A key without an answer counts 0. Buffered keys
+/// are taken and looked up several at a time. Fails exactly if the pass does, and allocates no memory.
 pub fn sum_answers<A: Answers, P: KeyPass>(function: &A, keys: &mut P) -> Result<u64, KeyFault>
     requires usable { IsTrue (P.usable keys.old) }
     requires start { P.place keys.old ≡ 0 }
@@ -32,6 +32,6 @@ pub fn sum_answers<A: Answers, P: KeyPass>(function: &A, keys: &mut P) -> Result
         sum += u64::from(batch.answer().unwrap_or(0));
         batch.pass();
     }
-    // A pass has no more keys.
+    // A pass yields no more keys than `MAX_KEYS`.
     unreachable!()
 }

@@ -12,7 +12,7 @@ use std::marker::Model;
 /// How many keys are taken together at most.
 pub(crate) const MOST: usize = 32;
 
-/// How many bytes they have at most. One more is taken only where half of that is free, so each finds room.
+/// How many bytes they have at most. A key is taken only if half of that is free, so each has room.
 const ROOM: usize = 2 * MAX_KEY_LEN;
 
 /// Where the bytes of a key stand, with its line and its place.
@@ -55,7 +55,7 @@ impl Taken {
         }
     }
 
-    /// Forgets the keys.
+    /// Removes the keys.
     pub(crate) fn clear(&mut self)
         ensures none { self.new.spots ≡ [] }
         ensures bytes { self.new.bytes ≡ 0 }
@@ -64,7 +64,7 @@ impl Taken {
         self.spots.clear();
     }
 
-    /// Whether a key more has room, however long.
+    /// Whether one more key of any length has room.
     fn has_room(&self) -> bool
         ensures few { result ≡ true → length self.now.spots < MOST }
         ensures room { result ≡ true → self.now.bytes + MAX_KEY_LEN ≤ ROOM }
@@ -92,8 +92,8 @@ impl Taken {
         });
     }
 
-    /// Takes the next key of a pass, where it is at hand. Where it isn't, the keys and the pass stay as they are. It runs
-    /// for each key, so it is inlined into each caller.
+    /// Takes the next key of a pass, if it is buffered. If it isn't, the keys and the pass stay as they are. Runs for each key, so it is
+    /// inlined into each caller.
     #[inline(always)]
     fn take_next<A: Answers, P: KeyPass>(&mut self, function: &A, keys: &mut P) -> bool
         requires usable { IsTrue (P.usable keys.old) }
@@ -120,8 +120,8 @@ impl Taken {
         true
     }
 
-    /// Takes the first key where none was taken: the next of a pass that is at hand, or else the one that `next` gives. False says
-    /// that there is none; a refusal is that of the pass. Neither comes where a key is at hand.
+    /// Takes the first key: the next of a pass if it is buffered, or else the one that `next` yields. Returns false if there is none, and
+    /// fails if the pass does. It does neither if a key is buffered.
     pub(crate) fn take_first<A: Answers, P: KeyPass>(
         &mut self,
         function: &A,
@@ -154,7 +154,7 @@ impl Taken {
         Ok(true)
     }
 
-    /// Takes the further keys of a pass that are at hand, as long as there is room.
+    /// Takes further keys of a pass that are buffered, as long as there is room.
     pub(crate) fn gather<A: Answers, P: KeyPass>(&mut self, function: &A, keys: &mut P)
         requires usable { IsTrue (P.usable keys.old) }
         requires few { P.place keys.old ≤ MAX_KEYS }

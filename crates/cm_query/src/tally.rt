@@ -1,7 +1,7 @@
 //! The counts of a query.
 ghost use Rattle.std.specs.Prelude.{◌≡◌, ◌+◌, ◌<◌, ◌≤◌, ◌^◌};
 
-/// How many keys a query answered.
+/// How many keys a query looked up.
 #[derive(Clone, Copy, Debug, PartialEq, Eq)]
 pub struct Tally {
     /// All keys.
@@ -15,7 +15,7 @@ pub struct Tally {
 impl Tally {
     ghost use Rattle.cm_query.specs.Tallies.{counted};
 
-    /// Counts one key more, with this answer, which is repeated or not.
+    /// Counts one more key, with this answer, which is repeated or not.
     pub(crate) fn count(&mut self, answer: Option<u32>, repeated: bool)
         requires room { self.old.lines + 1 < 2 ^ 32 }
         requires within { self.old.repeated + self.old.unknown ≤ self.old.lines }

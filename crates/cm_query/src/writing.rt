@@ -13,10 +13,10 @@ use itoa::Buffer;
 /// The byte that ends a line of the text on out.
 pub const LINE_END: u8 = 10;
 
-/// How long a line is at most that is put together before it is written.
+/// The length of the longest line that is written as one piece.
 const SHORT_LINE: usize = 256;
 
-/// How long the key of such a line is at most.
+/// The length of the longest key of such a line.
 const SHORT_KEY: usize = 241;
 
 /// Appends a part for which there is room.
@@ -57,8 +57,8 @@ fn write_short<O: Sink>(
     out.write(line.as_slice())
 }
 
-/// Writes the line of a key, if it has an answer, and after it, where `sends`, an empty piece, so that all lines reach what is
-/// behind the sink. Fails exactly where the sink does, which has then taken a prefix of the line.
+/// Writes the line of a key, if it has an answer, and then flushes the sink, if `sends`. Fails exactly if the sink does, which has then
+/// taken a prefix of the line.
 pub(crate) fn write_line<O: Sink>(
     out: &mut O,
     key: &[u8],

@@ -43,7 +43,7 @@ pub record AreHeld (bytes : List ℕ) (store : Store) (puts : List Record) : Typ
   pub rising : IsStrictlyIncreasing (map (λ r. r.line) puts)
   pub lines : All (λ r. (0 < r.line) × (r.line ≤ store.last)) puts
 
--- The store holds these records, where the spill's bytes are known.
+-- The store holds these records, if the spill's bytes are known.
 abbrev pub Holds : Store → List Record → Type 0
 Holds store puts = ForSome store.known (λ bytes. AreHeld bytes store puts)
 
@@ -72,7 +72,7 @@ abbrev pub GivesNext : ℕ → List Record → List Record → List ℕ → Opti
 GivesNext bucket left more key (Some line) = left ≡ record { bucket = bucket; line = line; key = key } ∷ more
 GivesNext bucket left more key None = (left ≡ []) × (more ≡ [])
 
--- A call answers `Failed` exactly where the count of the spill's faults rose.
+-- A call returns `Failed` exactly if the count of the spill's faults rose.
 abbrev pub HasSpillCause : {T : Type 0} → ℕ → ℕ → Result T SpillError → Type 0
 HasSpillCause before now (Ok x) = now ≡ before
 HasSpillCause before now (Err faults.Memory) = now ≡ before
@@ -84,19 +84,19 @@ abbrev pub IsOfWriting : SpillError → Type 0
 IsOfWriting (faults.Damaged offset expected found) = ⊥
 IsOfWriting e = Unit {0}
 
--- It isn't memory that ran out. Where the spill is said to be damaged, two numbers differ.
+-- Memory did not run out. If the spill is said to be damaged, two numbers differ.
 abbrev pub IsOfReading : SpillError → Type 0
 IsOfReading faults.Memory = ⊥
 IsOfReading faults.Failed = Unit {0}
 IsOfReading (faults.Damaged offset expected found) = (expected ≢ found)
 
--- Where the spill is said to be damaged, a record at the offset doesn't end by the end of its run, which was expected: the end of the
+-- If the spill is said to be damaged, a record at the offset doesn't end by the end of its run, which was expected: the end of the
 -- record was found, or that of the spill.
 abbrev pub IsOfEnd : SpillError → Type 0
 IsOfEnd (faults.Damaged offset expected found) = (offset ≤ expected) × (offset ≤ found) × (found ≤ offset + 65545)
 IsOfEnd e = Unit {0}
 
--- Where the spill is said to be damaged, a record is of a bucket below the one asked for; or of a line below the least that may come; or
+-- If the spill is said to be damaged, a record is of a bucket below the one asked for; or of a line below the least that may come; or
 -- it doesn't end by the end of its run.
 abbrev pub IsOfChecks : ℕ → ℕ → SpillError → Type 0
 IsOfChecks bucket least (faults.Damaged offset expected found) = ((expected ≡ bucket) × (found < bucket)) ⊎ (((expected ≡ least) × (found < least)) ⊎ IsOfEnd (faults.Damaged offset expected found))

@@ -10,7 +10,7 @@ use cm_outer::{Failed, Spill};
 use std::alloc::{AllocError, Global};
 use std::marker::Model;
 
-/// Bytes of a spill from an offset on, read by pieces.
+/// Bytes of a spill from an offset on, read piece by piece.
 #[derive(Drop)]
 pub(crate) struct Ahead {
     at: u64,
@@ -31,7 +31,7 @@ impl Model for Ahead {
 }
 
 impl Ahead {
-    /// The bytes from this offset on, with no room for a piece yet.
+    /// The bytes from this offset on, without a buffer yet.
     pub(crate) fn new(alloc: Global, at: u64) -> Ahead
         ensures state { result ≡ record { at = at; ready = []; room = 0 } }
     {
@@ -43,7 +43,7 @@ impl Ahead {
         }
     }
 
-    /// Makes room for pieces of this many bytes. Nothing was read yet.
+    /// Allocates a buffer of `size` bytes. Nothing was read yet.
     pub(crate) fn reserve(&mut self, size: usize) -> Result<(), AllocError>
         requires none { self.old.room ≡ 0 }
         ensures state { OnOk result (self.new ≡ record { at = self.old.at; ready = []; room = size }) }
@@ -58,7 +58,7 @@ impl Ahead {
         self.at
     }
 
-    /// Reads a piece, if no byte waits. False says that the spill has no more.
+    /// Reads a piece, if no byte is buffered. Returns false if the spill has no more.
     fn refill<P: Spill>(&mut self, spill: &mut P) -> Result<bool, Failed>
         requires room { 0 < self.old.room }
         ensures told { P.told spill.new ≡ P.told spill.old }
@@ -79,7 +79,7 @@ impl Ahead {
         Ok(n > 0)
     }
 
-    /// Puts this many of the next bytes into a buffer, or all of them if there are fewer.
+    /// Puts the next `len` bytes into a buffer, or all of them if there are fewer.
     pub(crate) fn take<P: Spill, const N: usize>(
         &mut self,
         spill: &mut P,
@@ -113,7 +113,7 @@ impl Ahead {
         Ok(())
     }
 
-    /// Reads a header. None says that the spill ends before it is whole, at the offset of the next byte.
+    /// Reads a header. Returns None if the spill ends before the header does; then `at` is the end of the spill.
     pub(crate) fn take_header<P: Spill>(&mut self, spill: &mut P) -> Result<Option<Header>, Failed>
         requires room { 0 < self.old.room }
         requires small { self.old.at + 10 < 2 ^ 64 }

@@ -8,13 +8,13 @@ use thiserror::Error;
 /// Why a store can't go on. Offsets are in bytes from 0.
 #[derive(Clone, Copy, Debug, PartialEq, Eq, Error)]
 pub enum SpillError {
-    /// There was too little memory.
+    /// Out of memory.
     #[error("out of memory")]
     Memory,
     /// The spill failed.
     #[error("the spill failed")]
     Failed,
-    /// The record at this offset isn't one that was appended: this number was expected, and that one found.
+    /// The record at this offset isn't one that was appended: the number `expected` was expected, and `found` was found.
     #[error("the spill is damaged at {offset}: {found} in place of {expected}")]
     Damaged {
         offset: u64,

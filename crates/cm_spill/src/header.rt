@@ -1,14 +1,14 @@
-//! What stands before the key of a record.
+//! The header of a record, which precedes its key.
 ghost use Rattle.std.specs.Prelude.{◌≡◌, ◌≤◌, ◌++◌, length, drop};
 ghost use Rattle.byteorder.specs.Endian.{little_bytes};
 ghost use Rattle.cm_spill.specs.Reading.{IsHeaderAt};
 
 use byteorder::{ByteOrder, LittleEndian};
 
-/// How many bytes stand before a key.
+/// How many bytes a header has.
 pub(crate) const HEADER: usize = 10;
 
-/// What stands before the key of a record: its bucket, its line and the number of the key's bytes.
+/// The header of a record: its bucket, its line and the length of its key.
 #[derive(Clone, Copy)]
 pub(crate) struct Header {
     pub(crate) bucket: u32,
@@ -16,7 +16,7 @@ pub(crate) struct Header {
     pub(crate) len: u16,
 }
 
-/// The header at the front of these bytes.
+/// The header at the start of these bytes.
 pub(crate) fn read_header(bytes: &[u8]) -> Header
     requires long { HEADER ≤ length bytes.now }
     ensures header { IsHeaderAt bytes.now result }

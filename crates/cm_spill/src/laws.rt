@@ -1,7 +1,7 @@
 //! What is true of every store, as functions whose clause is the law.
 ghost use Rattle.cm_spill.specs.StoresLaws.{AllWritten, HoldsBytes, ReadOneWay, TwoRecords};
 
-/// While its contents are known, a spill holds the bytes of all records that were put but for those that wait.
+/// While its contents are known, a spill holds the bytes of all records that were put, except those that wait.
 pub fn bytes_held()
     ensures held { HoldsBytes }
 {}

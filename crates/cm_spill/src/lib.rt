@@ -1,4 +1,4 @@
-//! Records of a spill: keys with their lines, put in any order of their buckets, and given back bucket by bucket. A buffer of a fixed size
+//! Records of a spill: keys with their lines, put in any order of their buckets, and read back bucket by bucket. A buffer of a fixed size
 //! holds the records that wait; each time it is full they are appended to the spill as a sorted run.
 #![tactic(auto)]
 

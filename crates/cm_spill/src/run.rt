@@ -48,7 +48,7 @@ impl Run {
         }
     }
 
-    /// Makes room to read ahead this many bytes.
+    /// Allocates a buffer of `size` bytes to read ahead.
     pub(crate) fn reserve(&mut self, size: usize) -> Result<(), AllocError>
         requires none { self.old.ahead.room ≡ 0 }
         ensures state { OnOk result (self.new ≡ record self.old { ahead = record { at = self.old.ahead.at; ready = []; room = size } }) }
@@ -107,7 +107,7 @@ impl Run {
         Ok(header)
     }
 
-    /// The header of the next record, which is read if it wasn't yet, or None at the end of the run.
+    /// The header of the next record, which is read unless it was read before, or None at the end of the run.
     #[inline(always)]
     fn peek<P: Spill>(&mut self, spill: &mut P) -> Result<Option<Header>, SpillError>
         requires room { 0 < self.old.ahead.room }

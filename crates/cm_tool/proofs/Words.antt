@@ -50,7 +50,7 @@ early_tested (Ok (Build job)) files old = tt
 early_tested (Ok (Query job)) files old = tt
 early_tested (Ok (Test job)) files old = got_nothing (test_outcome job files).out old old refl
 
--- want of memory before the job is known
+-- memory runs out before the job is known
 early_cut : (asked : Reading Job) (files : Files) (out err err_new : Option (List ℕ)) (before now : ℕ) → Says out_of_memory err err_new before now → ForQuery asked (IsCutShort files 6 out out err err_new before now)
 early_cut (Err fault) files out err err_new before now says = tt
 early_cut (Ok Help) files out err err_new before now says = tt
@@ -67,12 +67,12 @@ early_message (Ok (Build job)) out now same = message_is job out now stop.Memory
 early_message (Ok (Query job)) out now same = query_message_is job query_stop.Memory
 early_message (Ok (Test job)) out now same = test_message job Chm out now stop.Memory tt same
 
--- out has a front of a text that was written, whole or in part
+-- out has a prefix of a text that was written, whole or in part
 pub front_of : (r : Result (Unit {0}) Failed) (old new : Option (List ℕ)) (text : List ℕ) → Writes old new text r → (n : ℕ) × (new ≡ then_bytes old (take n text))
 front_of (Ok _) old new text wrote = (length text, wrote ∙ ap (then_bytes old) (sym (take_all (length text) text (omega arith))))
 front_of (Err _) old new text wrote = wrote
 
--- words that ask for no job
+-- arguments that ask for no job
 misused : (fault : UsageFault) (files : Files) (old : Option Files) (out err err_new : Option (List ℕ)) (before now : ℕ) → Says (usage_message fault) err err_new before now → old ≡ Some files → Reaches (job_outcome files (Err fault)) 2 out out err err_new before now old
 misused fault files old out err err_new before now says is = record {
   outcome = refusal 2 (usage_message fault) files;
@@ -101,11 +101,11 @@ printed text files found old out out_new err err_new before now found_is wrote s
 pub says_none : {old new : Option (List ℕ)} {before now : ℕ} → new ≡ old → now ≡ before → Says [] old new before now
 says_none {old = old} {before = before} same fine = rw (same, fine) (nothing_said old before)
 
--- what words that asked for no job, or for which memory was wanting, came to
+-- what arguments that asked for no job, or for which memory ran out, came to
 refused_for : (asked : Reading Job) (fault : UsageFault) (files : Files) (old : Option Files) (out err err_new : Option (List ℕ)) (before now : ℕ) → Err fault ≡ asked → Says (usage_message fault) err err_new before now → old ≡ Some files → Reaches (job_outcome files asked) 2 out out err err_new before now old
 refused_for asked fault files old out err err_new before now is says there = subst (λ (a : Reading Job). Reaches (job_outcome files a) 2 out out err err_new before now old) is (misused fault files old out err err_new before now says there)
 
--- a fault of words that isn't want of memory is what they ask for
+-- a fault of arguments, if memory did not run out, is what they ask for
 faulty : (asked : Reading Job) (fault : UsageFault) → usage_status_of fault ≢ 6 → (fault ≡ usage.Memory) ⊎ (Err fault ≡ asked) → Err fault ≡ asked
 faulty asked fault other (inl memory) = absurd (other (ap usage_status_of memory))
 faulty asked fault other (inr is) = is

@@ -35,13 +35,13 @@ abbrev pub HasQueryStopCause : {T : Type 0} → ℕ → ℕ → ℕ → ℕ → 
 HasQueryStopCause r r' w w' o o' (Ok _) = (r' ≡ r) × (w' ≡ w) × (o' ≡ o)
 HasQueryStopCause r r' w w' o o' (Err stop) = IsStopCause r r' w w' o o' stop
 
--- why a refused dump stops a query
+-- why a failed load stops a query
 abbrev pub stop_from_load : LoadFault → QueryStop
 stop_from_load faults.Memory = Memory
 stop_from_load faults.Read = NoFunction
 stop_from_load fault = BadDump fault
 
--- why a refused query of a pass stops a job
+-- why a failed query of a pass stops a job
 abbrev pub stop_from_query : QueryFault → QueryStop
 stop_from_query query_fault.Memory = Memory
 stop_from_query (query_fault.Key key_fault.Read) = Read
@@ -67,7 +67,7 @@ RefusesDump files path Write = ⊥
 RefusesDump files path (TooLong line) = ⊥
 RefusesDump files path TooMany = ⊥
 
--- the keys of a query's keys file, and none where there is no file
+-- the keys of a query's keys file, and none if there is no file
 abbrev pub keys_or_none : Option ℕ → Option (List ℕ) → List (ℕ × List ℕ)
 keys_or_none first None = []
 keys_or_none first (Some bytes) = (keys_in first bytes).keys
@@ -75,7 +75,7 @@ keys_or_none first (Some bytes) = (keys_in first bytes).keys
 abbrev pub keys_at : Files → QueryJob → List (ℕ × List ℕ)
 keys_at files job = keys_or_none job.first (file_at files job.keys)
 
--- The first `given` keys were answered, with their notes. Of the text of the next one, out got so many bytes.
+-- The first `given` keys were answered, with their notes. Of the text of the next one, out got a prefix.
 pub record AskedPart (f : List ℕ → Option ℕ) (keys : List (ℕ × List ℕ)) (old new : Option (List ℕ)) (notes : List ℕ) (given rest : ℕ) : Type 0 where
   pub out : new ≡ then_bytes old (text_of 10 f (take given keys) ++ take rest (text_of 10 f (take 1 (drop given keys))))
   pub notes_are : notes ≡ notes_of f (take given keys)

@@ -17,7 +17,7 @@ pub record Outcome : Type 0 where
 abbrev pub printing : List ℕ → Files → Outcome
 printing text files = record { status = 0; out = text; err = []; files = files }
 
--- a refusal: a status and a message, and nothing else
+-- a failure: a status and a message, and nothing else
 abbrev pub refusal : ℕ → List ℕ → Files → Outcome
 refusal status text files = record { status = status; out = []; err = text; files = files }
 

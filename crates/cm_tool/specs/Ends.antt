@@ -1,4 +1,4 @@
--- What a job that stopped answers and says.
+-- The status and the message of a job that stopped.
 use Rattle.std.specs.Prelude.{◌≡◌, ◌<◌, ◌^◌, ℕ, List, take, Option}
 use Rattle.cm_outer.specs.Writing.{then_bytes}
 use Rattle.cm_tool.specs.declared.stop.Stop.{Stop}
@@ -58,14 +58,14 @@ query_message_of job query_stop.Write = cannot_write_out
 query_message_of job (query_stop.TooLong line) = line_too_long job.keys line
 query_message_of job query_stop.TooMany = too_many_keys job.keys
 
--- the status of words that ask for no job
+-- the status of arguments that ask for no job
 abbrev pub usage_status_of : UsageFault → ℕ
 usage_status_of usage.Memory = 6
 usage_status_of usage.Words = 2
 usage_status_of (usage.BadValue letter) = 2
 usage_status_of usage.NoFile = 2
 
--- err got the text, or a front of it where its own count rose
+-- err got the text, or a prefix of it if its own count rose
 pub record Says (text : List ℕ) (old new : Option (List ℕ)) (before now : ℕ) : Type 0 where
   pub front : (n : ℕ) × (new ≡ then_bytes old (take n text))
   pub whole : before < 2 ^ 63 → now ≡ before → new ≡ then_bytes old text

@@ -25,7 +25,7 @@ use Rattle.cm_witness.specs.declared.certificate.Certificate.{Certificate}
 use Rattle.cm_witness.specs.declared.certificate.InBucket.{InBucket}
 use Rattle.cm_witness.specs.declared.certificate.Pair.{Pair}
 
--- the fault for a refused build by one seed
+-- the fault for a failed build by one seed
 abbrev pub fault_from_build : BuildFault → FuncFault
 fault_from_build build_fault.Memory = Memory
 fault_from_build build_fault.NoKeys = NoKeys
@@ -33,7 +33,7 @@ fault_from_build (build_fault.Cored made) = Cored made
 fault_from_build (build_fault.Key fault) = Key fault
 fault_from_build (build_fault.Changed first again) = Changed first again
 
--- and for a refused build by BRZ
+-- and for a failed build by BRZ
 abbrev pub fault_from_brz : BrzFault → FuncFault
 fault_from_brz brz_fault.Memory = Memory
 fault_from_brz brz_fault.NoKeys = NoKeys
@@ -87,7 +87,7 @@ FailsFunc algorithm b told c seeds (Changed first again) = ⊥
 FailsFunc algorithm b told c seeds Spill = Unit {0}
 FailsFunc algorithm b told c seeds (SpillDamaged offset expected found) = ⊥
 
--- how many keys there were in the first pass, and how many of a later one: fewer, or one more, where it stops
+-- how many keys there were in the first pass, and how many of a later one: fewer, or one more, at which it stops
 pub record IsChange (first again : ℕ) : Type 0 where
   pub some : 1 ≤ first
   pub differs : again ≢ first
@@ -110,7 +110,7 @@ IsReasonBy Brz reason = Unit {0}
 IsReasonBy algorithm NoSeed = Unit {0}
 IsReasonBy algorithm reason = ⊥
 
--- why a refused pass stops a job
+-- why a failed pass stops a job
 abbrev pub stop_from_key : KeyFault → Stop
 stop_from_key key_fault.Read = stops.Read
 stop_from_key (key_fault.TooLong line) = stops.TooLong line

@@ -41,7 +41,7 @@ abbrev pub HasOutCause : {T : Type 0} → ℕ → ℕ → Result T Stop → Type
 HasOutCause o o' (Ok _) = o' ≡ o
 HasOutCause o o' (Err stop) = IsOutCause o o' stop
 
--- a build over told keys gave the number of keys, the seed and the cells, in whatever number of steps
+-- a build over known keys returned the number of keys, the seed and the cells, in whatever number of steps
 pub record IsBuiltFrom (r : Rule) (told : Told) (c : ℕ) (seeds : List ℕ) (m seed : ℕ) (cells : List ℕ) : Type 0 where
   pub no_fault : told.fault ≡ None
   pub many : m ≡ length told.keys
@@ -61,7 +61,7 @@ pub record IsFuncOf (algorithm : Algorithm) (b : ℕ) (told : Told) (c : ℕ) (s
 abbrev pub IsFunctionOf : BuildJob → List ℕ → Func → Type 0
 IsFunctionOf job bytes f = IsFuncOf job.algorithm job.b (keys_in job.first bytes) job.c (seeds_tried job) f
 
--- what out got of a report: all of it, or a prefix where out failed
+-- what out got of a report: all of it, or a prefix if out failed
 abbrev pub GotReport : Shown → Option (List ℕ) → Option (List ℕ) → Stop → Type 0
 GotReport shown old new (Refused reason) = (reason ≡ shown.reason) × (new ≡ then_bytes old shown.report)
 GotReport shown old new WriteOut = (n : ℕ) × (new ≡ then_bytes old (take n shown.report))
@@ -83,7 +83,7 @@ abbrev pub HasKeptOut : {T : Type 0} → Option (List ℕ) → Option (List ℕ)
 HasKeptOut old new (Ok _) = new ≡ old
 HasKeptOut old new (Err stop) = KeepsOut old new stop
 
--- the keys are refused so, and this is what out had before and has now
+-- this is why the keys have no function, with what out had before and has now
 abbrev pub Refuses : BuildJob → Told → Option (List ℕ) → Option (List ℕ) → Stop → Type 0
 Refuses job told old new (Refused reason) = (shown : Shown) × HasNone job.algorithm job.b told job.c (seeds_tried job) shown × GotReport shown old new (Refused reason)
 Refuses job told old new WriteOut = (shown : Shown) × HasNone job.algorithm job.b told job.c (seeds_tried job) shown × GotReport shown old new WriteOut
@@ -93,7 +93,7 @@ Refuses job told old new (TooLong line) = told.fault ≡ Some (key_fault.TooLong
 Refuses job told old new TooMany = told.fault ≡ Some key_fault.TooMany
 Refuses job told old new stop = ⊥
 
--- a refusal over files: one for the keys or the spill shows that the keys file is there
+-- a failure over files: one for the keys or the spill shows that the keys file is there
 abbrev pub IsRefused : BuildJob → Files → Option (List ℕ) → Option (List ℕ) → Stop → Type 0
 IsRefused job files old new Memory = Unit {0}
 IsRefused job files old new Read = Unit {0}

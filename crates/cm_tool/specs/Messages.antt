@@ -16,7 +16,7 @@ use Rattle.cm_words.specs.declared.jobs.BuildJob.{BuildJob}
 abbrev pub out_of_memory : List ℕ
 out_of_memory = joined (codes "cmph: out of memory\n" ∷ [])
 
--- what is wrong with words that ask for no job
+-- what is wrong with arguments that ask for no job
 abbrev pub usage_message : UsageFault → List ℕ
 usage_message usage.Memory = out_of_memory
 usage_message usage.Words = joined (codes "cmph: bad arguments; cmph -h shows the usage\n" ∷ [])
@@ -58,7 +58,7 @@ fault_words (faults.BadCount at) = codes "bad count at "
 fault_words (faults.BadRank at) = codes "bad rank at "
 fault_words faults.Trailing = codes "trailing bytes"
 
--- at which byte it is wrong, where one is named
+-- at which byte it is wrong, if one is named
 abbrev pub fault_place : LoadFault → Option ℕ
 fault_place faults.Memory = None
 fault_place faults.Read = None
@@ -72,7 +72,7 @@ fault_place (faults.BadCount at) = Some at
 fault_place (faults.BadRank at) = Some at
 fault_place faults.Trailing = None
 
--- a place in decimal, where there is one
+-- a place in decimal, if there is one
 abbrev pub place_text : Option ℕ → List ℕ
 place_text None = []
 place_text (Some at) = decimal at
@@ -97,7 +97,7 @@ abbrev pub counted : Algorithm → List ℕ
 counted Brz = codes " buckets "
 counted algorithm = codes " cells "
 
--- what is said of a function that was built, where that is asked for
+-- what is said of a function that was built, if that is asked for
 abbrev pub built : BuildJob → Summary → List ℕ
 built job s = joined (codes "cmph: " ∷ name_of job.algorithm ∷ codes " keys " ∷ decimal s.keys ∷ counted job.algorithm ∷ decimal s.cells ∷ codes " seed " ∷ decimal s.seed ∷ codes "\n" ∷ [])
 

@@ -62,7 +62,7 @@ query_over job files f keys None = record { status = noted_status (notes_of f ke
 unfoldable pub query_outcome : QueryJob → Files → Func → List ℕ → Outcome
 query_outcome job files f bytes = query_over job files (answer_by f) (keys_in job.first bytes).keys (keys_in job.first bytes).fault
 
--- a query needs its keys file, where the function file spells a function
+-- a query needs its keys file, if the function file spells a function
 abbrev pub loaded_outcome : QueryJob → Files → Result Func LoadFault → Option Outcome
 loaded_outcome job files (Err fault) = Some (refusal 3 (bad_dump job.function fault) files)
 loaded_outcome job files (Ok f) = option_map (query_outcome job files f) (file_at files job.keys)
@@ -72,7 +72,7 @@ abbrev pub dump_outcome : QueryJob → Files → Option (List ℕ) → Option Ou
 dump_outcome job files None = None
 dump_outcome job files (Some dump) = loaded_outcome job files (spelling_of dump)
 
--- the outcome of what the words ask for, where the files that it needs are there; a build needs its keys file
+-- the outcome of what the arguments ask for, if the files that it needs are there; a build needs its keys file
 abbrev pub job_outcome : Files → Reading Job → Option Outcome
 job_outcome files (Err fault) = Some (refusal 2 (usage_message fault) files)
 job_outcome files (Ok Help) = Some (printing help_text files)

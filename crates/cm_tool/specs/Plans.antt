@@ -5,8 +5,8 @@ use Rattle.cm_numbers.specs.Limits.{IsBuffer, IsRatio, IsSampling, IsWidth}
 use Rattle.cm_tool.specs.declared.plan.Plan.{Plan}
 use Rattle.cm_words.specs.declared.jobs.BuildJob.{BuildJob}
 
--- The ranges of a plan's numbers: the ratio in millionths, the sampling of ranks where they are sampled, the average size of a bucket where
--- the keys are split, and the buffer in bytes.
+-- The ranges of a plan's numbers: the ratio in millionths, the sampling of ranks if they are sampled, the average size of a bucket if the
+-- keys are split, and the buffer in bytes.
 pub record IsPlan (plan : Plan) : Type 0 where
   pub ratio : IsRatio plan.c
   pub sampling : plan.algorithm ≡ Bdz → IsSampling plan.b

@@ -1,4 +1,4 @@
--- What the top call promises, in words over the command line and the files.
+-- What the top call promises, by the command line and the files.
 use Rattle.std.specs.Prelude.{◌≡◌, ◌≢◌, ◌⊎◌, ℕ, List, [], ◌∷◌, ◌++◌, length, take, Option, Some, Ok, Err, true}
 use Rattle.std.specs.Option.{ForSome}
 use Rattle.cm_bdz.specs.Functions.{bdz_answer, bdz_ph_answer}
@@ -39,7 +39,7 @@ use Rattle.cm_words.specs.declared.jobs.TestJob.{TestJob}
 use Rattle.cm_words.specs.declared.jobs.Job.{Job}
 use Rattle.cm_words.specs.declared.jobs.Job.TheVariants.{Help, Version, Build, Query, Test}
 
--- the statuses of what the words ask for, whatever the disk holds
+-- the statuses of what the arguments ask for, whatever the disk holds
 abbrev pub statuses_of : Reading Job → List ℕ
 statuses_of (Err fault) = 2 ∷ 6 ∷ []
 statuses_of (Ok Help) = 0 ∷ 5 ∷ 6 ∷ []
@@ -52,7 +52,7 @@ statuses_of (Ok (Test job)) = 0 ∷ 1 ∷ 5 ∷ 6 ∷ 7 ∷ 8 ∷ []
 abbrev pub IsStatus : Reading Job → ℕ → Type 0
 IsStatus asked status = has (statuses_of asked) status ≡ true
 
--- this holds of the build, if the words ask for one
+-- this holds of the build, if the arguments ask for one
 abbrev pub ForBuild : Reading Job → (BuildJob → Type 0) → Type 0
 ForBuild (Ok (Build job)) P = P job
 ForBuild asked P = Unit {0}
@@ -144,7 +144,7 @@ IsBy algorithm f = ⊥
 abbrev pub SavedNumbers : Files → Option Files → BuildJob → Type 0
 SavedNumbers files new job = (bytes dump : List ℕ) × (f : Func) × (after : Files) × (file_at files job.keys ≡ Some bytes) × (new ≡ Some after) × (file_at after job.function ≡ Some dump) × (spelling_of dump ≡ Ok f) × IsBy job.algorithm f × AnswersOf (keys_in job.first bytes).keys f
 
--- the spill that was given back has the records of the keys, if the function that was saved is one by BRZ; else none was given back
+-- the spill that was handed back has the records of the keys, if the function that was saved is one by BRZ; else none was handed back
 abbrev pub KeysSpilled : Files → Option (List ℕ) → Option (List ℕ) → BuildJob → Type 0
 KeysSpilled files old new job = (bytes : List ℕ) × (f : Func) × (file_at files job.keys ≡ Some bytes) × (job_outcome files (Ok (Build job)) ≡ Some (saving job files f)) × HasSpilled f (keys_in job.first bytes).keys old new
 
@@ -191,7 +191,7 @@ StoppedWriting files old new notes text job = (f : Func) × (given : ℕ) × (re
 abbrev pub IsUnwritten : BuildJob → ℕ → ℕ → List ℕ → Type 0
 IsUnwritten job before now text = ((now ≡ before) × (text ≡ cannot_write job.function)) ⊎ ((now ≡ before) × UsesSpill job.algorithm × (text ≡ cannot_use_spill job.dir)) ⊎ (Rose before now × (text ≡ cannot_write_out))
 
--- what a build read another time, and found other than before: the keys, or by BRZ the spill. Two numbers differ.
+-- what changed between two reads of a build: the keys, or by BRZ the spill. Two numbers differ.
 abbrev pub IsChanged : BuildJob → List ℕ → Type 0
 IsChanged job text = ((first : ℕ) × (again : ℕ) × IsChangeBy job.algorithm first again × (text ≡ keys_changed job.keys first again))
     ⊎ ((offset : ℕ) × (expected : ℕ) × (found : ℕ) × UsesSpill job.algorithm × (expected ≢ found) × (text ≡ spill_damaged job.dir offset expected found))
@@ -231,12 +231,12 @@ pub record IsPrintMessage (status : ℕ) (text : List ℕ) : Type 0 where
   pub write : status ≡ 5 → text ≡ cannot_write_out
   pub memory : status ≡ 6 → text ≡ out_of_memory
 
--- that of words that ask for no job
+-- that of arguments that ask for no job
 pub record IsUsageMessage (fault : UsageFault) (status : ℕ) (text : List ℕ) : Type 0 where
   pub refused : status ≡ 2 → text ≡ usage_message fault
   pub memory : status ≡ 6 → text ≡ out_of_memory
 
--- the message of what the words ask for, with the count of out before and now
+-- the message of what the arguments ask for, with the count of out before and now
 abbrev pub IsMessage : Reading Job → ℕ → ℕ → ℕ → List ℕ → Type 0
 IsMessage (Err fault) before now status text = IsUsageMessage fault status text
 IsMessage (Ok Help) before now status text = IsPrintMessage status text

@@ -1,4 +1,4 @@
--- The seeds that a build takes, and why none works, in words of 2-cores.
+-- The seeds that a build takes, and why none works, by 2-cores.
 use Rattle.std.specs.Prelude.{◌≡◌, ◌⊎◌, ℕ, List, length, slice_index, Some}
 use Rattle.cm_algorithm.specs.declared.algorithm.Algorithm.{Algorithm}
 use Rattle.cm_algorithm.specs.declared.algorithm.Algorithm.TheVariants.{Chm, Bdz, BdzPh, Brz}

@@ -12,8 +12,8 @@ abbrev pub UnlessSpilled : Algorithm → Type 0 → Type 0
 UnlessSpilled Brz P = Unit {0}
 UnlessSpilled algorithm P = P
 
--- The bytes of the spill that was given back are the records of the keys, for a function by BRZ: each key once, with its line and its
--- bucket. For the others none was given back.
+-- The bytes of the spill that was handed back are the records of the keys, for a function by BRZ: each key once, with its line and its
+-- bucket. For the others none was handed back.
 abbrev pub HasSpilled : Func → List (ℕ × List ℕ) → Option (List ℕ) → Option (List ℕ) → Type 0
 HasSpilled (func.Brz f) keys old new = (bytes : List ℕ) × (new ≡ Some bytes) × AreSpilled bytes (records_under keys (length f.buckets) f.split)
 HasSpilled (func.Chm f) keys old new = new ≡ old

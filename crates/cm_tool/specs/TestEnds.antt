@@ -43,7 +43,7 @@ abbrev pub StopsSpilling : TestJob → Files → List Algorithm → Option (List
 StopsSpilling job files algorithms old new Spill = (first : List Algorithm) × (algorithm : Algorithm) × (next : List Algorithm) × UsesSpill algorithm × (algorithms ≡ first ++ algorithm ∷ next) × EndsTest (tested_by job files first) old new (Ok tt)
 StopsSpilling job files algorithms old new stop = Unit {0}
 
--- what a stop has, whatever the disk tells: a test reads and writes no file
+-- what a stop has, whether or not the files are known: a test reads and writes no file
 abbrev pub HasTestForm : Algorithm → Stop → Type 0
 HasTestForm algorithm Read = ⊥
 HasTestForm algorithm Write = ⊥
@@ -57,7 +57,7 @@ test_name = codes "-T"
 abbrev pub IsUnwrittenTest : TestJob → ℕ → ℕ → List ℕ → Type 0
 IsUnwrittenTest job before now text = ((now ≡ before) × (text ≡ cannot_use_spill job.dir)) ⊎ (Rose before now × (text ≡ cannot_write_out))
 
--- what a test read another time, and found other than before: two numbers differ
+-- what changed between two reads of a test: two numbers differ
 abbrev pub IsChangedTest : TestJob → List ℕ → Type 0
 IsChangedTest job text = ((first : ℕ) × (again : ℕ) × (again ≢ first) × (text ≡ keys_changed test_name first again))
     ⊎ ((offset : ℕ) × (expected : ℕ) × (found : ℕ) × (expected ≢ found) × (text ≡ spill_damaged job.dir offset expected found))

@@ -18,13 +18,13 @@ use Rattle.cm_tool.specs.Verdict.{Shown, verdict_by}
 use Rattle.cm_tool.specs.declared.plan.Plan.{Plan}
 use Rattle.cm_words.specs.declared.jobs.TestJob.{TestJob}
 
--- the parameter b of a build for which none is asked
+-- the default parameter b
 abbrev pub usual_b : Algorithm → ℕ
 usual_b Bdz = 7
 usual_b Brz = 128
 usual_b algorithm = 0
 
--- how an algorithm is tested: as by a build for which nothing is asked but the buffer
+-- how an algorithm is tested: as by a build with all defaults except the buffer
 abbrev pub test_plan : Algorithm → ℕ → Plan
 test_plan algorithm buffer = record { algorithm = algorithm; c = usual_ratio algorithm; b = usual_b algorithm; buffer = buffer }
 

@@ -1,4 +1,4 @@
--- What is printed where words ask for the help or the version.
+-- What is printed if arguments ask for the help or the version.
 use Rattle.std.specs.Prelude.{ℕ, List, [], ◌∷◌, codes}
 use Rattle.cm_outer.specs.Writing.{joined}
 

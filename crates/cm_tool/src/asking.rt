@@ -16,7 +16,7 @@ use cm_query::{QueryFault, Tally, query};
 use cm_words::QueryJob;
 use std::alloc::Global;
 
-/// Why a refused query of a pass stops a job.
+/// Why a failed query of a pass stops a job.
 fn stop_of_query(fault: QueryFault) -> QueryStop
     ensures stop { result ≡ stop_from_query fault }
 {
@@ -29,7 +29,7 @@ fn stop_of_query(fault: QueryFault) -> QueryStop
     }
 }
 
-/// Answers the keys of a keys file.
+/// Writes a function's answers to the keys of a keys file.
 pub(crate) fn ask_keys<D: Disk, O: Sink, E: Sink>(
     alloc: Global,
     function: &Func,

@@ -35,7 +35,7 @@ use std::alloc::Global;
 use std::marker::Brand;
 use std::sync::ledger::Blank;
 
-/// So many seeds, from the first on.
+/// `count` seeds, from the first on.
 pub(crate) fn seeds(first: u32, count: u32) -> ArrayVec<u32, 1000>
     requires room { count ≤ 1000 }
     ensures { result.items ≡ seeds_of first count }
@@ -47,7 +47,7 @@ pub(crate) fn seeds(first: u32, count: u32) -> ArrayVec<u32, 1000>
     seeds
 }
 
-/// Why a refused pass stops a job.
+/// Why a failed pass stops a job.
 fn stop_of_key(fault: KeyFault) -> Stop
     ensures stop { result ≡ stop_from_key fault }
 {
@@ -58,7 +58,7 @@ fn stop_of_key(fault: KeyFault) -> Stop
     }
 }
 
-/// Sends on a report that was written, which stops a build.
+/// Flushes out after a report was written, and returns why the build stops.
 fn end_report<O: Sink>(written: Result<(), Failed>, reason: Reason, out: &mut O) -> Stop
     ensures shown { (report : List ℕ) (old : Option (List ℕ)) → Writes old (O.written out.old) report written → GotReport (record { reason = reason; report = report }) old (O.written out.new) result }
     ensures cause { (before : ℕ) → HasCause before (O.faults out.old) written → IsOutCause before (O.faults out.new) result }
@@ -82,7 +82,7 @@ fn reason_for(certificate: &Certificate) -> Reason
     }
 }
 
-/// Writes a certificate to out and sends it on, which stops a build.
+/// Writes a certificate to out and flushes it, and returns why the build stops.
 fn show_core<O: Sink>(certificate: &Certificate, out: &mut O) -> Stop
     ensures shown { GotReport (shown_core certificate.now) (O.written out.old) (O.written out.new) result }
     ensures cause { IsOutCause (O.faults out.old) (O.faults out.new) result }
@@ -93,7 +93,7 @@ fn show_core<O: Sink>(certificate: &Certificate, out: &mut O) -> Stop
     end_report(written, reason, out)
 }
 
-/// Writes the report on an overfull bucket to out and sends it on, which stops a build.
+/// Writes the report on an overfull bucket to out and flushes it, and returns why the build stops.
 fn show_overfull<O: Sink>(seed: u32, bucket: u32, count: u32, equal: &[Pair], out: &mut O) -> Stop
     ensures shown { GotReport (shown_overfull seed bucket count equal.now) (O.written out.old) (O.written out.new) result }
     ensures cause { IsOutCause (O.faults out.old) (O.faults out.new) result }
@@ -135,8 +135,8 @@ pub(crate) fn stop_of<O: Sink>(fault: FuncFault, out: &mut O) -> Stop
     }
 }
 
-/// Builds the function of a keys file, by BRZ with a spill that is taken once the keys file is open. Out gets the report on keys that have
-/// none.
+/// Builds the function of a keys file. BRZ's spill is made after the keys file is opened. If the keys have no function, out gets the
+/// report.
 fn function_of<D: Disk, O: Sink>(
     alloc: Global,
     job: &BuildJob,
@@ -207,7 +207,7 @@ fn build_file<D: Disk, O: Sink>(
     }
 }
 
-/// Does a build, and answers its status.
+/// Runs a build, and returns its status.
 pub(crate) fn run_build<D: Disk, O: Sink, E: Sink>(
     alloc: Global,
     job: &BuildJob,

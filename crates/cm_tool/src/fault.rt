@@ -24,16 +24,16 @@ pub(crate) enum FuncFault {
         count: u32,
         equal: Vec<Pair>,
     },
-    /// A pass over the keys refused.
+    /// A pass over the keys failed.
     Key(KeyFault),
-    /// A later pass gave another number of keys, in all or by BRZ for one bucket: so many were counted first, and so many now.
+    /// A later pass yielded another number of keys, in all or by BRZ for one bucket: `first` keys were counted first, and `now` keys now.
     Changed {
         first: u32,
         now: u32,
     },
     /// By BRZ: the spill can't be made, written or read.
     Spill,
-    /// By BRZ: what the spill gave back is not what was put into it: an offset in bytes, and the expected and the found number.
+    /// By BRZ: what was read from the spill is not what was put into it: an offset in bytes, and the expected and the found number.
     SpillDamaged {
         offset: u64,
         expected: u64,
@@ -55,7 +55,7 @@ impl From<BuildFault> for FuncFault {
     }
 }
 
-/// The fault for a refused build by BRZ.
+/// The fault for a failed build by BRZ.
 pub(crate) fn fault_of_brz(fault: BrzFault) -> FuncFault
     ensures fault { result ≡ fault_from_brz fault }
 {

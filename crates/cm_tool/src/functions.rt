@@ -58,8 +58,8 @@ fn build_by<S: Scheme<K>, P: KeyPass, const K: usize, L: Ledger>(
     }
 }
 
-/// Builds by BRZ over a pass, with steps that nobody reads. The keys wait in a spill in the directory, which the disk gets back whatever
-/// comes of the build.
+/// Builds by BRZ over a pass, with steps that nobody reads. The keys are stored in a spill in the directory, which is handed back to the
+/// disk also if the build fails.
 fn brz_by<P: KeyPass, D: Disk, L: Ledger>(
     alloc: Global,
     plan: &Plan,
@@ -114,8 +114,8 @@ fn brz_by<P: KeyPass, D: Disk, L: Ledger>(
     }
 }
 
-/// Builds the function of the keys of a pass by a plan. BRZ's keys wait in a spill in the directory, which is taken from the disk first and
-/// given back on every way out.
+/// Builds the function of the keys of a pass by a plan. BRZ's keys are stored in a spill in the directory, which is made first and handed
+/// back at every return.
 pub(crate) fn func_of<P: KeyPass, D: Disk, L: Ledger>(
     alloc: Global,
     plan: &Plan,

@@ -8,7 +8,7 @@ use cm_dump::{Func, LoadFault, load};
 use cm_outer::{Disk, DiskFault};
 use std::alloc::Global;
 
-/// Why a refused dump stops a query.
+/// Why a failed load stops a query.
 fn stop_of_load(fault: LoadFault) -> QueryStop
     ensures stop { result ≡ stop_from_load fault }
 {

@@ -9,7 +9,7 @@ ghost use Rattle.cm_tool.specs.Texts.{help_text, version_text};
 use crate::report::say;
 use cm_outer::{Failed, Sink, write_pieces};
 
-/// Prints how the program is used. Fails exactly where out does, which has then taken a front of the text. It takes no memory.
+/// Prints how the program is used. Fails exactly if out does, which has then taken a prefix of the text. Allocates no memory.
 pub fn print_help<O: Sink>(out: &mut O) -> Result<(), Failed>
     ensures text { Writes (O.written out.old) (O.written out.new) help_text result }
     ensures cause { HasCause (O.faults out.old) (O.faults out.new) result }
@@ -25,7 +25,7 @@ pub fn print_help<O: Sink>(out: &mut O) -> Result<(), Failed>
     )
 }
 
-/// Prints the version. Fails exactly where out does, which has then taken a front of the text. It takes no memory.
+/// Prints the version. Fails exactly if out does, which has then taken a prefix of the text. Allocates no memory.
 pub fn print_version<O: Sink>(out: &mut O) -> Result<(), Failed>
     ensures text { Writes (O.written out.old) (O.written out.new) version_text result }
     ensures cause { HasCause (O.faults out.old) (O.faults out.new) result }
@@ -33,7 +33,7 @@ pub fn print_version<O: Sink>(out: &mut O) -> Result<(), Failed>
     write_pieces(out, &[b"cmph 1\n"])
 }
 
-/// Sends on a text that was printed.
+/// Flushes out after a text was printed.
 pub(crate) fn send_text<O: Sink>(printed: Result<(), Failed>, out: &mut O) -> Result<(), Failed>
     ensures text { (text : List ℕ) (old : Option (List ℕ)) → Writes old (O.written out.old) text printed → Writes old (O.written out.new) text result }
     ensures cause { (before : ℕ) → HasCause before (O.faults out.old) printed → HasCause before (O.faults out.new) result }
@@ -45,7 +45,7 @@ pub(crate) fn send_text<O: Sink>(printed: Result<(), Failed>, out: &mut O) -> Re
     }
 }
 
-/// Sends on a text that was printed, and answers the status.
+/// Flushes out after a text was printed, and returns the status.
 pub(crate) fn end_of_text<O: Sink, E: Sink>(
     printed: Result<(), Failed>,
     out: &mut O,

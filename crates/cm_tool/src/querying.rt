@@ -19,7 +19,7 @@ use cm_query::{Tally, noted_exactly};
 use cm_words::QueryJob;
 use std::alloc::Global;
 
-/// Loads the function of a keys file, and answers the keys.
+/// Loads the function of a job, and writes its answers to the keys.
 fn answer_file<D: Disk, O: Sink, E: Sink>(
     alloc: Global,
     job: &QueryJob,
@@ -45,7 +45,7 @@ fn answer_file<D: Disk, O: Sink, E: Sink>(
     ask_keys(alloc, &function, job, disk, out, err, notes)
 }
 
-/// Does a query, and answers its status.
+/// Runs a query, and returns its status.
 pub(crate) fn run_query<D: Disk, O: Sink, E: Sink>(
     alloc: Global,
     job: &QueryJob,

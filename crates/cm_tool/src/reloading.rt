@@ -8,7 +8,7 @@ use cm_dump::{Func, LoadFault, load, save, saved_len};
 use cm_outer::{Failed, MemSink, MemSource};
 use std::alloc::{AllocError, Global};
 
-/// The dump of a function, in memory that has just room for it.
+/// The dump of a function, in a buffer of its size.
 fn dump(alloc: Global, function: &Func) -> Result<Vec<u8>, AllocError>
     ensures bytes { IfOk result (λ bytes. bytes.items ≡ dump_of function.now) }
 {
@@ -20,7 +20,7 @@ fn dump(alloc: Global, function: &Func) -> Result<Vec<u8>, AllocError>
     }
 }
 
-/// Saves a function into memory, lets it go, and loads the function that was saved.
+/// Saves a function into memory, drops it, and loads the function that was saved.
 pub(crate) fn reload(alloc: Global, function: Func) -> Result<Func, AllocError>
     requires valid { IsFunction function }
     ensures same { IfOk result (λ loaded. loaded ≡ function) }

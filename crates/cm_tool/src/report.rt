@@ -14,7 +14,7 @@ use cm_outer::{Notes, Sink};
 use cm_words::{BuildJob, QueryJob, UsageFault};
 use itoa::Buffer;
 
-/// Says one message. Where err fails, it gets a front of it.
+/// Says one message. If err fails, it gets a prefix of it.
 pub(crate) fn say<E: Sink>(err: &mut E, pieces: &[&[u8]])
     ensures says { Says (joined (map (λ piece. piece.now) pieces.now)) (E.written err.old) (E.written err.new) (E.faults err.old) (E.faults err.new) }
     ensures sent { IsSent (E.waits err.new) (E.faults err.old) (E.faults err.new) }
@@ -23,7 +23,7 @@ pub(crate) fn say<E: Sink>(err: &mut E, pieces: &[&[u8]])
     notes.note_pieces(err, pieces);
 }
 
-/// Says why words ask for no job, and answers the status.
+/// Says why arguments ask for no job, and returns the status.
 pub(crate) fn report_usage<E: Sink>(fault: UsageFault, err: &mut E) -> u8
     ensures status { result ≡ usage_status_of fault }
     ensures says { Says (usage_message fault) (E.written err.old) (E.written err.new) (E.faults err.old) (E.faults err.new) }
@@ -33,7 +33,7 @@ pub(crate) fn report_usage<E: Sink>(fault: UsageFault, err: &mut E) -> u8
     usage_status(fault)
 }
 
-/// Says that memory ran out before the arguments were read, and answers the status of that.
+/// Says that memory ran out before the arguments were read, and returns the status of that.
 pub fn report_no_memory<E: Sink>(err: &mut E) -> u8
     ensures status { result ≡ 6 }
     ensures says { Says out_of_memory (E.written err.old) (E.written err.new) (E.faults err.old) (E.faults err.new) }
@@ -42,7 +42,7 @@ pub fn report_no_memory<E: Sink>(err: &mut E) -> u8
     report_usage(UsageFault::Memory, err)
 }
 
-/// Says why words ask for no job.
+/// Says why arguments ask for no job.
 fn explain_usage<E: Sink>(fault: UsageFault, err: &mut E)
     ensures says { Says (usage_message fault) (E.written err.old) (E.written err.new) (E.faults err.old) (E.faults err.new) }
     ensures sent { IsSent (E.waits err.new) (E.faults err.old) (E.faults err.new) }
@@ -55,7 +55,7 @@ fn explain_usage<E: Sink>(fault: UsageFault, err: &mut E)
     }
 }
 
-/// The status of words that ask for no job.
+/// The status of arguments that ask for no job.
 fn usage_status(fault: UsageFault) -> u8
     ensures status { result ≡ usage_status_of fault }
 {
@@ -75,7 +75,7 @@ fn counted_by(algorithm: Algorithm) -> &'static [u8]
     }
 }
 
-/// Says what function was built, where that is asked for.
+/// Says what function was built, if that is asked for.
 pub(crate) fn say_built<E: Sink>(job: &BuildJob, summary: Summary, err: &mut E)
     ensures says { Says (built_message job.now summary) (E.written err.old) (E.written err.new) (E.faults err.old) (E.faults err.new) }
     ensures sent { E.waits err.old ≡ 0 → IsSent (E.waits err.new) (E.faults err.old) (E.faults err.new) }
@@ -169,7 +169,7 @@ fn status(stop: Stop) -> u8
     }
 }
 
-/// Notes why a query stopped, and answers its status.
+/// Notes why a query stopped, and returns its status.
 pub(crate) fn report_query<E: Sink>(
     job: &QueryJob,
     stop: QueryStop,
@@ -241,7 +241,7 @@ fn note_reason<E: Sink>(reason: Reason, err: &mut E, notes: &mut Notes)
     }
 }
 
-/// Notes want of memory.
+/// Notes that memory ran out.
 fn note_want_of_memory<E: Sink>(err: &mut E, notes: &mut Notes)
     ensures noted { Noted notes.old notes.new (E.written err.old) (E.written err.new) (E.faults err.old) (E.faults err.new) out_of_memory }
     ensures sent { notes.new ≡ false → E.waits err.new ≡ 0 }
@@ -288,7 +288,7 @@ fn note_change<E: Sink>(file: &[u8], first: u32, again: u32, err: &mut E, notes:
     );
 }
 
-/// Notes that the spill in a directory gave back another number than the expected one, at an offset.
+/// Notes that another number than the expected one was read from the spill in a directory, at an offset.
 fn note_damage<E: Sink>(
     dir: &[u8],
     offset: u64,
@@ -387,7 +387,7 @@ fn words_of(fault: LoadFault) -> &'static [u8]
     }
 }
 
-/// At which byte it is wrong, where one is named.
+/// At which byte it is wrong, if one is named.
 fn place_of(fault: LoadFault) -> Option<u64>
     ensures place { result ≡ fault_place fault }
 {

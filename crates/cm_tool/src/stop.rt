@@ -26,14 +26,14 @@ pub(crate) enum Stop {
     WriteOut,
     /// The keys have no function. Out got the report.
     Refused(Reason),
-    /// The first pass gave so many keys, and a later one so many; by BRZ these may be the keys of a bucket.
+    /// The first pass yielded `first` keys, and a later one `now` keys; by BRZ these may be the keys of a bucket.
     Changed {
         first: u32,
         now: u32,
     },
     /// The spill can't be made, written or read.
     Spill,
-    /// What the spill gave back is not what was put into it: an offset in bytes, and the expected and the found number.
+    /// What was read from the spill is not what was put into it: an offset in bytes, and the expected and the found number.
     SpillDamaged {
         offset: u64,
         expected: u64,
@@ -52,7 +52,7 @@ pub(crate) enum Stop {
 /// What kept a query from its end.
 #[derive(Clone, Copy, Debug, PartialEq, Eq)]
 pub(crate) enum QueryStop {
-    /// Want of memory.
+    /// Out of memory.
     Memory,
     /// The function file can't be opened or read.
     NoFunction,

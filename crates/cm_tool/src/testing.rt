@@ -51,7 +51,7 @@ fn generated_pass(n: u32) -> Keys<MadeKeys>
     Keys::new(MadeKeys::new(n), None)
 }
 
-/// The ratio of vertices to keys, in millionths, of a build for which none is asked.
+/// The default ratio of vertices to keys, in millionths.
 fn ratio_by(algorithm: Algorithm) -> u32
     ensures ratio { result ≡ usual_ratio algorithm }
 {
@@ -61,7 +61,7 @@ fn ratio_by(algorithm: Algorithm) -> u32
     }
 }
 
-/// The parameter b of a build for which none is asked.
+/// The default parameter b.
 fn b_by(algorithm: Algorithm) -> u8
     ensures b { result ≡ usual_b algorithm }
     ensures asked { bits_value true algorithm None ≡ Ok result }
@@ -142,7 +142,7 @@ fn generated_sum(function: &Func, n: u32) -> u64
     }
 }
 
-/// Prints the line of an algorithm and sends it on.
+/// Prints the line of an algorithm and flushes out.
 fn print_line<O: Sink>(
     algorithm: Algorithm,
     n: u32,
@@ -173,7 +173,7 @@ fn print_line<O: Sink>(
     send_text(written, out)
 }
 
-/// Tests an algorithm: it builds, saves, loads and answers every key, and prints its line, or the report on keys that have no function.
+/// Tests an algorithm: builds, saves and loads a function, looks up every key and prints the line, or the report if there is no function.
 fn test_algorithm<D: Disk, O: Sink>(
     alloc: Global,
     job: &TestJob,
@@ -233,7 +233,7 @@ fn test_each<D: Disk, O: Sink>(
     Ok(())
 }
 
-/// Does a test, and returns its status.
+/// Runs a test, and returns its status.
 pub(crate) fn run_test<D: Disk, O: Sink, E: Sink>(
     alloc: Global,
     job: &TestJob,

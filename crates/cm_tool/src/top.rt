@@ -19,11 +19,11 @@ use cm_outer::{Disk, Sink};
 use cm_words::{Job, read_words};
 use std::alloc::Global;
 
-/// Does what the words of a command line ask for, and answers the status: 0 done; 1 no seed of the list gives a function, or a
-/// query met an unknown key or a repeated value; 2 the words ask for no job; 3 the function file is no dump; 4 a file
-/// can't be opened, read or rewound; 5 the function file can't be created, written or closed, the spill of a build by BRZ can't be made,
-/// written or read, or out can't be written; 6 out of memory; 7 the keys changed between passes, or the spill gave back other bytes; 8 no
-/// keys in a build, a line that is too long, or too many keys.
+/// Runs the job that the arguments of a command line ask for, and returns the status: 0 done; 1 no seed of the list yields a function,
+/// or a query met an unknown key or a repeated value; 2 the arguments ask for no job; 3 the function file is no dump; 4 a file can't be
+/// opened, read or rewound; 5 the function file can't be created, written or closed, the spill of BRZ can't be made, written or read, or
+/// out can't be written; 6 out of memory; 7 the keys changed between passes, or other bytes were read from the spill than were written
+/// to it; 8 no keys in a build, a line that is too long, or too many keys.
 pub fn run<D: Disk, O: Sink, E: Sink>(
     alloc: Global,
     words: &[String],
@@ -31,53 +31,54 @@ pub fn run<D: Disk, O: Sink, E: Sink>(
     out: &mut O,
     err: &mut E,
 ) -> u8
-    // Arguments that ask for no job come to 2 or 6, and nothing else comes to 2. Help and version come to 0, 5 or 6.
+    // If the arguments ask for no job, the status is 2 or 6. No job has status 2. Help and version have status 0, 5 or 6.
     ensures status { IsStatus (job_of (map string_bytes words.now)) result }
 
-    // A count of reading rose exactly where the status is 4.
+    // The status is 4 exactly if the count of read faults rises.
     ensures read { D.read_faults disk.old < 2 ^ 63 → ((result ≡ 4) ↔ (D.read_faults disk.old < D.read_faults disk.new)) }
 
-    // A count of writing or of out rose exactly where it is 5.
+    // The status is 5 exactly if the count of write faults or that of out rises.
     ensures write { D.write_faults disk.old < 2 ^ 63 → O.faults out.old < 2 ^ 63 →
         ((result ≡ 5) ↔ ((D.write_faults disk.old < D.write_faults disk.new) ⊎ (O.faults out.old < O.faults out.new))) }
 
-    // Without want of memory or a fault, status, out, err and files are the stated function of the words and the files.
+    // If memory doesn't run out and nothing fails, status, out, err and files are what `outcome_of` says of the arguments and the files.
     ensures outcome { result ≢ 4 → result ≢ 5 → result ≢ 6 → ForSome (D.files disk.old) (λ files.
         Reaches (outcome_of (map string_bytes words.now) files) result (O.written out.old) (O.written out.new) (E.written err.old) (E.written err.new) (E.faults err.old) (E.faults err.new) (D.files disk.new)) }
 
-    // A build takes the first seed whose graph has an empty 2-core. It is refused if there is none, and its report shows the 2-core
-    // of the first seed. One by BRZ takes the first seed by which no bucket has more than 255 keys, and for each bucket with keys the
-    // first seed whose graph of these has an empty 2-core. It is refused if there is no such seed, for the split or for some bucket.
+    // A build takes the first seed whose graph has an empty 2-core. If there is none, it fails, and its report shows the 2-core of the
+    // first seed. A build by BRZ takes the first seed under which no bucket has more than 255 keys, and for each bucket with keys the
+    // first seed whose graph of these keys has an empty 2-core. If there is no such seed, for the split or for some bucket, it fails.
     ensures first { result ≡ 0 → ForSome (D.files disk.old) (λ files. ForBuild (job_of (map string_bytes words.now)) (TookFirst files)) }
     ensures cored { result ≡ 1 → ForSome (D.files disk.old) (λ files. ForBuild (job_of (map string_bytes words.now)) (IsCored files)) }
 
-    // The function file then holds the dump of a function of the algorithm that was asked for. One by CHM answers each key with
-    // its number, one by BDZ or BRZ gives the keys all numbers below theirs, and one by BDZ_PH distinct numbers below that of its cells.
+    // After a build the function file holds the dump of a function of the algorithm that was asked for. CHM maps each key to its index,
+    // BDZ and BRZ map n keys to all numbers below n, and BDZ_PH maps the keys to distinct numbers below its number of cells.
     ensures numbers { result ≡ 0 → ForSome (D.files disk.old) (λ files. ForBuild (job_of (map string_bytes words.now)) (SavedNumbers files (D.files disk.new))) }
 
-    // The spill that a build by BRZ gave back has the records of the keys: each key once, with its line and its bucket. Nothing else that is
-    // asked for leaves a spill.
+    // The spill that a build by BRZ handed back holds the records of the keys: each key once, with its line and its bucket. Other
+    // arguments than those of a build by BRZ or of a test leave the last spill as it was.
     ensures spilled { result ≡ 0 → ForSome (D.files disk.old) (λ files. ForBuild (job_of (map string_bytes words.now)) (KeysSpilled files (D.spilled disk.old) (D.spilled disk.new))) }
     ensures unspilled { UnlessBrz (job_of (map string_bytes words.now)) (D.spilled disk.new ≡ D.spilled disk.old) }
 
-    // Known files never change between passes, and neither does the spill.
+    // If the files are known, the status is never 7: neither the keys nor the spill change between passes.
     ensures unchanged { ForSome (D.files disk.old) (λ _. result ≢ 7) }
 
-    // A file that isn't there can't be read, and nothing is done.
+    // If a file that is needed isn't there, the status is 4, or 6 if memory runs out, and nothing is done.
     ensures missing { ForSome (D.files disk.old) (λ files. outcome_of (map string_bytes words.now) files ≡ None →
         LacksFile result (D.files disk.old) (D.files disk.new) (O.written out.old) (O.written out.new)) }
 
-    // What a refusal leaves of the files. Only a build changes them, and only if the outcome saves a function. A spill that fails leaves
-    // them as before. The message of a build that could not write names out if out failed, which got a prefix of the report; or by BRZ the
-    // directory of the spill, and then nothing changed; or the function file, if the outcome saves a function.
+    // The files after a failure. Only a build changes them, and only if its outcome saves a function. If the spill fails, they stay as
+    // before. The message of a build that could not write names what failed: out, which got a prefix of the report; or by BRZ the directory
+    // of the spill, and then nothing changed; or the function file, if the outcome saves a function.
     ensures kept { result ≢ 0 → result ≢ 5 → result ≢ 6 → D.files disk.new ≡ D.files disk.old }
     ensures part { result ≡ 5 → ForSome (D.files disk.old) (λ files. ForBuild (job_of (map string_bytes words.now))
         (IsUnfinished files (D.files disk.old) (D.files disk.new) (O.written out.old) (O.written out.new) (E.written err.old) (E.written err.new) (O.faults out.old) (O.faults out.new) (E.faults err.old) (E.faults err.new))) }
     ensures memory { result ≡ 6 → (D.files disk.new ≡ D.files disk.old) ⊎ IfBuild (job_of (map string_bytes words.now)) (IsEmptied (D.files disk.old) (D.files disk.new)) }
     ensures asked { UnlessBuild (job_of (map string_bytes words.now)) ((D.files disk.new ≡ D.files disk.old) × UnlessTest (job_of (map string_bytes words.now)) (D.write_faults disk.new ≡ D.write_faults disk.old)) }
 
-    // Only a query, the help, the version, a test and the report of a refused build are written to out, and nothing but lines of a test
-    // if memory runs out. Of the help or the version out gets a prefix, and so it does of a test that a fault or lack of memory cut short.
+    // Only a query, the help, the version, a test and the report of a failed build are written to out. If memory runs out, only lines of
+    // a test are. Out gets a prefix of the help or the version, also if it fails. It gets a prefix of a test's text if out, the spill or
+    // memory fails.
     ensures out { UnlessJob (job_of (map string_bytes words.now)) ((O.written out.new ≡ O.written out.old) × (O.faults out.new ≡ O.faults out.old)) }
     ensures built { result ≢ 1 → result ≢ 5 → ForBuild (job_of (map string_bytes words.now)) (λ _. O.written out.new ≡ O.written out.old) }
     ensures silent { result ≡ 6 → UnlessTest (job_of (map string_bytes words.now)) (O.written out.new ≡ O.written out.old) }
@@ -85,21 +86,21 @@ pub fn run<D: Disk, O: Sink, E: Sink>(
     ensures tested { (result ≡ 5) ⊎ (result ≡ 6) → ForSome (D.files disk.old) (λ files. ForTest (job_of (map string_bytes words.now)) (λ job.
         GotPrefix (test_outcome job files).out (O.written out.old) (O.written out.new))) }
 
-    // The message of a test that could not write names out, if out failed; or the directory of the spill, and then out got the lines of all
-    // algorithms but BRZ.
+    // The message of a test that could not write names what failed: out; or the directory of the spill, and then out got the lines of all
+    // algorithms except BRZ.
     ensures unfinished { result ≡ 5 → ForSome (D.files disk.old) (λ files. ForTest (job_of (map string_bytes words.now))
         (IsUnfinishedTest files (O.written out.old) (O.written out.new) (E.written err.old) (E.written err.new) (O.faults out.old) (O.faults out.new) (E.faults err.old) (E.faults err.new))) }
 
-    // A query that a fault cut short has answered the first keys, and noted what there is to note of them. Its message names the file
-    // that could not be read, or out. One for which memory ran out has answered none.
+    // A query that a fault cut short has answered some first keys, and noted what there is to note of them. Its message names the file
+    // that could not be read, or out. A query for which memory ran out has answered no key.
     ensures cut { (result ≡ 4) ⊎ (result ≡ 5) ⊎ (result ≡ 6) → ForSome (D.files disk.old) (λ files. ForQuery (job_of (map string_bytes words.now))
         (IsCutShort files result (O.written out.old) (O.written out.new) (E.written err.old) (E.written err.new) (E.faults err.old) (E.faults err.new))) }
 
-    // On every way out all that was written to out and err has been sent on, or their count rose.
+    // If the buffer of out or err was empty before the call, it is empty after it, or the count of this sink rose.
     ensures sent { O.waits out.old ≡ 0 → IsSent (O.waits out.new) (O.faults out.old) (O.faults out.new) }
     ensures err_sent { E.waits err.old ≡ 0 → IsSent (E.waits err.new) (E.faults err.old) (E.faults err.new) }
 
-    // Err gets a query's notes and the message of the status, or a front of them where err itself fails.
+    // Err gets a query's notes and the message of the status, or a prefix of them if err itself fails.
     ensures err { (notes : List ℕ) × (text : List ℕ) × UnlessQuery (job_of (map string_bytes words.now)) (notes ≡ []) × IsMessage (job_of (map string_bytes words.now)) (O.faults out.old) (O.faults out.new) result text
         × Says (notes ++ text) (E.written err.old) (E.written err.new) (E.faults err.old) (E.faults err.new) }
 {
