@@ -17,8 +17,18 @@ class Job(NamedTuple):
     end: Ends  # with memory
 
 
+def test_job(machine: Machine) -> Job:
+    """A test of all algorithms over generated keys. Its sums are those of all numbers below that of the keys."""
+    count = 2000
+    text = machine.ours("-T", str(count)).out
+    lines = text.decode().split("\n")
+    if [line.split(" ")[:2] for line in lines[:-1]] != [[name, str(count)] for name in NAMES] or lines[0].split(" ")[3] != str(count * (count - 1) // 2):
+        sys.exit("a test prints other lines")
+    return Job(["-T", str(count)], Ends(0, text))
+
+
 def memory_jobs(machine: Machine) -> list[Job]:
-    """Builds, queries and a report, over the files that they take."""
+    """Builds, queries, a report and a test, over the files that they take."""
     count = 20_000
     put("keys", numbered(count))
     put("equal", b"\n" * 2000)
@@ -32,7 +42,7 @@ def memory_jobs(machine: Machine) -> list[Job]:
         jobs.append(Job(["-g", "-a", name, "-m", "g", "keys"], Ends(0, b"", b"", whole)))
         jobs.append(Job(["-m", f"{name}.f", "keys"], Ends(0, text)))
     jobs.append(Job(["-g", "-s", "0", "-m", "g", "equal"], Ends(1, equal_report(2000), said(model.NO_SEED))))
-    return jobs
+    return [*jobs, test_job(machine)]
 
 
 def state_of(found: bytes, job: Job) -> str:
@@ -48,7 +58,7 @@ def state_of(found: bytes, job: Job) -> str:
 
 def check_memory(row: Row, left: Left, job: Job) -> bool:
     """Whether a run of a job had enough memory. It ends as with memory, or with status 6."""
-    found, is_query = get("g"), "-g" not in job.words
+    found, is_build = get("g"), "-g" in job.words
     note = "" if found == OLDER else f", {state_of(found, job)}"
     if left.status == job.end.status:
         row.same(left, job.end, {"the function file": found == (job.end.dump or OLDER), "no spill file": not spills()})
@@ -57,7 +67,7 @@ def check_memory(row: Row, left: Left, job: Job) -> bool:
         note = f", {state_of(found, job)}"
     may_be_empty = job.end.dump is not None and found == b""
     row.check(left, 6, {"standard error": left.err == said("out of memory"),
-                        "standard output": job.end.out.startswith(left.out) if is_query else left.out == b"",
+                        "standard output": left.out == b"" if is_build else job.end.out.startswith(left.out),
                         "the function file": found == OLDER or may_be_empty, "no spill file": not spills()}, note)
     # The system removes no spill file of a program that it kills.
     for name in spills():
@@ -74,7 +84,7 @@ def starts(machine: Machine, run: Callable[..., Left], words: tuple[str, ...], g
     return high
 
 
-@case("address space, in steps of 4 KiB, from where the program starts up to where it succeeds: builds, queries, a report")
+@case("address space, in steps of 4 KiB, from where the program starts up to where it succeeds: builds, queries, a report, a test")
 def _(machine: Machine, row: Row) -> None:
     least = starts(machine, machine.ours, ("-V",), (0, 6))
     for job in memory_jobs(machine):
@@ -99,7 +109,7 @@ def address_space_of_c(machine: Machine, row: Row) -> None:
                 break
 
 
-@case("each request for memory refused, alone and with all after it: builds, queries, a report", needs="library")
+@case("each request for memory refused, alone and with all after it: builds, queries, a report, a test", needs="library")
 def _(machine: Machine, row: Row) -> None:
     for job in memory_jobs(machine):
         machine.ours(*job.words, bend={"HOSTILE_COUNTS": "counts"})
