@@ -126,6 +126,8 @@ def main() -> int:
     parser.add_argument("--only", default="", metavar="WORD")
     asked = parser.parse_args()
     signal.signal(signal.SIGTERM, lambda *_: sys.exit(1))
+    # A shell that starts the script in the background has it ignore SIGINT, and then all that it starts does.
+    signal.signal(signal.SIGINT, signal.default_int_handler)
     top, mounted = Path(tempfile.mkdtemp(prefix="cmph-hostile-")), []
     try:
         top.chmod(0o755)
