@@ -11,7 +11,7 @@ ghost use Rattle.cm_outer.specs.MemSources.{new_source};
 ghost use Rattle.cm_outer.specs.MemSinks.{new_sink};
 ghost use Rattle.cm_outer.specs.MemSpills.{new_spill};
 
-use crate::listed_calls::{next_is_listed, numbers_of};
+use crate::listed_calls::{next_is_listed, sink_of, source_of, spill_of};
 use crate::mem_file::{MemFile, bytes_at, set_bytes};
 use crate::{Disk, DiskCall, DiskFault, Failed, MemSink, MemSource, MemSpill};
 use std::alloc::{AllocError, Global};
@@ -118,6 +118,17 @@ impl MemDisk {
     {
         bytes_at(&self.files, path)
     }
+
+    /// Makes the path hold no bytes, and returns a writer for it. If memory runs out, the files stay as before.
+    fn created(&mut self, path: &str) -> Result<MemSink, AllocError>
+        ensures sink { IfOk result (λ sink. sink ≡ new_sink self.old.room (numbers DiskCall.Write self.old.calls.listed)) }
+        ensures ok { OnOk result (self.new ≡ record self.old { files = maps.insert self.old.files path.now [] }) }
+        ensures err { OnErr result (self.new ≡ self.old) }
+    {
+        let sink = sink_of(self.alloc, self.room, &self.listed)?;
+        set_bytes(self.alloc, &mut self.files, path, Vec::new(self.alloc))?;
+        Ok(sink)
+    }
 }
 
 impl Disk for MemDisk {
@@ -156,16 +167,13 @@ impl Disk for MemDisk {
         } }
     {
         let listed = next_is_listed(&self.listed, DiskCall::Open, &mut self.opens);
-        let bytes = match bytes_at(&self.files, path) {
-            Some(bytes) if !listed => bytes.to_vec(self.alloc)?,
+        match bytes_at(&self.files, path) {
+            Some(bytes) if !listed => Ok(source_of(self.alloc, bytes, &self.listed)?),
             _ => {
                 self.read_faults = self.read_faults.saturating_add(1);
-                return Err(DiskFault::Failed);
+                Err(DiskFault::Failed)
             }
-        };
-        let read_fails = numbers_of(self.alloc, &self.listed, DiskCall::Read)?;
-        let rewind_fails = numbers_of(self.alloc, &self.listed, DiskCall::Rewind)?;
-        Ok(MemSource::new(bytes, read_fails, rewind_fails))
+        }
     }
 
     fn shut(&mut self, reader: MemSource)
@@ -209,10 +217,7 @@ impl Disk for MemDisk {
             self.write_faults = self.write_faults.saturating_add(1);
             return Err(DiskFault::Failed);
         }
-        let write_fails = numbers_of(self.alloc, &self.listed, DiskCall::Write)?;
-        let sink = MemSink::new(self.alloc, self.room, write_fails)?;
-        set_bytes(self.alloc, &mut self.files, path, Vec::new(self.alloc))?;
-        Ok(sink)
+        Ok(self.created(path)?)
     }
 
     fn close(&mut self, path: &str, writer: MemSink) -> Result<(), Failed>
@@ -263,9 +268,7 @@ impl Disk for MemDisk {
             self.write_faults = self.write_faults.saturating_add(1);
             return Err(DiskFault::Failed);
         }
-        let append_fails = numbers_of(self.alloc, &self.listed, DiskCall::Append)?;
-        let read_fails = numbers_of(self.alloc, &self.listed, DiskCall::ReadAt)?;
-        Ok(MemSpill::new(self.alloc, self.room, append_fails, read_fails)?)
+        Ok(spill_of(self.alloc, self.room, &self.listed)?)
     }
 
     fn give_back(&mut self, spill: MemSpill)
