@@ -17,6 +17,33 @@ pub(crate) const CHUNK_ENDS: usize = 192;
 /// The byte of an edge that isn't taken; each greater byte means the same.
 pub(crate) const UNTAKEN: u8 = 8;
 
+/// Arrays for what is read of a chunk. A peel makes them once. What they contain before a chunk means nothing.
+#[derive(Drop)]
+pub(crate) struct Scratch<const K: usize> {
+    pub(crate) ends: [[u32; K]; CHUNK],
+    pub(crate) halves: [Half; CHUNK_ENDS],
+    pub(crate) places: [u32; CHUNK_ENDS],
+    pub(crate) marks: [u8; CHUNK_ENDS],
+    ghost ends_long: { length ends ≡ 64 },
+    ghost halves_long: { length halves ≡ 192 },
+    ghost places_long: { length places ≡ 192 },
+    ghost marks_long: { length marks ≡ 192 },
+}
+
+impl<const K: usize> Scratch<K> {
+    pub(crate) fn new() -> Scratch<K> {
+        Scratch {
+            ends: [[0; K]; CHUNK],
+            halves: [Half {
+                vertex: 0,
+                place: 0,
+            }; CHUNK_ENDS],
+            places: [0; CHUNK_ENDS],
+            marks: [0; CHUNK_ENDS],
+        }
+    }
+}
+
 /// Reads the bytes of some edges.
 fn look_up(bytes: &[u8], chunk: &[u32], marks: &mut [u8])
     requires places { All (λ e. e < length bytes.now) chunk.now }

@@ -5,7 +5,7 @@ ghost use Rattle.cm_spec.specs.Rounds.{level_of};
 ghost use Rattle.cm_peel.specs.Peeling.{IsPeelingOf, levels_of, untaken_of};
 
 use crate::blocks::count_blocks;
-use crate::chunk::{CHUNK_ENDS, UNTAKEN};
+use crate::chunk::{CHUNK_ENDS, Scratch, UNTAKEN};
 use crate::round::{advance, begin};
 use cm_graph::{Edges, Incidence, Steps};
 use std::alloc::{AllocError, Global};
@@ -110,6 +110,7 @@ fn peel_noting<const K: usize, I: Incidence<K> + Drop, L: Ledger>(
     let mut marks = vec![in alloc; 0; m.div_ceil(64) as usize]?;
     let blocks = count_blocks(edges.vertices() as usize);
     let mut counts = vec![in alloc; 0; blocks]?;
+    let mut scratch = Scratch::<K>::new();
     let mut start = 0;
     let mut rounds = 0;
     'rounds: while start < end {
@@ -124,6 +125,7 @@ fn peel_noting<const K: usize, I: Incidence<K> + Drop, L: Ledger>(
             room,
             &mut marks,
             &mut counts,
+            &mut scratch,
             steps,
         );
         start = end;

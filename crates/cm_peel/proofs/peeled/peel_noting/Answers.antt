@@ -55,7 +55,7 @@ advance-count-requires g c =
     let blocks = subst (λ (xs : List ℕ). 0 < length xs → c.args.edges.now.vertices ≤ 65536 * length xs) (sym counts) inv.blocks in
     let empty : AreEmpty c.deref_mut-in-rounds-5.result.now = subst AreEmpty (sym counts) inv.empty in
     let few : length c.split_at_mut-done.result.1.now ≤ 67109056 = omega (arith, split.back_len, ap length c.deref_mut-in-rounds.ensures.value, c.rounds.order.ok.0, inv.room, inv.fits) in
-    (search rules, (c.len-m.ensures.width.1, (inv.fits, (c.len-m.ensures.edges, (blocks, (empty, (marks, (round, (early, (room, (few, state)))))))))))
+    (search rules, (search rules, (c.len-m.ensures.width.1, (inv.fits, (c.len-m.ensures.edges, (blocks, (empty, (marks, (round, (early, (room, (few, state))))))))))))
 
 pub rounds-smaller : goal.rounds-smaller
 rounds-smaller g c =
