@@ -79,8 +79,8 @@ abbrev pub is_untaken : List ℕ → ℕ → Bool
 is_untaken bytes e = not (is_taken bytes e)
 
 untaken_are : (graph : Graph) (t : ℕ) (l : Links) (levels bytes : List ℕ) → AtRound graph t l levels bytes → untaken_of bytes ≡ left_after graph.edges (suc t)
-untaken_are graph t l levels bytes a = ap (λ m. filter (is_untaken bytes) (numbers_from 0 m)) a.bytes_long ∙ (filter_agree_on (is_untaken bytes) (is_left graph.edges (suc t)) (places graph.edges)
-    (λ e m. ap not (a.taken e (place_below graph.edges e m)) ∙ not-not (is_left graph.edges (suc t) e)) ∙ sym (left_after_is graph.edges (suc t))) where
+untaken_are graph t l levels bytes a = ap (λ m. filter (is_untaken bytes) (numbers_from 0 m)) a.round.bytes_long ∙ (filter_agree_on (is_untaken bytes) (is_left graph.edges (suc t)) (places graph.edges)
+    (λ e m. ap not (a.round.taken e (place_below graph.edges e m)) ∙ not-not (is_left graph.edges (suc t) e)) ∙ sym (left_after_is graph.edges (suc t))) where
       not-not : (b : Bool) → not (not b) ≡ b
       not-not true = refl
       not-not false = refl
@@ -92,8 +92,8 @@ pub ended : (k : ℕ) (graph : Graph) (t : ℕ) (l : Links) (order levels bytes 
     → IsPeelingOf graph.edges (record { order = order; levels = levels; pivots = pivots_in bytes; rest = rest })
 ended k graph t l order levels bytes rest small are a few none order_are rest_are = record {
   order = order_are ∙ (ap (λ (xs : List ℕ). order_upto edges t ++ xs) none ∙ (append-nil _ ∙ sym (order_is edges t few none)));
-  pivot = λ e h above. pivot e h (a.byte e h (gone e h above (cases_Bool (is_left edges (suc t) e))));
-  pivots_long = length-map bytes (λ b. b % 4) ∙ a.bytes_long;
+  pivot = λ e h above. pivot e h (a.round.byte e h (gone e h above (cases_Bool (is_left edges (suc t) e))));
+  pivots_long = length-map bytes (λ b. b % 4) ∙ a.round.bytes_long;
   rest = rest_are ∙ (untaken_are graph t l levels bytes a ∙ sym (rest_now edges t few none));
 } where
   edges : List (List ℕ)
@@ -104,7 +104,7 @@ ended k graph t l order levels bytes rest small are a few none order_are rest_ar
       let tag : ℕ = (level_of edges e - 1) % 2 in
       let small_pivot : pivot_of edges e ≤ 3 = pivot_small k graph e small are h in
       let whole : get_or bytes e 0 ≡ 4 * tag + pivot_of edges e = is in
-      get_or-map (λ b. b % 4) bytes e 0 0 (omega (arith, a.bytes_long)) ∙ omega (arith, whole, small_pivot)
+      get_or-map (λ b. b % 4) bytes e 0 0 (omega (arith, a.round.bytes_long)) ∙ omega (arith, whole, small_pivot)
 
   gone : (e : ℕ) → e < length graph.edges → 0 < level_of graph.edges e → (is_left graph.edges (suc t) e ≡ true) ⊎ (is_left graph.edges (suc t) e ≡ false) → is_left graph.edges (suc t) e ≡ false
   gone e h above (inl here) =

@@ -17,6 +17,7 @@ use Rattle.cm_peel.proofs.Incident.{any_before}
 use Rattle.cm_peel.proofs.Pieces.{numbers-append}
 use Rattle.cm_peel.proofs.RoundFacts.{picked_is, picked_first}
 use Rattle.cm_peel.proofs.Advance.{byte_is, levels_next}
+use Rattle.cm_peel.proofs.Begun.{round_begun}
 use Rattle.cm_peel.proofs.NextRound.{gone_next}
 use Rattle.cm_peel.proofs.Taking.{or_none}
 
@@ -76,12 +77,9 @@ first_taken k graph l bytes small are a blong set =
 pub first_round : (k : ℕ) (graph : Graph) (l : Links) (round levels levels' bytes : List ℕ) → k ≤ 3 → AreEdges k graph.vertices graph.edges → AreLinked graph (λ _ _. true) l → (0 < length levels → length levels ≡ length graph.edges) → ((e : ℕ) → e < length levels → get_or levels e 0 ≡ 0) → length bytes ≡ length graph.edges
     → ((e : ℕ) → e < length graph.edges → get_or bytes e 0 ≡ first_byte k l graph.edges e) → round ≡ removed_after graph.edges 0 → length levels' ≡ length levels → ((e : ℕ) → e < length levels → get_or levels' e 0 ≡ cond (has round e) 1 (get_or levels e 0)) → AtRound graph 0 l levels' bytes
 first_round k graph l round levels levels' bytes small are a kept zero blong set is llong lset = record {
-  linked = a;
+  round = round_begun graph 0 l bytes a blong byte (λ e h. picked_byte k graph l bytes small are set e h ∙ (removed e h ∙ (sym (or_none (has (removed_after edges 0) e)) ∙ gone_next edges 0 e h)));
   levels_kept = λ n. llong ∙ kept (omega arith);
-  bytes_long = blong;
   level = λ e h. level e (omega arith);
-  byte = λ e h gone. byte e h gone;
-  taken = λ e h. picked_byte k graph l bytes small are set e h ∙ (removed e h ∙ (sym (or_none (has (removed_after edges 0) e)) ∙ gone_next edges 0 e h));
 } where
   edges : List (List ℕ)
   edges = graph.edges

@@ -4,44 +4,23 @@ use Rattle.std.specs.List.{All, filter, position_or_len}
 use Rattle.std.proofs.lemmas.List.Sorted.{length_permutation}
 use Rattle.std.proofs.lemmas.List.Elements.{All-from_get_or, Contains-get_or}
 use Rattle.std.proofs.lemmas.List.Sums.{passes_at_first}
-use Rattle.std.proofs.lemmas.Bool.{both_ways, cases_Bool, cases_lt, eqb-true, eqb-false, eq-eqb, ne_eqb, lt-ltb, le-ltb, and_parts, and_from, and_left, and_right, or_cases, or_left, or_right, cond-true, cond-false, false≢true, not_from_true, not_from_false}
+use Rattle.std.proofs.lemmas.Bool.{both_ways, cases_Bool, cases_lt, eqb-true, eqb-false, eq-eqb, ne_eqb, lt-ltb, le-ltb, and_parts, and_from, and_left, and_right, or_cases, or_left, or_right, cond-true, cond-false, false≢true, not_from_false}
 use Rattle.cm_spec.specs.Lists.{has}
 use Rattle.cm_spec.specs.Graph.{AreEdges, places, touches, ends_at}
-use Rattle.cm_spec.specs.Rounds.{is_left, is_held, left_after, level_of}
+use Rattle.cm_spec.specs.Rounds.{is_left, left_after, level_of}
 use Rattle.cm_graph.specs.declared.incidence.Half.{Half}
 use Rattle.cm_graph.specs.Graph.{Graph, Links, is_free, degree_of, places_of, removed_all, IsHalf}
-use Rattle.cm_peel.specs.Incident.{is_half_left, is_picked, free_position}
-use Rattle.cm_peel.specs.AtRound.{AtRound, InRound, AreTaken, IsOtherPlace, is_half_kept, tag_of, is_listed, least}
+use Rattle.cm_peel.specs.Incident.{is_picked, free_position}
+use Rattle.cm_peel.specs.AtRound.{InRound, AreTaken, IsOtherPlace, is_half_kept, tag_of, is_listed, least}
 use Rattle.cm_peel.specs.Peeling.{is_taken}
 use Rattle.cm_peel.specs.SetLaws.{has-from_Contains}
 use Rattle.cm_peel.specs.CoreLaws.{left_after_is}
-use Rattle.cm_peel.specs.RoundLaws.{has_left_from}
 use Rattle.cm_peel.proofs.Falls.{falls_level}
 use Rattle.cm_peel.proofs.Sets.{and_true, same_from}
 use Rattle.cm_peel.proofs.Listing.{kept_moved}
-use Rattle.cm_peel.proofs.Incident.{AreLinked-agree, AreShort, place_in, any_before, first_le}
+use Rattle.cm_peel.proofs.Incident.{AreShort, place_in, any_before, first_le}
 use Rattle.cm_peel.proofs.Taking.{has-append, AreApart-append, least-le, least-le_listed, least-low, least-unlisted, least-is}
-use Rattle.cm_peel.proofs.RoundFacts.{picked_is}
 use Rattle.cm_peel.proofs.Unlinking.{any_found, any_from, AreRemoved, are_removed, IsFreed, freed_is, few_ends, newly_listed, still_free, position_at, touches_at, pivot_small}
-
--- before the first removal
-pub in_round_none : (graph : Graph) (t : ℕ) (l : Links) (levels bytes : List ℕ) → AtRound graph t l levels bytes → InRound graph t [] l [] bytes
-in_round_none graph t l levels bytes a = record {
-  linked = AreLinked-agree graph (is_half_left graph.edges t) (is_half_kept graph.edges t []) l a.linked (λ e j h k. and_true (is_half_left graph.edges t e j));
-  others = λ q m. absurd (false≢true m);
-  apart = tt;
-  inside = λ e m. absurd (false≢true m);
-  members = λ e h. sym (none e h (cases_Bool (is_left graph.edges (suc t) e)));
-  bytes_long = a.bytes_long;
-  byte = a.byte;
-  next_byte = λ e m. absurd (false≢true m);
-  taken = a.taken;
-} where
-  none : (e : ℕ) → e < length graph.edges → (is_left graph.edges (suc t) e ≡ true) ⊎ (is_left graph.edges (suc t) e ≡ false) → (is_left graph.edges (suc t) e && is_picked l graph.edges e) ≡ false
-  none e h (inl here) =
-      let both = and_parts (is_left graph.edges t e) (is_held graph.edges (left_after graph.edges t) e) here in
-      and_right (is_left graph.edges (suc t) e) _ (picked_is graph t l e a.linked (has_left_from graph.edges t e h both.0) ∙ not_from_true _ both.1)
-  none e h (inr gone) = and_left _ (is_picked l graph.edges e) gone
 
 -- some half-edges of the round are removed, in any order, and the places that this leaves alone are taken
 pub in_round_more : (k : ℕ) (graph : Graph) (t : ℕ) (gone : List ℕ) (l m : Links) (halves : List Half) (next bytes next' bytes' : List ℕ) → k ≤ 3 → AreEdges k graph.vertices graph.edges → InRound graph t gone l next bytes → All (IsHalf l) halves

@@ -1,5 +1,6 @@
 pub mod Advance
 pub mod Alone
+pub mod Begun
 pub mod ByBlocks
 pub mod Chunks
 pub mod Ending

@@ -15,6 +15,7 @@ use Rattle.cm_peel.specs.Incident.{AreLinked, is_half_left, is_picked}
 use Rattle.cm_peel.specs.AtRound.{AtRound, InRound, byte_of, is_half_kept, other_places}
 use Rattle.cm_peel.specs.SetLaws.{increasing_from_Rises, Rises-from_increasing, has-from_Contains}
 use Rattle.cm_peel.specs.RoundLaws.{has_left, has_place, has_left_from, is_left_from, has_removed, removed_rises, removed_is_left}
+use Rattle.cm_peel.proofs.Begun.{round_begun}
 use Rattle.cm_peel.proofs.Incident.{AreLinked-agree}
 use Rattle.cm_peel.proofs.Halves.{others_place_found, others_place_there}
 use Rattle.cm_peel.proofs.Pieces.{rises_sorted}
@@ -133,12 +134,9 @@ gone_next edges t e h =
 pub next_round : (k : ℕ) (graph : Graph) (t : ℕ) (l m : Links) (levels bytes next bytes₁ round levels₂ : List ℕ) → k ≤ 3 → AreEdges k graph.vertices graph.edges → AtRound graph t l levels bytes → InRound graph t (other_places graph.edges (removed_after graph.edges t)) m next bytes₁ → round ≡ removed_after graph.edges (suc t)
     → length levels₂ ≡ length levels → ((e : ℕ) → e < length levels → get_or levels₂ e 0 ≡ cond (has round e) (suc (suc t)) (get_or levels e 0)) → AtRound graph (suc t) m levels₂ bytes₁
 next_round k graph t l m levels bytes next bytes₁ round levels₂ small are a r is llong lset = record {
-  linked = linked;
+  round = round_begun graph (suc t) m bytes₁ linked r.bytes_long (λ e h gone. byte e h gone (cases_Bool (is_left edges (suc t) e))) (λ e h. r.taken e h ∙ (ap (λ b. b || not (is_left edges (suc t) e)) (members e) ∙ gone_next edges (suc t) e h));
   levels_kept = λ n. llong ∙ a.levels_kept (omega arith);
-  bytes_long = r.bytes_long;
   level = λ e h. level e (omega arith);
-  byte = λ e h gone. byte e h gone (cases_Bool (is_left edges (suc t) e));
-  taken = λ e h. r.taken e h ∙ (ap (λ b. b || not (is_left edges (suc t) e)) (members e) ∙ gone_next edges (suc t) e h);
 } where
   edges : List (List ℕ)
   edges = graph.edges

@@ -20,18 +20,6 @@ tag_of t = 4 * (t % 2)
 abbrev pub byte_of : List (List ℕ) → ℕ → ℕ
 byte_of edges e = tag_of (level_of edges e - 1) + pivot_of edges e
 
--- t rounds went before, and the edges of the next one are taken
-pub record AtRound (graph : Graph) (t : ℕ) (l : Links) (levels bytes : List ℕ) : Type 0 where
-  -- the edges that are left are linked
-  pub linked : AreLinked graph (is_half_left graph.edges t) l
-  -- levels are kept of all edges, or of none
-  pub levels_kept : 0 < length levels → length levels ≡ length graph.edges
-  pub bytes_long : length bytes ≡ length graph.edges
-  -- the edges of the next round have their level and byte already; what is left after it is not taken
-  pub level : (e : ℕ) → e < length levels → slice_index levels e ≡ (if is_left graph.edges (suc t) e then 0 else level_of graph.edges e)
-  pub byte : (e : ℕ) → e < length graph.edges → is_left graph.edges (suc t) e ≡ false → slice_index bytes e ≡ byte_of graph.edges e
-  pub taken : (e : ℕ) → e < length graph.edges → is_taken bytes e ≡ not (is_left graph.edges (suc t) e)
-
 -- the place of an edge that this round removes, at another position than its pivot's
 abbrev pub IsOtherPlace : List (List ℕ) → ℕ → ℕ → Type 0
 IsOtherPlace edges t q = (has (removed_after edges t) (q / 4) ≡ true) × (q % 4 ≢ pivot_of edges (q / 4))
@@ -56,6 +44,14 @@ pub record InRound (graph : Graph) (t : ℕ) (gone : List ℕ) (l : Links) (next
   -- an edge that is freed has the lowest position of an end of degree one
   pub next_byte : (e : ℕ) → has next e ≡ true → slice_index bytes e ≡ tag_of (suc t) + free_position l graph.edges e
   pub taken : (e : ℕ) → e < length graph.edges → is_taken bytes e ≡ (has next e || not (is_left graph.edges (suc t) e))
+
+-- t rounds went before, and the edges of the next one are taken; none of its half-edges is removed yet
+pub record AtRound (graph : Graph) (t : ℕ) (l : Links) (levels bytes : List ℕ) : Type 0 where
+  pub round : InRound graph t [] l [] bytes
+  -- levels are kept of all edges, or of none
+  pub levels_kept : 0 < length levels → length levels ≡ length graph.edges
+  -- the edges of the next round have their level already
+  pub level : (e : ℕ) → e < length levels → slice_index levels e ≡ (if is_left graph.edges (suc t) e then 0 else level_of graph.edges e)
 
 -- whether one of these places is the edge's
 abbrev pub is_listed : List ℕ → ℕ → Bool

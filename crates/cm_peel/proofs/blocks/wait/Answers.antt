@@ -25,10 +25,9 @@ put-b-requires-clause-free g c =
     let graph : Graph = c.args.edges.now in
     let size : ℕ = c.args.plan.size in
     let halves : List Half = c.args.halves.now in
-    let fits : IsRoom graph size c.loop-half.room c.loop-half.counts c.loop-half.marks = room_kept graph size c.args.room.now c.args.counts.now c.args.marks.now c.loop-half.room c.loop-half.counts c.loop-half.marks c.requires.room inv.room inv.counts inv.marks in
     let i : ℕ = c.loop-half.half-index in
     let h : Half = get_or halves i (record { vertex = 0; place = 0 }) in
-    let below = there_for g.row.K graph size c.loop-half.room c.loop-half.counts c.loop-half.marks halves i (h.vertex / 65536) h refl (get_or_default halves i _ _ c.loop-half-test.true) c.requires.edges fits c.requires.ends c.loop-half-test.true in
+    let below = there_for g.row.K graph size c.loop-half.room c.loop-half.counts c.loop-half.marks halves i (h.vertex / 65536) h refl (get_or_default halves i _ _ c.loop-half-test.true) c.requires.edges inv.room c.requires.ends c.loop-half-test.true in
     omega (arith, inv.free (h.vertex / 65536) below, c.requires.room.even)
 
 pub settle-count-requires : goal.settle-count-requires
@@ -38,14 +37,13 @@ settle-count-requires g c =
     let t : ℕ = c.args.plan.rounds in
     let size : ℕ = c.args.plan.size in
     let halves : List Half = c.args.halves.now in
-    let fits : IsRoom graph size c.loop-half.room c.loop-half.counts c.loop-half.marks = room_kept graph size c.args.room.now c.args.counts.now c.args.marks.now c.loop-half.room c.loop-half.counts c.loop-half.marks c.requires.room inv.room inv.counts inv.marks in
     let l : Links = g.I.Incidence.links c.loop-half.incidence in
     let i : ℕ = c.loop-half.half-index in
     let one : (done : List ℕ) → ((q : ℕ) → has (map place_in halves) q ≡ true → has done q ≡ false) → InBlocks graph t size c.args.plan.blocks c.args.plan.each c.args.room.now c.args.counts.now (g.I.Incidence.links c.args.incidence.now) c.args.marks.now c.args.bytes.now c.args.freed.now done → InBlocks graph t size c.args.plan.blocks c.args.plan.each c.put-b.new.room c.put-b.new.counts l c.loop-half.marks c.loop-half.bytes c.loop-half.freed (done ++ map place_in (take (i + 1) halves)) = (λ done fresh r.
-    rw (c.put-b.ensures.room, c.put-b.ensures.counts) (wait_one g.row.K graph t size c.args.plan.blocks c.args.plan.each c.loop-half.room c.loop-half.counts l c.loop-half.marks c.loop-half.bytes c.loop-half.freed done halves i _ c.requires.edges fits inv.free c.requires.ends c.requires.others c.requires.apart fresh c.loop-half-test.true (get_or_default halves i _ _ c.loop-half-test.true) (inv.state done fresh r))) in
-    let after : IsRoom graph size c.put-b.new.room c.put-b.new.counts c.loop-half.marks = room_kept graph size c.loop-half.room c.loop-half.counts c.loop-half.marks c.put-b.new.room c.put-b.new.counts c.loop-half.marks fits c.put-b.auto.room c.put-b.auto.counts refl in
+    rw (c.put-b.ensures.room, c.put-b.ensures.counts) (wait_one g.row.K graph t size c.args.plan.blocks c.args.plan.each c.loop-half.room c.loop-half.counts l c.loop-half.marks c.loop-half.bytes c.loop-half.freed done halves i _ c.requires.edges inv.room inv.free c.requires.ends c.requires.others c.requires.apart fresh c.loop-half-test.true (get_or_default halves i _ _ c.loop-half-test.true) (inv.state done fresh r))) in
+    let after : IsRoom graph size c.put-b.new.room c.put-b.new.counts c.loop-half.marks = room_kept graph size c.loop-half.room c.loop-half.counts c.loop-half.marks c.put-b.new.room c.put-b.new.counts c.loop-half.marks inv.room c.put-b.auto.room c.put-b.auto.counts refl in
     let st = c.requires.state in
-    (search rules, (c.requires.small, (c.requires.fits, (c.requires.edges, (c.requires.early, (after, (c.requires.positive, (there_for g.row.K graph size c.loop-half.room c.put-b.new.counts c.loop-half.marks halves i _ _ c.put-b.ensures.block (get_or_default halves i _ _ c.loop-half-test.true) c.requires.edges (room_kept graph size c.loop-half.room c.loop-half.counts c.loop-half.marks c.loop-half.room c.put-b.new.counts c.loop-half.marks fits refl c.put-b.auto.counts refl) c.requires.ends c.loop-half-test.true, (st.0 ++ map place_in (take (i + 1) halves), one st.0 st.1 st.2)))))))))
+    (search rules, (c.requires.small, (c.requires.fits, (c.requires.edges, (c.requires.early, (after, (c.requires.positive, (there_for g.row.K graph size c.loop-half.room c.put-b.new.counts c.loop-half.marks halves i _ _ c.put-b.ensures.block (get_or_default halves i _ _ c.loop-half-test.true) c.requires.edges (room_kept graph size c.loop-half.room c.loop-half.counts c.loop-half.marks c.loop-half.room c.put-b.new.counts c.loop-half.marks inv.room refl c.put-b.auto.counts refl) c.requires.ends c.loop-half-test.true, (st.0 ++ map place_in (take (i + 1) halves), one st.0 st.1 st.2)))))))))
 
 pub overflow_add-count : goal.overflow_add-count
 overflow_add-count g c =
@@ -54,12 +52,10 @@ overflow_add-count g c =
     let t : ℕ = c.args.plan.rounds in
     let size : ℕ = c.args.plan.size in
     let halves : List Half = c.args.halves.now in
-    let fits : IsRoom graph size c.loop-half.room c.loop-half.counts c.loop-half.marks = room_kept graph size c.args.room.now c.args.counts.now c.args.marks.now c.loop-half.room c.loop-half.counts c.loop-half.marks c.requires.room inv.room inv.counts inv.marks in
     let l : Links = g.I.Incidence.links c.loop-half.incidence in
     let i : ℕ = c.loop-half.half-index in
     let one : (done : List ℕ) → ((q : ℕ) → has (map place_in halves) q ≡ true → has done q ≡ false) → InBlocks graph t size c.args.plan.blocks c.args.plan.each c.args.room.now c.args.counts.now (g.I.Incidence.links c.args.incidence.now) c.args.marks.now c.args.bytes.now c.args.freed.now done → InBlocks graph t size c.args.plan.blocks c.args.plan.each c.put-b.new.room c.put-b.new.counts l c.loop-half.marks c.loop-half.bytes c.loop-half.freed (done ++ map place_in (take (i + 1) halves)) = (λ done fresh r.
-    rw (c.put-b.ensures.room, c.put-b.ensures.counts) (wait_one g.row.K graph t size c.args.plan.blocks c.args.plan.each c.loop-half.room c.loop-half.counts l c.loop-half.marks c.loop-half.bytes c.loop-half.freed done halves i _ c.requires.edges fits inv.free c.requires.ends c.requires.others c.requires.apart fresh c.loop-half-test.true (get_or_default halves i _ _ c.loop-half-test.true) (inv.state done fresh r))) in
-    let after : IsRoom graph size c.put-b.new.room c.put-b.new.counts c.loop-half.marks = room_kept graph size c.loop-half.room c.loop-half.counts c.loop-half.marks c.put-b.new.room c.put-b.new.counts c.loop-half.marks fits c.put-b.auto.room c.put-b.auto.counts refl in
+    rw (c.put-b.ensures.room, c.put-b.ensures.counts) (wait_one g.row.K graph t size c.args.plan.blocks c.args.plan.each c.loop-half.room c.loop-half.counts l c.loop-half.marks c.loop-half.bytes c.loop-half.freed done halves i _ c.requires.edges inv.room inv.free c.requires.ends c.requires.others c.requires.apart fresh c.loop-half-test.true (get_or_default halves i _ _ c.loop-half-test.true) (inv.state done fresh r))) in
     let st = c.requires.state in
     let r = c.settle-count.ensures.state _ (one st.0 st.1 st.2) in
     let small : c.loop-half.count + c.settle-count.result < 67108865 = omega (arith, marked_few c.settle-count.new.marks, r.round.leads.few_marks, c.settle-count.ensures.count, inv.count) in
@@ -83,18 +79,14 @@ loop-half-preserved g c =
     let t : ℕ = c.args.plan.rounds in
     let size : ℕ = c.args.plan.size in
     let halves : List Half = c.args.halves.now in
-    let fits : IsRoom graph size c.loop-half.room c.loop-half.counts c.loop-half.marks = room_kept graph size c.args.room.now c.args.counts.now c.args.marks.now c.loop-half.room c.loop-half.counts c.loop-half.marks c.requires.room inv.room inv.counts inv.marks in
     let l : Links = g.I.Incidence.links c.loop-half.incidence in
     let i : ℕ = c.loop-half.half-index in
     let one : (done : List ℕ) → ((q : ℕ) → has (map place_in halves) q ≡ true → has done q ≡ false) → InBlocks graph t size c.args.plan.blocks c.args.plan.each c.args.room.now c.args.counts.now (g.I.Incidence.links c.args.incidence.now) c.args.marks.now c.args.bytes.now c.args.freed.now done → InBlocks graph t size c.args.plan.blocks c.args.plan.each c.put-b.new.room c.put-b.new.counts l c.loop-half.marks c.loop-half.bytes c.loop-half.freed (done ++ map place_in (take (i + 1) halves)) = (λ done fresh r.
-    rw (c.put-b.ensures.room, c.put-b.ensures.counts) (wait_one g.row.K graph t size c.args.plan.blocks c.args.plan.each c.loop-half.room c.loop-half.counts l c.loop-half.marks c.loop-half.bytes c.loop-half.freed done halves i _ c.requires.edges fits inv.free c.requires.ends c.requires.others c.requires.apart fresh c.loop-half-test.true (get_or_default halves i _ _ c.loop-half-test.true) (inv.state done fresh r))) in
-    let after : IsRoom graph size c.put-b.new.room c.put-b.new.counts c.loop-half.marks = room_kept graph size c.loop-half.room c.loop-half.counts c.loop-half.marks c.put-b.new.room c.put-b.new.counts c.loop-half.marks fits c.put-b.auto.room c.put-b.auto.counts refl in
-    let there = there_for g.row.K graph size c.loop-half.room c.loop-half.counts c.loop-half.marks halves i _ _ c.put-b.ensures.block (get_or_default halves i _ _ c.loop-half-test.true) c.requires.edges fits c.requires.ends c.loop-half-test.true in
+    rw (c.put-b.ensures.room, c.put-b.ensures.counts) (wait_one g.row.K graph t size c.args.plan.blocks c.args.plan.each c.loop-half.room c.loop-half.counts l c.loop-half.marks c.loop-half.bytes c.loop-half.freed done halves i _ c.requires.edges inv.room inv.free c.requires.ends c.requires.others c.requires.apart fresh c.loop-half-test.true (get_or_default halves i _ _ c.loop-half-test.true) (inv.state done fresh r))) in
+    let there = there_for g.row.K graph size c.loop-half.room c.loop-half.counts c.loop-half.marks halves i _ _ c.put-b.ensures.block (get_or_default halves i _ _ c.loop-half-test.true) c.requires.edges inv.room c.requires.ends c.loop-half-test.true in
     let put : c.put-b.new.counts ≡ set c.loop-half.counts c.put-b.result (get_or c.loop-half.counts c.put-b.result 0 + 1) = rw c.put-b.ensures.block c.put-b.ensures.counts in
     record {
-      room = c.put-b.auto.room ∙ inv.room;
-      counts = c.settle-count.auto.counts ∙ (c.put-b.auto.counts ∙ inv.counts);
-      marks = c.settle-count.auto.marks ∙ inv.marks;
+      room = room_kept graph size c.loop-half.room c.loop-half.counts c.loop-half.marks c.put-b.new.room c.settle-count.new.counts c.settle-count.new.marks inv.room c.put-b.auto.room (c.settle-count.auto.counts ∙ c.put-b.auto.counts) c.settle-count.auto.marks;
       free = free_for size c.put-b.result c.loop-half.counts c.put-b.new.counts c.settle-count.new.counts inv.free (c.settle-count.auto.counts ∙ c.put-b.auto.counts) put c.settle-count.ensures.free c.settle-count.ensures.others;
       state = λ done fresh r. c.settle-count.ensures.state _ (one done fresh r);
       count = omega (arith, c.settle-count.ensures.count, inv.count);

@@ -9,7 +9,7 @@ use Rattle.cm_spec.specs.Rounds.{removed_after}
 use Rattle.cm_graph.specs.declared.incidence.Half.{Half}
 use Rattle.cm_graph.specs.Graph.{Graph}
 use Rattle.cm_peel.specs.AtRound.{other_places}
-use Rattle.cm_peel.specs.Waiting.{InBlocks, IsRoom}
+use Rattle.cm_peel.specs.Waiting.{InBlocks}
 use Rattle.cm_peel.proofs.ByBlocks.{are_next}
 use Rattle.cm_peel.proofs.Settling.{marked_few}
 use Rattle.cm_peel.proofs.NextRound.{round_places}
@@ -59,8 +59,7 @@ wait-count-requires g c =
     let few : d + n ≤ length (removed_after graph.edges t) = omega (arith, c.min-many.ensures, inv.high, ap length c.requires.round) in
     let is = chunk_is graph t d n c.args.round.now c.requires.round in
     let next = are_next g.row.K graph t _ _ d n _ _ _ _ _ _ _ c.requires.small c.requires.edges inv.state.round few is c.list_halves-others.ensures.halves in
-    let fits : IsRoom graph c.args.plan.size c.chunks.room c.chunks.counts c.chunks.marks = room_kept graph c.args.plan.size c.args.room.now c.args.counts.now c.args.marks.now c.chunks.room c.chunks.counts c.chunks.marks c.requires.room inv.room inv.counts inv.marks in
-    (search rules, (c.requires.small, (c.requires.fits, (c.requires.edges, (c.requires.early, (fits, (c.requires.positive, (inv.free, (next.ends, (next.others, (next.apart, (gone_before graph t d, next.fresh, inv.state))))))))))))
+    (search rules, (c.requires.small, (c.requires.fits, (c.requires.edges, (c.requires.early, (inv.room, (c.requires.positive, (inv.free, (next.ends, (next.others, (next.apart, (gone_before graph t d, next.fresh, inv.state))))))))))))
 
 pub overflow_add-count : goal.overflow_add-count
 overflow_add-count g c =
@@ -103,9 +102,7 @@ chunks-preserved g c =
       ends = length_written c.list_halves-others.new.ends c.chunks.ends n 64 c.list_halves-others.auto.ends small inv.ends;
       halves = c.list_halves-others.auto.halves ∙ inv.halves;
       known = c.list_halves-others.auto.marks ∙ inv.known;
-      room = c.wait-count.auto.room ∙ inv.room;
-      counts = c.wait-count.auto.counts ∙ inv.counts;
-      marks = c.wait-count.auto.marks ∙ inv.marks;
+      room = room_kept graph c.args.plan.size c.chunks.room c.chunks.counts c.chunks.marks c.wait-count.new.room c.wait-count.new.counts c.wait-count.new.marks inv.room c.wait-count.auto.room c.wait-count.auto.counts c.wait-count.auto.marks;
       free = c.wait-count.ensures.free;
       state = subst (InBlocks graph t c.args.plan.size c.args.plan.blocks c.args.plan.each c.wait-count.new.room c.wait-count.new.counts (g.I.Incidence.links c.wait-count.new.incidence) c.wait-count.new.marks c.wait-count.new.bytes c.wait-count.new.freed) next.more (c.wait-count.ensures.state (gone_before graph t d) next.fresh inv.state);
       count = omega (arith, c.wait-count.ensures.count, inv.count);
