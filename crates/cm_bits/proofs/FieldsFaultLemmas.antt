@@ -19,7 +19,7 @@ use Rattle.cm_bits.specs.FieldsLaws.{length-field_cells, field_cells-at}
 use Rattle.cm_bits.specs.FaultLaws.{no_fault, cell_fault, padding_fault, sound_fault}
 use Rattle.cm_bits.proofs.FaultLemmas.{found, not_found, finds, finds_none}
 use Rattle.cm_bits.proofs.FieldsLemmas.{fields_number-field_cells}
-use Rattle.cm_bits.proofs.PackedLemmas.{cell_of_zeros}
+use Rattle.cm_bits.specs.AppendLaws.{cell_of_zeros}
 
 -- what is past the cells stands in one byte
 pub padding_is : (w n : ℕ) (bytes : List ℕ) → length bytes ≡ fields_len w n → ((k : ℕ) → slice_index bytes k < 256) → bytes_number bytes / (2 ^ w) ^ n ≡ slice_index bytes (n * w / 8) / 2 ^ (n * w % 8)

@@ -18,7 +18,8 @@ use Rattle.cm_bits.specs.DigitsLaws.{digits_sum-same, digit-digits_sum, digits_s
 use Rattle.cm_bits.specs.FieldsLaws.{length-field_cells, field_cells-at, field_cells-fields_number, fields_number-lt, width-fits}
 use Rattle.cm_bits.proofs.DigitsLemmas.{digits_sum-change, digits_sum-zero}
 use Rattle.cm_bits.proofs.WindowLemmas.{window_is, number_put, fit_put}
-use Rattle.cm_bits.proofs.PackedLemmas.{AllBelow-set, cell_of_zeros}
+use Rattle.cm_bits.specs.AppendLaws.{cell_of_zeros}
+use Rattle.cm_bits.proofs.PackedLemmas.{AllBelow-set}
 use Rattle.cm_bits.specs.declared.TheConstants.{MAX_FIELD_BOUND}
 
 -- a field of w bits lies in a window of r bits from word j on

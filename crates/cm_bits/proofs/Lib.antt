@@ -1,3 +1,4 @@
+mod AppendLemmas
 pub mod ByteLemmas
 pub mod ClearLemmas
 pub mod DigitsLemmas

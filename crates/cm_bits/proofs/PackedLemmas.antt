@@ -3,9 +3,10 @@ use Rattle.std.specs.Prelude.{◌≡◌, ◌≢◌, ℕ, ◌+◌, ◌*◌, ◌/�
 use Rattle.std.proofs.Common.{arith, ap, sym, ◌∙◌, inl, inr}
 use Rattle.std.proofs.Math.Nat.{div-add-mod, mul-le-mul_left, mod-le, div-mul-le_self}
 use Rattle.std.proofs.lemmas.Nat.{mod_below, div-mul-add}
-use Rattle.std.proofs.lemmas.Bool.{cases_eq, cases_lt}
-use Rattle.std.proofs.lemmas.List.{get_or_past, length-set, get_or-set_same, get_or-set_other, get_or-replicate, length-replicate}
+use Rattle.std.proofs.lemmas.Bool.{cases_eq}
+use Rattle.std.proofs.lemmas.List.{length-set, get_or-set_same, get_or-set_other, length-replicate}
 use Rattle.cm_spec.specs.Image.{packed_len, packed_byte}
+use Rattle.cm_bits.specs.AppendLaws.{cell_of_zeros}
 use Rattle.cm_bits.specs.Bound.{AllBelow}
 use Rattle.cm_bits.specs.Held.{packed_cells, IsImageOf, IsPacked}
 use Rattle.cm_bits.specs.DigitsLaws.{digits_sum-same}
@@ -19,12 +20,6 @@ AllBelow-set d xs i v m h k l =
       | inl e ↦ let at_i : i < length xs = omega arith in rw (e, get_or-set_same xs i v 0 at_i) m
       | inr ne ↦ rw (get_or-set_other xs i k v 0 ne) (h k (omega arith))
     ]
-
-pub cell_of_zeros : (n i : ℕ) → slice_index (replicate n 0) i ≡ 0
-cell_of_zeros n i = elim (cases_lt i n) [
-  | inl l ↦ get_or-replicate n i 0 0 l
-  | inr l ↦ get_or_past (replicate n 0) i 0 (let len : length (replicate n 0) ≡ n = length-replicate {A = ℕ} n 0 in omega arith)
-]
 
 -- no cell but one of a byte changes
 pub packed_byte-set : (d p : ℕ) (xs : List ℕ) (i v : ℕ) → 0 < p → i < length xs → packed_byte d p (set xs i v) (i / p) + slice_index xs i * d ^ (i % p) ≡ packed_byte d p xs (i / p) + v * d ^ (i % p)
@@ -43,10 +38,10 @@ packed_byte-set_other d p xs i v j ne =
     ne (sym (ap (λ x. x / p) (sym turned) ∙ div-mul-add j p k m))))
 
 -- the image of the cells that packed bytes hold
-image_of : (d p n : ℕ) (bs : List ℕ) → IsPacked d p n bs → IsImageOf d p (packed_cells d p n bs) bs
+pub image_of : (d p n : ℕ) (bs : List ℕ) → IsPacked d p n bs → IsImageOf d p (packed_cells d p n bs) bs
 image_of d p n bs w = record { len = w.len ∙ ap (packed_len p) (sym (length-packed_cells d p n bs)); image = w.image }
 
-packed_of : (d p n : ℕ) (xs bs : List ℕ) → length xs ≡ n → packed_cells d p n bs ≡ xs → IsImageOf d p xs bs → IsPacked d p n bs
+pub packed_of : (d p n : ℕ) (xs bs : List ℕ) → length xs ≡ n → packed_cells d p n bs ≡ xs → IsImageOf d p xs bs → IsPacked d p n bs
 packed_of d p n xs bs e c w = record { len = w.len ∙ ap (packed_len p) e; image = λ q l. rw c (w.image q l) }
 
 -- a cell is written by its byte

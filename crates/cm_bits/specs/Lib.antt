@@ -1,3 +1,5 @@
+pub mod AppendLaws
+pub mod Appending
 pub mod Bound
 pub mod ByteLaws
 pub mod DigitsLaws

@@ -1,5 +1,6 @@
 // Cells as digits in a small base, several of them in a byte.
-ghost use Rattle.std.specs.Prelude.{◌≡◌, ℕ, ◌+◌, ◌*◌, ◌/◌, ◌%◌, ◌^◌, ◌<◌, ◌≤◌, ◌↔◌, IsTrue, length, refl};
+ghost use Rattle.std.specs.Prelude.{◌≡◌, ℕ, ◌+◌, ◌*◌, ◌/◌, ◌%◌, ◌^◌, ◌<◌, ◌≤◌, ◌↔◌, ◌++◌, [], IsTrue, OnErr, OnOk, length, refl};
+ghost use Rattle.cm_bits.specs.Appending.{filled_up};
 ghost use Rattle.cm_bits.specs.Bound.{AllBelow};
 ghost use Rattle.cm_bits.specs.Fault.{packed_fault};
 ghost use Rattle.cm_bits.specs.Held.{IsPacked, packed_cells};
@@ -65,6 +66,32 @@ pub struct Packed<B: Packing> {
 }
 
 impl<B: Packing> Packed<B> {
+    /// A table without cells. It takes no memory.
+    pub fn empty(alloc: Global) -> Packed<B>
+        ensures cells { ⟦<Packed<B> as Cells>⟧.cells result ≡ [] }
+    {
+        Packed {
+            bytes: Vec::new(alloc),
+            n: 0,
+            packing: PhantomData,
+        }
+    }
+
+    /// Appends zeros up to a whole byte, and the cells of another table after them. If there is no room for these, memory is allocated
+    /// for them and for `spare` further bytes. Fails only if memory runs out, and then the cells stay.
+    pub fn append(&mut self, other: &Packed<B>, spare: usize) -> Result<(), AllocError>
+        requires room { B.PER_BYTE * packed_len B.PER_BYTE (length (⟦<Packed<B> as Cells>⟧.cells self.old)) + length (⟦<Packed<B> as Cells>⟧.cells other.now) ≤ MAX_CELLS }
+        ensures appended { OnOk result (⟦<Packed<B> as Cells>⟧.cells self.new ≡ filled_up B.PER_BYTE (⟦<Packed<B> as Cells>⟧.cells self.old) ++ ⟦<Packed<B> as Cells>⟧.cells other.now) }
+        ensures failed { OnErr result (⟦<Packed<B> as Cells>⟧.cells self.new ≡ ⟦<Packed<B> as Cells>⟧.cells self.old) }
+    {
+        make_room(&mut self.bytes, other.bytes.len(), spare)?;
+        let per_byte = B::PER_BYTE;
+        let n = per_byte * self.n.div_ceil(per_byte) + other.n;
+        self.bytes.extend_from_slice(&other.bytes)?;
+        self.n = n;
+        Ok(())
+    }
+
     /// The bytes of the table's image, the first cell in the lowest bits or digit of the first byte.
     pub fn image(&self) -> &[u8]
         ensures image { result.now ≡ list_of (packed_byte B.BASE B.PER_BYTE (⟦<Packed<B> as Cells>⟧.cells self.now)) (packed_len B.PER_BYTE (length (⟦<Packed<B> as Cells>⟧.cells self.now))) }
@@ -169,6 +196,16 @@ impl<B: Packing> Cells for Packed<B> {
             packing: PhantomData,
         })
     }
+}
+
+// Makes room for `more` bytes, and for `spare` further ones if there is none.
+fn make_room(bytes: &mut Vec<u8>, more: usize, spare: usize) -> Result<(), AllocError>
+    ensures { bytes.new.items ≡ bytes.old.items }
+{
+    if bytes.capacity() - bytes.len() < more {
+        bytes.reserve_exact(more.saturating_add(spare))?;
+    }
+    Ok(())
 }
 
 // Why bytes are no image of n cells.
