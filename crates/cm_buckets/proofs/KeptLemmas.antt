@@ -1,152 +1,124 @@
 -- Buckets that are kept, and one more of them.
-use Rattle.std.proofs.Common.{◌≡◌, ◌∙◌, ◌⊎◌, ℕ, ◌+◌, ◌<◌, ◌≤◌, ◌^◌, List, [], ◌∷◌, ◌++◌, length, take, get_or, inl, inr, ap, sym, subst, refl, arith, length-append, count_by, cond, eqb, ◌-◌, Bool, false, true}
-use Rattle.std.specs.Prelude.{slice_index, slice_index_or, IsTrue, ◌↔◌}
+use Rattle.std.proofs.Common.{◌≡◌, ◌≢◌, ◌∙◌, ◌⊎◌, ℕ, ◌+◌, ◌<◌, ◌≤◌, ◌^◌, List, [], ◌∷◌, ◌++◌, length, take, get_or, inl, inr, ap, sym, subst, arith, length-append}
+use Rattle.std.specs.Prelude.{slice_index_or}
 use Rattle.std.specs.List.{All}
-use Rattle.std.proofs.lemmas.Bool.{cases_eq, cases_lt}
-use Rattle.std.proofs.lemmas.List.{get_or-map, get_or_default, length-map, map-append, take-append-le}
+use Rattle.std.proofs.lemmas.Bool.{cases_lt}
+use Rattle.std.proofs.lemmas.List.{get_or-map, get_or_default, length-map, take-append-le}
 use Rattle.std.proofs.lemmas.List.Elements.{All-append, All-cons, All-nil}
 use Rattle.std.proofs.lemmas.List.Sums.{sum_by_push, sum_by_more_le}
 use Rattle.std.proofs.Math.ListN.{get_or-append}
 use Rattle.std.proofs.Math.Seq.{get_or-append_seam, take-length}
-use Rattle.cm_buckets.specs.Functions.{Brz, Bucket, IsBrz, IsBucket, bucket_of, bucket_cells, bucket_count, keys_in, no_bucket, offset_of}
-use Rattle.std.proofs.Math.Nat.{le-div_iff_mul-le}
-use Rattle.std.proofs.lemmas.Nat.{mod_below}
-use Rattle.cm_spec.specs.Bdz.{bdz_edge}
-use Rattle.cm_spec.specs.Lookup2.{words}
-use Rattle.cm_buckets.specs.Places.{brz_place, ends_in}
+use Rattle.cm_buckets.specs.Functions.{Brz, Bucket, IsBrz, IsBucket, bucket_cells, bucket_count, keys_in, no_bucket, offset_of}
 use Rattle.cm_bits.specs.Bound.{AllBelow}
 use Rattle.cm_buckets.specs.declared.limits.TheConstants.{MAX_BUCKET}
-use Rattle.cm_spec.specs.Cells.{is_busy}
-use Rattle.cm_buckets.specs.Pushing.{Miscounts}
-use Rattle.cm_buckets.specs.Kept.{AreKept, Kept, buckets_of, none_kept}
+use Rattle.cm_buckets.specs.Pushing.{Counts}
+use Rattle.cm_buckets.specs.Kept.{AreKept, LiesIn, bucket_in, buckets_of, none_kept}
+use Rattle.cm_buckets.specs.declared.held.Held.{Held}
+use Rattle.cm_buckets.proofs.SizeLemmas.{few_cells, some_third}
+use Rattle.cm_buckets.proofs.TableLemmas.{IsNext, buckets_then, length-cells_in, length-with_cells, lie_then, with_cells}
+use Rattle.cm_outer.specs.declared.key_pass.TheConstants.{MAX_KEYS}
 
 -- the function of buckets as they are kept
-abbrev pub first_of : ℕ → ℕ → ℕ → ℕ → List Kept → Brz
-first_of m c b s kept = record { keys = m; ratio = c; width = b; split = s; buckets = buckets_of kept }
+abbrev pub first_of : ℕ → ℕ → ℕ → ℕ → List ℕ → List Held → Brz
+first_of m c b s table kept = record { keys = m; ratio = c; width = b; split = s; buckets = buckets_of table kept }
 
 -- with one more
-abbrev pub then_one : List Kept → Kept → List Kept
-then_one kept k = kept ++ k ∷ []
+abbrev pub then_one : List Held → Held → List Held
+then_one kept h = kept ++ h ∷ []
 
-pub buckets_then : (kept : List Kept) (k : Kept) → buckets_of (then_one kept k) ≡ buckets_of kept ++ k.bucket ∷ []
-buckets_then kept k = map-append (λ (x : Kept). x.bucket) kept (k ∷ [])
+keys_then : (before : List Bucket) (bucket : Bucket) (after : List Bucket) → after ≡ before ++ bucket ∷ [] → keys_in after ≡ keys_in before + bucket.size
+keys_then before bucket after is = ap keys_in is ∙ sum_by_push (λ (b : Bucket). b.size) before bucket
 
-pub keys_then : (kept : List Kept) (k : Kept) → keys_in (buckets_of (then_one kept k)) ≡ keys_in (buckets_of kept) + k.bucket.size
-keys_then kept k = ap keys_in (buckets_then kept k) ∙ sum_by_push (λ (b : Bucket). b.size) (buckets_of kept) k.bucket
-
-each_then : (c : ℕ) (kept : List Kept) (k : Kept) → All (IsBucket c) (buckets_of kept) → IsBucket c k.bucket → All (IsBucket c) (buckets_of (then_one kept k))
-each_then c kept k all one =
-    subst (λ (bs : List Bucket). All (IsBucket c) bs) (sym (buckets_then kept k)) (All-append (IsBucket c) (buckets_of kept) (k.bucket ∷ []) all (All-cons (IsBucket c) k.bucket [] one (All-nil (IsBucket c))))
+each_then : (c : ℕ) (before : List Bucket) (bucket : Bucket) (after : List Bucket) → after ≡ before ++ bucket ∷ [] → All (IsBucket c) before → IsBucket c bucket → All (IsBucket c) after
+each_then c before bucket after is all one =
+    subst (λ (bs : List Bucket). All (IsBucket c) bs) (sym is) (All-append (IsBucket c) before (bucket ∷ []) all (All-cons (IsBucket c) bucket [] one (All-nil (IsBucket c))))
 
 -- the offsets of the buckets so far stay, and that of the next is the number of their keys
-offset_then : (kept : List Kept) (k : Kept) (i : ℕ) → (i < length kept → (get_or kept i none_kept).offset ≡ offset_of (buckets_of kept) i) → k.offset ≡ keys_in (buckets_of kept) → i < length kept + 1 → (get_or (then_one kept k) i none_kept).offset ≡ offset_of (buckets_of (then_one kept k)) i
-offset_then kept k i before last inside = go (cases_lt i (length kept)) where
-  size : length (buckets_of kept) ≡ length kept
-  size = length-map kept (λ (x : Kept). x.bucket)
+offset_then : (kept : List Held) (h : Held) (before : List Bucket) (bucket : Bucket) (after : List Bucket) (i : ℕ) → after ≡ before ++ bucket ∷ [] → length before ≡ length kept → (i < length kept → (get_or kept i none_kept).offset ≡ offset_of before i) → h.offset ≡ keys_in before → i < length kept + 1 → (get_or (then_one kept h) i none_kept).offset ≡ offset_of after i
+offset_then kept h before bucket after i is size old last inside = go (cases_lt i (length kept)) where
+  there : (j : ℕ) → j ≤ length kept → offset_of after j ≡ offset_of before j
+  there j le = ap (λ (bs : List Bucket). keys_in (take j bs)) is ∙ ap keys_in (take-append-le j before (bucket ∷ []) (omega (arith, le, size)))
 
-  there : (j : ℕ) → j ≤ length kept → offset_of (buckets_of (then_one kept k)) j ≡ offset_of (buckets_of kept) j
-  there j le = ap (λ (bs : List Bucket). keys_in (take j bs)) (buckets_then kept k) ∙ ap keys_in (take-append-le j (buckets_of kept) (k.bucket ∷ []) (omega (arith, le, size)))
-
-  go : (i < length kept) ⊎ (length kept ≤ i) → (get_or (then_one kept k) i none_kept).offset ≡ offset_of (buckets_of (then_one kept k)) i
-  go (inl l) = ap (λ (x : Kept). x.offset) (get_or-append kept (k ∷ []) none_kept i l) ∙ (before l ∙ sym (there i (omega (arith, l))))
+  go : (i < length kept) ⊎ (length kept ≤ i) → (get_or (then_one kept h) i none_kept).offset ≡ offset_of after i
+  go (inl l) = ap (λ (x : Held). x.offset) (get_or-append kept (h ∷ []) none_kept i l) ∙ (old l ∙ sym (there i (omega (arith, l))))
   go (inr m) =
-      let is : i ≡ length kept = omega (arith, m, inside) in
-      let whole : take (length kept) (buckets_of kept) ≡ buckets_of kept = ap (λ (n : ℕ). take n (buckets_of kept)) (sym size) ∙ take-length (buckets_of kept) in
-      rw is (ap (λ (x : Kept). x.offset) (get_or-append_seam kept k [] none_kept) ∙ (last ∙ sym (there (length kept) (omega arith) ∙ ap keys_in whole)))
+      let at : i ≡ length kept = omega (arith, m, inside) in
+      let whole : take (length kept) before ≡ before = ap (λ (n : ℕ). take n before) (sym size) ∙ take-length before in
+      rw at (ap (λ (x : Held). x.offset) (get_or-append_seam kept h [] none_kept) ∙ (last ∙ sym (there (length kept) (omega arith) ∙ ap keys_in whole)))
 
-pub kept_then : (m c b s count held : ℕ) (kept : List Kept) (k : Kept) → AreKept (first_of m c b s kept) kept count held → k.offset ≡ held → IsBucket c k.bucket → length kept < count → held + k.bucket.size ≤ m → (length kept + 1 ≡ count → m ≤ held + k.bucket.size)
-    → AreKept (first_of m c b s (then_one kept k)) (then_one kept k) count (held + k.bucket.size)
-kept_then m c b s count held kept k are offset one room within all =
-    let long : length (then_one kept k) ≡ length kept + 1 = length-append kept (k ∷ []) in
+-- the next bucket
+pub record IsNextOf (m c count held : ℕ) (kept : List Held) (h : Held) (cells : List ℕ) : Type 0 where
+  pub offset : h.offset ≡ held
+  pub one : IsBucket c (record { size = h.size; seed = h.seed; cells = cells })
+  pub room : length kept < count
+  pub within : held + h.size ≤ m
+  pub all : length kept + 1 ≡ count → m ≤ held + h.size
+
+pub kept_then : (m c b s count held : ℕ) (table cells : List ℕ) (kept : List Held) (h : Held) → AreKept (first_of m c b s table kept) table kept count held → IsNext table cells h → IsNextOf m c count held kept h cells
+    → AreKept (first_of m c b s (with_cells table cells) (then_one kept h)) (with_cells table cells) (then_one kept h) count (held + h.size)
+kept_then m c b s count held table cells kept h are next of =
+    let long : length (then_one kept h) ≡ length kept + 1 = length-append kept (h ∷ []) in
+    let is = buckets_then table cells kept h are.lie next in
+    let bucket : Bucket = record { size = h.size; seed = h.seed; cells = cells } in
     record {
       keys = are.keys;
       ratio = are.ratio;
       width = are.width;
       split = are.split;
       count = are.count;
-      few = omega (arith, long, room);
-      each = each_then c kept k are.each one;
-      offsets = λ i inside. offset_then kept k i (are.offsets i) (offset ∙ are.held) (omega (arith, inside, long));
-      held = ap (λ (n : ℕ). n + k.bucket.size) are.held ∙ sym (keys_then kept k);
-      within = within;
-      all = λ last. omega (arith, all (omega (arith, last, long)), within);
+      few = omega (arith, long, of.room);
+      each = each_then c (buckets_of table kept) bucket _ is are.each of.one;
+      lie = lie_then table cells kept h are.lie next;
+      offsets = λ i inside. offset_then kept h (buckets_of table kept) bucket _ i is (length-map kept (bucket_in table)) (are.offsets i) (of.offset ∙ are.held) (omega (arith, inside, long));
+      held = ap (λ (n : ℕ). n + h.size) are.held ∙ sym (keys_then (buckets_of table kept) bucket _ is);
+      within = of.within;
+      all = λ last. omega (arith, of.all (omega (arith, last, long)), of.within);
+      short = omega (arith, are.short, long, length-with_cells table cells, few_cells h.size c cells are.ratio of.one.cells);
     }
 
 -- a function with all of its buckets
-pub kept_all : (m c b s count held : ℕ) (kept : List Kept) → AreKept (first_of m c b s kept) kept count held → length (buckets_of kept) ≡ bucket_count m b → IsBrz (first_of m c b s kept)
-kept_all m c b s count held kept are all = record {
+pub kept_all : (m c b s count held : ℕ) (table : List ℕ) (kept : List Held) → AreKept (first_of m c b s table kept) table kept count held → length (buckets_of table kept) ≡ bucket_count m b → IsBrz (first_of m c b s table kept)
+kept_all m c b s count held table kept are all = record {
   keys = are.keys;
   ratio = are.ratio;
   width = are.width;
   split = are.split;
   count = all;
   each = are.each;
-  all = sym are.held ∙ are.all (sym (length-map kept (λ (x : Kept). x.bucket)) ∙ (all ∙ sym are.count));
+  all = sym are.held ∙ are.all (sym (length-map kept (bucket_in table)) ∙ (all ∙ sym are.count));
 }
 
 -- bucket j as it is kept
-pub record IsKeptAt (f : Brz) (j : ℕ) (x : Kept) : Type 0 where
-  pub bucket : x.bucket ≡ slice_index_or f.buckets j no_bucket
-  pub valid : IsBucket f.ratio x.bucket
-  pub within : x.offset + x.bucket.size ≤ f.keys
+pub record IsKeptAt (f : Brz) (table : List ℕ) (j : ℕ) (h : Held) : Type 0 where
+  pub bucket : bucket_in table h ≡ slice_index_or f.buckets j no_bucket
+  pub offset : h.offset ≡ offset_of f.buckets j
+  pub valid : IsBucket f.ratio (bucket_in table h)
+  pub lies : LiesIn table h
+  pub within : h.offset + h.size ≤ f.keys
+  pub few : f.keys ≤ MAX_KEYS
+  pub some : h.size ≢ 0 → 0 < h.third
 
-pub kept_at : (m c b s count held : ℕ) (kept : List Kept) (j : ℕ) (x : Kept) → AreKept (first_of m c b s kept) kept count held → j < length (buckets_of kept) → x ≡ get_or kept j x → IsKeptAt (first_of m c b s kept) j x
-kept_at m c b s count held kept j x are inside is =
-    let within : j < length kept = omega (arith, inside, length-map kept (λ (k : Kept). k.bucket)) in
-    let read : x ≡ get_or kept j none_kept = is ∙ get_or_default kept j x none_kept within in
-    let there : x.bucket ≡ slice_index_or (buckets_of kept) j no_bucket = ap (λ (k : Kept). k.bucket) read ∙ sym (get_or-map (λ (k : Kept). k.bucket) kept j none_kept no_bucket within) in
-    let offset : x.offset ≡ offset_of (buckets_of kept) j = ap (λ (k : Kept). k.offset) read ∙ are.offsets j within in
-    let size : x.bucket.size ≡ (slice_index_or (buckets_of kept) j no_bucket).size = ap (λ (k : Bucket). k.size) there in
-    let most : offset_of (buckets_of kept) j + (slice_index_or (buckets_of kept) j no_bucket).size ≤ keys_in (buckets_of kept) = sum_by_more_le (λ (k : Bucket). k.size) (buckets_of kept) j no_bucket inside in
-    record { bucket = there; valid = subst (IsBucket c) (sym there) (are.each j no_bucket inside); within = omega (arith, offset, size, most, are.held, are.within) }
+pub kept_at : (m c b s count held : ℕ) (table : List ℕ) (kept : List Held) (j : ℕ) (h : Held) → AreKept (first_of m c b s table kept) table kept count held → j < length (buckets_of table kept) → h ≡ get_or kept j h → IsKeptAt (first_of m c b s table kept) table j h
+kept_at m c b s count held table kept j h are inside is =
+    let within : j < length kept = omega (arith, inside, length-map kept (bucket_in table)) in
+    let read : h ≡ get_or kept j none_kept = is ∙ get_or_default kept j h none_kept within in
+    let there : bucket_in table h ≡ slice_index_or (buckets_of table kept) j no_bucket = ap (bucket_in table) read ∙ sym (get_or-map (bucket_in table) kept j none_kept no_bucket within) in
+    let offset : h.offset ≡ offset_of (buckets_of table kept) j = ap (λ (k : Held). k.offset) read ∙ are.offsets j within in
+    let size : h.size ≡ (slice_index_or (buckets_of table kept) j no_bucket).size = ap (λ (k : Bucket). k.size) there in
+    let most : offset_of (buckets_of table kept) j + (slice_index_or (buckets_of table kept) j no_bucket).size ≤ keys_in (buckets_of table kept) = sum_by_more_le (λ (k : Bucket). k.size) (buckets_of table kept) j no_bucket inside in
+    let valid : IsBucket c (bucket_in table h) = subst (IsBucket c) (sym there) (are.each j no_bucket inside) in
+    let lies : LiesIn table h = subst (LiesIn table) (sym read) (are.lie j none_kept within) in
+    record {
+      bucket = there;
+      offset = offset;
+      valid = valid;
+      lies = lies;
+      within = omega (arith, offset, size, most, are.held, are.within);
+      few = are.keys.1;
+      some = λ any. some_third h.size c h.third any (sym (length-cells_in table h lies) ∙ valid.cells);
+    }
 
--- a bucket that can be the next one
-pub record Counts (f : Brz) (bucket : Bucket) : Type 0 where
-  pub busy : count_by (is_busy 3) bucket.cells ≡ bucket.size
-  pub within : keys_in f.buckets + bucket.size ≤ f.keys
-  pub all : length f.buckets + 1 ≡ bucket_count f.keys f.width → f.keys ≤ keys_in f.buckets + bucket.size
-
-pub counts : (f : Brz) (bucket : Bucket) (r : Bool) → (IsTrue r ↔ Miscounts f bucket) → r ≡ false → Counts f bucket
-counts f bucket r is none = record {
-  busy = same (cases_eq (count_by (is_busy 3) bucket.cells) bucket.size);
-  within = inside (cases_lt f.keys (keys_in f.buckets + bucket.size));
-  all = λ last. enough last (cases_lt (keys_in f.buckets + bucket.size) f.keys);
-} where
-  never : Miscounts f bucket → ⊥
-  never h = let true_r : IsTrue r = is.1 h in cc
-
-  same : (count_by (is_busy 3) bucket.cells ≡ bucket.size) ⊎ (count_by (is_busy 3) bucket.cells ≡ bucket.size → ⊥) → count_by (is_busy 3) bucket.cells ≡ bucket.size
-  same (inl e) = e
-  same (inr other) = absurd (never (inl other))
-
-  inside : (f.keys < keys_in f.buckets + bucket.size) ⊎ (keys_in f.buckets + bucket.size ≤ f.keys) → keys_in f.buckets + bucket.size ≤ f.keys
-  inside (inl more) = absurd (never (inr (inl more)))
-  inside (inr le) = le
-
-  enough : length f.buckets + 1 ≡ bucket_count f.keys f.width → (keys_in f.buckets + bucket.size < f.keys) ⊎ (f.keys ≤ keys_in f.buckets + bucket.size) → f.keys ≤ keys_in f.buckets + bucket.size
-  enough last (inl fewer) = absurd (never (inr (inr (last, fewer))))
-  enough last (inr le) = le
-
--- which is then a bucket of the function
+-- a bucket that can be the next one is a bucket of the function
 pub is_bucket : (f : Brz) (size seed : ℕ) (cells : List ℕ) → Counts f (record { size = size; seed = seed; cells = cells }) → size ≤ MAX_BUCKET → seed < 2 ^ 32 → (size ≡ 0 → seed ≡ 0) → length cells ≡ bucket_cells size f.ratio → AllBelow 4 cells
     → IsBucket f.ratio (record { size = size; seed = seed; cells = cells })
 is_bucket f size seed cells counted few fits unseeded long below = record { few = few; seed = fits; unseeded = unseeded; cells = long; below = below; busy = counted.busy }
-
--- there is a bucket
-pub count_some : (m b : ℕ) → 1 ≤ m → 1 ≤ b → 1 ≤ bucket_count m b
-count_some m b many wide = (le-div_iff_mul-le {k = b} {x = 1} {y = m + (b - 1)} (omega (arith, wide))).1 (omega (arith, many, wide))
-
-fourth_of : (b : Bucket) (key : List ℕ) (j : ℕ) → slice_index (ends_in b key ++ j ∷ []) 3 ≡ j
-fourth_of b key j = go (eqb b.size 0) where
-  go : (t : Bool) → slice_index (cond {A = List ℕ} t (0 ∷ 0 ∷ 0 ∷ []) (bdz_edge (words key b.seed) (length b.cells)) ++ j ∷ []) 3 ≡ j
-  go true = refl
-  go false = refl
-
--- the bucket that a place names is one of the function
-pub place_names : (f : Brz) (key place : List ℕ) → IsBrz f → place ≡ brz_place f key → slice_index place 3 < length f.buckets
-place_names f key place valid is =
-    let j : ℕ = bucket_of key f.split (length f.buckets) in
-    let fourth : slice_index place 3 ≡ j = ap (λ (p : List ℕ). slice_index p 3) is ∙ fourth_of (slice_index_or f.buckets j no_bucket) key j in
-    let some : 1 ≤ length f.buckets = rw valid.count (count_some f.keys f.width valid.keys.0 (omega (arith, valid.width.0))) in
-    let inside : j < length f.buckets = mod_below _ (length f.buckets) (omega (arith, some)) in
-    omega (arith, fourth, inside)

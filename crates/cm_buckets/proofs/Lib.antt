@@ -1,3 +1,5 @@
+pub mod SizeLemmas
+pub mod TableLemmas
 pub mod KeptLemmas
 pub mod Ranking
 pub mod ApartLemmas

@@ -1,30 +1,37 @@
--- How buckets are kept: each with the number of keys before it.
-use Rattle.std.specs.Prelude.{◌≡◌, ◌≢◌, ℕ, ◌*◌, ◌^◌, ◌<◌, ◌≤◌, List, All, length, map, slice_index_or}
+-- How buckets are kept: their cells in one table, and beside it for each bucket where its cells begin there and how many keys lie
+-- in the buckets before it.
+use Rattle.std.specs.Prelude.{◌≡◌, ℕ, ◌+◌, ◌*◌, ◌%◌, ◌^◌, ◌<◌, ◌≤◌, List, All, drop, length, map, slice_index, slice_index_or, take}
 use Rattle.cm_outer.specs.declared.key_pass.TheConstants.{MAX_KEYS}
+use Rattle.cm_spec.specs.Image.{packed_len}
 use Rattle.cm_spec.specs.Rule.{IsRatio}
-use Rattle.cm_buckets.specs.Functions.{Brz, Bucket, IsBucket, bucket_count, keys_in, no_bucket, offset_of}
+use Rattle.cm_buckets.specs.Functions.{Brz, Bucket, IsBucket, bucket_count, keys_in, offset_of}
+use Rattle.cm_buckets.specs.declared.held.Held.{Held}
 use Rattle.cm_buckets.specs.declared.limits.TheConstants.{MIN_WIDTH, MAX_WIDTH}
 
--- a bucket, and how many keys lie in those before it
-pub record Kept : Type 0 where
-  pub offset : ℕ
-  pub bucket : Bucket
-
 -- the value of an index past the end
-abbrev pub none_kept : Kept
-none_kept = record { offset = 0; bucket = no_bucket }
+abbrev pub none_kept : Held
+none_kept = record { start = 0; offset = 0; seed = 0; third = 0; size = 0 }
 
--- the buckets alone
-abbrev pub buckets_of : List Kept → List Bucket
-buckets_of kept = map (λ k. k.bucket) kept
+-- the cells of a bucket in the table
+abbrev pub cells_in : List ℕ → Held → List ℕ
+cells_in table h = take (3 * h.third) (drop h.start table)
 
--- the bucket's cells are three times this number, if it has a key
-pub record IsThirdOf (third : ℕ) (bucket : Bucket) : Type 0 where
-  pub is : bucket.size ≢ 0 → length bucket.cells ≡ 3 * third
-  pub room : 3 * third < 2 ^ 32
+-- the bucket
+abbrev pub bucket_in : List ℕ → Held → Bucket
+bucket_in table h = record { size = h.size; seed = h.seed; cells = cells_in table h }
+
+-- the buckets of a table
+abbrev pub buckets_of : List ℕ → List Held → List Bucket
+buckets_of table kept = map (bucket_in table) kept
+
+-- the cells of a bucket lie in the table: from the start of a byte on, and with no cell of another bucket in their last byte
+pub record LiesIn (table : List ℕ) (h : Held) : Type 0 where
+  pub whole : h.start % 4 ≡ 0
+  pub within : h.start + 3 * h.third ≤ length table
+  pub clear : (k : ℕ) → 3 * h.third ≤ k → k < 4 * packed_len 4 (3 * h.third) → slice_index table (h.start + k) ≡ 0
 
 -- the first buckets of a function, as they are kept, of which there are to be k, and which have n keys so far
-pub record AreKept (f : Brz) (kept : List Kept) (k n : ℕ) : Type 0 where
+pub record AreKept (f : Brz) (table : List ℕ) (kept : List Held) (k n : ℕ) : Type 0 where
   pub keys : (1 ≤ f.keys) × (f.keys ≤ MAX_KEYS)
   pub ratio : IsRatio f.ratio
   pub width : (MIN_WIDTH ≤ f.width) × (f.width ≤ MAX_WIDTH)
@@ -32,7 +39,10 @@ pub record AreKept (f : Brz) (kept : List Kept) (k n : ℕ) : Type 0 where
   pub count : k ≡ bucket_count f.keys f.width
   pub few : length kept ≤ k
   pub each : All (IsBucket f.ratio) f.buckets
+  pub lie : All (LiesIn table) kept
   pub offsets : (i : ℕ) → i < length kept → (slice_index_or kept i none_kept).offset ≡ offset_of f.buckets i
   pub held : n ≡ keys_in f.buckets
   pub within : n ≤ f.keys
   pub all : length kept ≡ k → n ≡ f.keys
+  -- at most 10 cells for a key, and 14 for a bucket
+  pub short : length table ≤ 10 * n + 14 * length kept

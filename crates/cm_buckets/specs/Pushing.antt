@@ -1,5 +1,5 @@
 -- Buckets that come one after another.
-use Rattle.std.specs.Prelude.{◌≡◌, ◌≢◌, ◌⊎◌, ◌+◌, ◌<◌, ◌∷◌, [], ◌++◌, length, count_by}
+use Rattle.std.specs.Prelude.{◌≡◌, ◌≢◌, ◌⊎◌, ◌+◌, ◌<◌, ◌≤◌, ◌∷◌, [], ◌++◌, length, count_by}
 use Rattle.cm_buckets.specs.Functions.{Brz, Bucket, bucket_count, keys_in}
 use Rattle.cm_spec.specs.Cells.{is_busy}
 
@@ -14,3 +14,9 @@ Miscounts f bucket =
     (count_by (is_busy 3) bucket.cells ≢ bucket.size)
     ⊎ (f.keys < keys_in f.buckets + bucket.size)
     ⊎ ((length f.buckets + 1 ≡ bucket_count f.keys f.width) × (keys_in f.buckets + bucket.size < f.keys))
+
+-- a bucket that can be the next one
+pub record Counts (f : Brz) (bucket : Bucket) : Type 0 where
+  pub busy : count_by (is_busy 3) bucket.cells ≡ bucket.size
+  pub within : keys_in f.buckets + bucket.size ≤ f.keys
+  pub all : length f.buckets + 1 ≡ bucket_count f.keys f.width → f.keys ≤ keys_in f.buckets + bucket.size

@@ -23,12 +23,11 @@ impl Answers for Brz {
     fn place(&self, key: &[u8]) -> Place {
         let hashed = words(key, self.split() ^ u32::MAX);
         let j = self.count().rem(hashed[2]);
-        let ends = self.bucket(j).ends(key);
+        let ends = self.ends(j, key);
         [ends[0], ends[1], ends[2], j]
     }
 
     fn answer_at(&self, place: &Place) -> Option<u32> {
-        self.bucket_in(place)
-            .answer_at([place[0], place[1], place[2]])
+        self.answer_in(place)
     }
 }

@@ -1,14 +1,14 @@
 //! Functions by BRZ.
-ghost use Rattle.std.specs.Prelude.{◌≡◌, ◌<◌, ◌≤◌, ◌+◌, ℕ, List, length, slice_index, slice_index_or};
-ghost use Rattle.cm_buckets.specs.Functions.{IsBrz, IsBucket, bucket_cells, bucket_count, no_bucket, offset_of};
-ghost use Rattle.cm_buckets.specs.Places.{brz_place};
+ghost use Rattle.std.specs.Prelude.{◌≡◌, ◌<◌, ◌≤◌, ◌+◌, ℕ, List, Option, IfSome, length, slice_index, slice_index_or};
+ghost use Rattle.cm_buckets.specs.Functions.{IsBrz, IsBucket, brz_answer, bucket_count, no_bucket};
+ghost use Rattle.cm_buckets.specs.Places.{brz_place, ends_in};
 ghost use Rattle.cm_outer.specs.declared.key_pass.TheConstants.{MAX_KEYS};
 ghost use Rattle.cm_buckets.specs.declared.limits.TheConstants.{MIN_WIDTH, MAX_WIDTH};
+ghost use Rattle.cm_spec.specs.Image.{packed_byte, packed_len};
+ghost use Rattle.cm_spec.specs.Lists.{list_of};
 ghost use Rattle.cm_spec.specs.Rule.{IsRatio};
 
-use crate::held::Held;
 use crate::parts::BrzParts;
-use cm_bits::{Cells, Crumbs};
 use cm_scheme::{Divisor, Place};
 use std::marker::Model;
 
@@ -83,7 +83,7 @@ impl Brz {
         requires inside { j < length self.now.buckets }
         ensures size { result ≡ (slice_index_or self.now.buckets j no_bucket).size }
     {
-        self.parts.bucket(j).size()
+        self.parts.size_of(j)
     }
 
     /// The seed of the hash of the keys in bucket `j`; 0 if there are none.
@@ -91,16 +91,16 @@ impl Brz {
         requires inside { j < length self.now.buckets }
         ensures seed { result ≡ (slice_index_or self.now.buckets j no_bucket).seed }
     {
-        self.parts.bucket(j).seed()
+        self.parts.seed_of(j)
     }
 
-    /// The cells of the function of bucket `j` by BDZ; none if it has no keys.
-    pub fn cells_of(&self, j: u32) -> &Crumbs
+    /// The image of the cells of the function of bucket `j` by BDZ; no byte if it has no keys.
+    pub fn image_of(&self, j: u32) -> &[u8]
         requires inside { j < length self.now.buckets }
-        ensures cells { ⟦<Crumbs as Cells>⟧.cells result.now ≡ (slice_index_or self.now.buckets j no_bucket).cells }
+        ensures image { result.now ≡ list_of (packed_byte 4 4 (slice_index_or self.now.buckets j no_bucket).cells) (packed_len 4 (length (slice_index_or self.now.buckets j no_bucket).cells)) }
         ensures valid { IsBucket self.now.ratio (slice_index_or self.now.buckets j no_bucket) }
     {
-        self.parts.bucket(j).cells()
+        self.parts.image_of(j)
     }
 
     /// How many buckets there are, to take remainders by.
@@ -110,29 +110,21 @@ impl Brz {
         self.parts.count()
     }
 
-    /// The bucket that a place names.
-    pub(crate) fn bucket_in(&self, place: &Place) -> &Held
-        requires place { (key : List ℕ) × (place.now ≡ brz_place self.now key) }
-        ensures bucket { result.now.bucket ≡ slice_index_or self.now.buckets (slice_index place.now 3) no_bucket }
-        ensures offset { result.now.offset ≡ offset_of self.now.buckets (slice_index place.now 3) }
-        ensures valid { IsBucket self.now.ratio result.now.bucket }
-        ensures ratio { IsRatio self.now.ratio }
-        ensures within { result.now.offset + result.now.bucket.size ≤ self.now.keys }
-        ensures few { self.now.keys ≤ MAX_KEYS }
+    /// The three vertices of a key in bucket `j`, which are 0 if it is empty.
+    pub(crate) fn ends(&self, j: u32, key: &[u8]) -> [u32; 3]
+        requires inside { j < length self.now.buckets }
+        ensures ends { result ≡ ends_in (slice_index_or self.now.buckets j no_bucket) key.now }
     {
-        self.parts.bucket(place[3])
+        self.parts.ends(j, key)
     }
 
-    /// Bucket `j`, counted from 0.
-    pub(crate) fn bucket(&self, j: u32) -> &Held
-        requires inside { j < length self.now.buckets }
-        ensures bucket { result.now.bucket ≡ slice_index_or self.now.buckets j no_bucket }
-        ensures offset { result.now.offset ≡ offset_of self.now.buckets j }
-        ensures valid { IsBucket self.now.ratio result.now.bucket }
-        ensures ratio { IsRatio self.now.ratio }
-        ensures within { result.now.offset + result.now.bucket.size ≤ self.now.keys }
-        ensures few { self.now.keys ≤ MAX_KEYS }
+    /// The answer to each key of a place.
+    pub(crate) fn answer_in(&self, place: &Place) -> Option<u32>
+        requires place { (key : List ℕ) × (place.now ≡ brz_place self.now key) }
+        ensures answer { (key : List ℕ) → place.now ≡ brz_place self.now key → result ≡ brz_answer self.now key }
+        ensures inside { IfSome result (λ n. n < self.now.keys) }
     {
-        self.parts.bucket(j)
+        self.parts
+            .answer_at(place[3], [place[0], place[1], place[2]])
     }
 }

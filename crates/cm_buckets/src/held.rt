@@ -1,36 +1,32 @@
 //! A bucket as it is kept.
-ghost use Rattle.std.specs.Prelude.{◌≡◌, ◌≢◌, ℕ, ◌+◌, ◌*◌, ◌^◌, ◌<◌, ◌≤◌, List, length, Option, IfSome, option_map, count_by};
-ghost use Rattle.cm_bdz.specs.Functions.{IsThirds};
+ghost use Rattle.std.specs.Prelude.{◌≡◌, ◌≢◌, ℕ, ◌+◌, ◌*◌, ◌^◌, ◌<◌, ◌≤◌, List, length, slice_index, Option, IfSome, option_map, count_by};
+ghost use Rattle.cm_bdz.specs.Functions.{chosen_end};
 ghost use Rattle.cm_buckets.specs.Functions.{answer_in};
+ghost use Rattle.cm_buckets.specs.Kept.{LiesIn, bucket_in, cells_in};
 ghost use Rattle.cm_buckets.specs.Places.{ends_in};
+ghost use Rattle.cm_spec.specs.Bdz.{bdz_edge};
 ghost use Rattle.cm_spec.specs.Cells.{is_busy};
+ghost use Rattle.cm_rank.specs.Ranks.{rank_of};
 
-use cm_bdz::{chosen_among, place_in};
+use cm_bdz::place_in;
 use cm_bits::{Cells, Crumbs};
 use cm_lookup2::words;
 use cm_rank::Counted;
-use cm_scheme::{Divisor, Place};
-use std::marker::Model;
+use cm_scheme::Divisor;
 
-/// A bucket and how many keys lie in the buckets before it. All that an answer reads lies side by side.
-#[derive(Drop)]
+/// A bucket whose cells lie in the table of the cells of all buckets. It has 16 bytes.
+#[derive(Clone, Copy, Drop)]
 pub(crate) struct Held {
-    cells: Crumbs,
-    // A third of the number of cells, to take remainders by; 1 in an empty bucket.
-    third: Divisor,
-    seed: u32,
-    offset: u32,
-    size: u8,
-}
-
-impl Model for Held {
-    ghost use Rattle.cm_buckets.specs.Kept.{Kept, IsThirdOf};
-
-    ghost Value = { Kept };
-
-    ghost view = { λ h. record { offset = h.offset; bucket = record { size = h.size; seed = h.seed; cells = ⟦<Crumbs as Cells>⟧.cells h.cells } } };
-
-    ghost invariant = { λ h. IsThirdOf h.third (record { size = h.size; seed = h.seed; cells = ⟦<Crumbs as Cells>⟧.cells h.cells }) };
+    /// The first of its cells in the table, which begins a byte.
+    pub(crate) start: u32,
+    /// How many keys lie in the buckets before it.
+    pub(crate) offset: u32,
+    /// The seed of the hash of its keys.
+    pub(crate) seed: u32,
+    /// A third of the number of its cells.
+    pub(crate) third: u16,
+    /// How many keys it has.
+    pub(crate) size: u8,
 }
 
 /// How many cells are not 3.
@@ -40,85 +36,69 @@ pub(crate) fn count_busy(cells: &Crumbs) -> u32
     cells.count_busy(3, 0, cells.len())
 }
 
-/// A third of the cells of a bucket, or 1 in an empty one.
-fn third_of(size: u8, cells: &Crumbs) -> Divisor
-    requires thirds { size ≢ 0 → IsThirds (length (⟦<Crumbs as Cells>⟧.cells cells.now)) }
-    ensures third { size ≢ 0 → length (⟦<Crumbs as Cells>⟧.cells cells.now) ≡ 3 * result }
-    ensures room { 3 * result < 2 ^ 32 }
-{
-    if size == 0 {
-        return Divisor::new(1);
-    }
-    Divisor::new(cells.len() / 3)
-}
-
 impl Held {
-    /// A bucket of `size` keys, after `offset` keys in the buckets before it. Unless it is empty, the number of its cells is three
-    /// times a number above 0.
-    pub(crate) fn new(size: u8, seed: u32, offset: u32, cells: Crumbs) -> Held
-        requires thirds { size ≢ 0 → IsThirds (length (⟦<Crumbs as Cells>⟧.cells cells)) }
-        ensures kept { result ≡ record { offset = offset; bucket = record { size = size; seed = seed; cells = ⟦<Crumbs as Cells>⟧.cells cells } } }
-    {
-        let third = third_of(size, &cells);
-        Held {
-            cells,
-            third,
-            seed,
-            offset,
-            size,
-        }
-    }
-
-    /// How many keys it has.
-    pub(crate) fn size(&self) -> u8
-        ensures { result ≡ self.now.bucket.size }
-    {
-        self.size
-    }
-
-    /// The seed of their hash.
-    pub(crate) fn seed(&self) -> u32
-        ensures { result ≡ self.now.bucket.seed }
-    {
-        self.seed
-    }
-
-    /// The cells of their function by BDZ.
-    pub(crate) fn cells(&self) -> &Crumbs
-        ensures { ⟦<Crumbs as Cells>⟧.cells result.now ≡ self.now.bucket.cells }
-    {
-        &self.cells
-    }
-
     /// The three vertices of a key, which are 0 in an empty bucket.
     pub(crate) fn ends(&self, key: &[u8]) -> [u32; 3]
-        ensures ends { result ≡ ends_in self.now.bucket key.now }
+        requires thirds { self.now.size ≢ 0 → 0 < self.now.third }
+        ensures ends { (table : List ℕ) → LiesIn table self.now → result ≡ ends_in (bucket_in table self.now) key.now }
     {
         if self.size == 0 {
             return [0, 0, 0];
         }
-        let place = place_in(words(key, self.seed), &self.third);
+        let third = Divisor::new(self.third as u32);
+        let place = place_in(words(key, self.seed), &third);
         [place[0], place[1], place[2]]
     }
 
+    /// Cell `v` of the bucket.
+    fn get(&self, table: &Crumbs, v: u32) -> u32
+        requires lies { LiesIn (⟦<Crumbs as Cells>⟧.cells table.now) self.now }
+        requires inside { v < 3 * self.now.third }
+        ensures cell { result ≡ slice_index (cells_in (⟦<Crumbs as Cells>⟧.cells table.now) self.now) v }
+        ensures below { result < 4 }
+    {
+        table.get(self.start + v)
+    }
+
+    /// Of three vertices the one whose position is the sum of their cells, modulo 3.
+    fn chosen_among(&self, table: &Crumbs, ends: [u32; 3]) -> u32
+        requires lies { LiesIn (⟦<Crumbs as Cells>⟧.cells table.now) self.now }
+        requires some { 0 < self.now.third }
+        requires ends { (words : List ℕ) × (ends ≡ bdz_edge words (3 * self.now.third)) }
+        ensures chosen { result ≡ chosen_end (cells_in (⟦<Crumbs as Cells>⟧.cells table.now) self.now) ends }
+        ensures inside { result < 3 * self.now.third }
+    {
+        let sum = self.get(table, ends[0]) + self.get(table, ends[1]) + self.get(table, ends[2]);
+        ends[(sum % 3) as usize]
+    }
+
+    /// How many of the bucket's cells before vertex `v` are not 3.
+    fn rank(&self, table: &Crumbs, v: u32) -> u32
+        requires lies { LiesIn (⟦<Crumbs as Cells>⟧.cells table.now) self.now }
+        requires inside { v ≤ 3 * self.now.third }
+        ensures rank { result ≡ rank_of 3 (cells_in (⟦<Crumbs as Cells>⟧.cells table.now) self.now) v }
+    {
+        table.count_busy(3, self.start, self.start + v)
+    }
+
     /// The answer to each key of these vertices, after the numbers of the buckets before.
-    pub(crate) fn answer_at(&self, ends: [u32; 3]) -> Option<u32>
-        requires thirds { self.now.bucket.size ≢ 0 → IsThirds (length self.now.bucket.cells) }
-        requires room { self.now.offset + self.now.bucket.size < 4294967296 }
-        requires busy { count_by (is_busy 3) self.now.bucket.cells ≡ self.now.bucket.size }
-        requires ends { (key : List ℕ) × (ends ≡ ends_in self.now.bucket key) }
-        ensures answer { (key : List ℕ) → ends ≡ ends_in self.now.bucket key → result ≡ option_map (λ r. self.now.offset + r) (answer_in self.now.bucket key) }
-        ensures inside { IfSome result (λ n. n < self.now.offset + self.now.bucket.size) }
+    pub(crate) fn answer_at(&self, table: &Crumbs, ends: [u32; 3]) -> Option<u32>
+        requires lies { LiesIn (⟦<Crumbs as Cells>⟧.cells table.now) self.now }
+        requires thirds { self.now.size ≢ 0 → 0 < self.now.third }
+        requires room { self.now.offset + self.now.size < 4294967296 }
+        requires busy { count_by (is_busy 3) (cells_in (⟦<Crumbs as Cells>⟧.cells table.now) self.now) ≡ self.now.size }
+        requires ends { (key : List ℕ) × (ends ≡ ends_in (bucket_in (⟦<Crumbs as Cells>⟧.cells table.now) self.now) key) }
+        ensures answer { (key : List ℕ) → ends ≡ ends_in (bucket_in (⟦<Crumbs as Cells>⟧.cells table.now) self.now) key → result ≡ option_map (λ r. self.now.offset + r) (answer_in (bucket_in (⟦<Crumbs as Cells>⟧.cells table.now) self.now) key) }
+        ensures inside { IfSome result (λ n. n < self.now.offset + self.now.size) }
     {
         if self.size == 0 {
             return None;
         }
-        let place: Place = [ends[0], ends[1], ends[2], 0];
-        let v = chosen_among(&self.cells, &place);
-        if self.cells.get(v) == 3 {
+        let v = self.chosen_among(table, ends);
+        if self.get(table, v) == 3 {
             None
         } else {
-            Some(self.offset + self.cells.count_busy(3, 0, v))
+            Some(self.offset + self.rank(table, v))
         }
     }
 }

@@ -1,12 +1,14 @@
 //! The buckets of a function, one after another.
-ghost use Rattle.std.specs.Prelude.{◌≡◌, ◌↔◌, ◌+◌, ◌<◌, ◌≤◌, ◌^◌, [], length, count_by, slice_index_or, List, OnOk, OnErr, IsOk, IfOk, Err, IsTrue, ℕ, ◌≢◌, ◌⊎◌};
+ghost use Rattle.std.specs.Prelude.{◌≡◌, ◌↔◌, ◌+◌, ◌<◌, ◌≤◌, ◌^◌, [], length, count_by, slice_index_or, List, OnOk, OnErr, IsOk, IfOk, IfSome, Err, IsTrue, ℕ, ◌≢◌, ◌⊎◌, vec_capacity, vec_len};
 ghost use Rattle.cm_bdz.specs.declared.bdz.PartsFault.{PartsFault};
-ghost use Rattle.cm_buckets.specs.Functions.{IsBrz, IsBucket, bucket_cells, bucket_count, keys_in, no_bucket, offset_of};
-ghost use Rattle.cm_buckets.specs.Kept.{none_kept};
-ghost use Rattle.cm_buckets.specs.Pushing.{Miscounts, with_bucket};
+ghost use Rattle.cm_buckets.specs.Functions.{IsBrz, IsBucket, answer_of_bucket, bucket_cells, bucket_count, keys_in, no_bucket, offset_of};
+ghost use Rattle.cm_buckets.specs.Places.{ends_in};
+ghost use Rattle.cm_buckets.specs.Pushing.{Counts, Miscounts, with_bucket};
 ghost use Rattle.cm_outer.specs.declared.key_pass.TheConstants.{MAX_KEYS};
 ghost use Rattle.cm_spec.specs.Cells.{is_busy};
-ghost use Rattle.cm_buckets.specs.declared.limits.TheConstants.{MIN_WIDTH, MAX_WIDTH};
+ghost use Rattle.cm_buckets.specs.declared.limits.TheConstants.{MAX_BUCKET, MIN_WIDTH, MAX_WIDTH};
+ghost use Rattle.cm_spec.specs.Image.{packed_byte, packed_len};
+ghost use Rattle.cm_spec.specs.Lists.{list_of};
 ghost use Rattle.cm_spec.specs.Rule.{IsRatio};
 
 use crate::brz::Brz;
@@ -29,6 +31,8 @@ pub struct BrzParts {
     // How many keys those so far have.
     held: u32,
     kept: Vec<Held>,
+    // The cells of the buckets, one bucket after another. Each begins a byte.
+    cells: Crumbs,
 }
 
 impl Model for BrzParts {
@@ -37,19 +41,21 @@ impl Model for BrzParts {
 
     ghost Value = { Brz };
 
-    ghost view = { λ p. record { keys = p.m; ratio = p.c; width = p.b; split = p.split; buckets = buckets_of p.kept.items } };
+    ghost view = { λ p. record { keys = p.m; ratio = p.c; width = p.b; split = p.split; buckets = buckets_of (⟦<Crumbs as Cells>⟧.cells p.cells) p.kept.items } };
 
-    ghost invariant = { λ p. AreKept (record { keys = p.m; ratio = p.c; width = p.b; split = p.split; buckets = buckets_of p.kept.items }) p.kept.items p.count p.held };
+    ghost invariant = { λ p. AreKept (record { keys = p.m; ratio = p.c; width = p.b; split = p.split; buckets = buckets_of (⟦<Crumbs as Cells>⟧.cells p.cells) p.kept.items }) (⟦<Crumbs as Cells>⟧.cells p.cells) p.kept.items p.count p.held };
 }
 
 /// Makes room for one bucket more, of `count`: for as many more as there are, but at most for those still to come, so that no room is
 /// left over after the last bucket.
 fn make_room(kept: &mut Vec<Held>, count: u32) -> Result<(), AllocError>
+    requires more { length kept.old.items < count }
     ensures kept { kept.new.items ≡ kept.old.items }
+    ensures room { OnOk result (vec_len kept.new < vec_capacity kept.new) }
 {
     let len = kept.len();
     if len == kept.capacity() {
-        kept.reserve_exact(len.max(1).min((count as usize).saturating_sub(len)))?;
+        kept.reserve_exact(len.max(1).min(count as usize - len))?;
     }
     Ok(())
 }
@@ -88,6 +94,7 @@ impl BrzParts {
             count: Divisor::new(count_of(m, b)),
             held: 0,
             kept: Vec::new(alloc),
+            cells: Crumbs::empty(alloc),
         }
     }
 
@@ -98,6 +105,42 @@ impl BrzParts {
     {
         let is_last = self.kept.len() + 1 == self.count.value() as usize;
         count_busy(cells) != size as u32 || is_off(self.held + size as u32, self.m, is_last)
+    }
+
+    /// How many bytes of the table the keys still to come can fill, but at most as many as it has.
+    fn spare(&self) -> usize {
+        let keys = self.m.saturating_sub(self.held) as u64;
+        let buckets = self.count.value().saturating_sub(self.kept.len() as u32) as u64;
+        // A bucket has at most 9 cells more than its share, and 3 more end its last byte.
+        let most = keys * self.c as u64 / 4_000_000 + 3 * buckets;
+        self.cells.image().len().min(most as usize)
+    }
+
+    /// Appends the cells of the next bucket to the table, and keeps it. Fails only if memory runs out, and then changes nothing.
+    fn keep(&mut self, size: u8, seed: u32, cells: &Crumbs) -> Result<(), AllocError>
+        requires room { length self.old.buckets < bucket_count self.old.keys self.old.width }
+        requires cells { length (⟦<Crumbs as Cells>⟧.cells cells.now) ≡ bucket_cells size self.old.ratio }
+        requires seed { size ≡ 0 → seed ≡ 0 }
+        requires counts { Counts self.old (record { size = size; seed = seed; cells = ⟦<Crumbs as Cells>⟧.cells cells.now }) }
+        ensures kept { OnOk result (self.new ≡ with_bucket self.old (record { size = size; seed = seed; cells = ⟦<Crumbs as Cells>⟧.cells cells.now })) }
+        ensures failed { OnErr result (self.new ≡ self.old) }
+    {
+        make_room(&mut self.kept, self.count.value())?;
+        let spare = self.spare();
+        let bucket = Held {
+            start: 4 * self.cells.len().div_ceil(4),
+            offset: self.held,
+            seed,
+            third: (cells.len() / 3) as u16,
+            size,
+        };
+        self.cells.append(cells, spare)?;
+        match self.kept.push(bucket) {
+            Ok(()) => {}
+            Err(_) => unreachable!(),
+        }
+        self.held += size as u32;
+        Ok(())
     }
 
     /// Adds the next bucket: its number of keys, the seed of their hash and the cells of their function by BDZ; seed 0 and no cells if
@@ -114,15 +157,10 @@ impl BrzParts {
         if self.miscounts(size, &cells) {
             return Err(PartsFault::BadCount);
         }
-        if make_room(&mut self.kept, self.count.value()).is_err() {
-            return Err(PartsFault::Memory);
+        match self.keep(size, seed, &cells) {
+            Ok(()) => Ok(()),
+            Err(_) => Err(PartsFault::Memory),
         }
-        let bucket = Held::new(size, seed, self.held, cells);
-        if self.kept.push(bucket).is_err() {
-            return Err(PartsFault::Memory);
-        }
-        self.held += size as u32;
-        Ok(())
     }
 
     /// How many buckets there are so far.
@@ -187,17 +225,49 @@ impl BrzParts {
         &self.count
     }
 
-    /// Bucket `j`, counted from 0.
-    pub(crate) fn bucket(&self, j: u32) -> &Held
+    /// How many keys bucket `j` has, counted from 0.
+    pub(crate) fn size_of(&self, j: u32) -> u8
         requires inside { j < length self.now.buckets }
-        ensures bucket { result.now.bucket ≡ slice_index_or self.now.buckets j no_bucket }
-        ensures offset { result.now.offset ≡ offset_of self.now.buckets j }
-        ensures valid { IsBucket self.now.ratio result.now.bucket }
-        ensures ratio { IsRatio self.now.ratio }
-        ensures within { result.now.offset + result.now.bucket.size ≤ self.now.keys }
-        ensures few { self.now.keys ≤ MAX_KEYS }
+        ensures size { result ≡ (slice_index_or self.now.buckets j no_bucket).size }
     {
-        &self.kept[j as usize]
+        self.kept[j as usize].size
+    }
+
+    /// The seed of the hash of the keys in bucket `j`.
+    pub(crate) fn seed_of(&self, j: u32) -> u32
+        requires inside { j < length self.now.buckets }
+        ensures seed { result ≡ (slice_index_or self.now.buckets j no_bucket).seed }
+    {
+        self.kept[j as usize].seed
+    }
+
+    /// The image of the cells of bucket `j`.
+    pub(crate) fn image_of(&self, j: u32) -> &[u8]
+        requires inside { j < length self.now.buckets }
+        ensures image { result.now ≡ list_of (packed_byte 4 4 (slice_index_or self.now.buckets j no_bucket).cells) (packed_len 4 (length (slice_index_or self.now.buckets j no_bucket).cells)) }
+    {
+        let held = &self.kept[j as usize];
+        let from = (held.start / 4) as usize;
+        let until = from + (3 * held.third as usize).div_ceil(4);
+        &self.cells.image()[from..until]
+    }
+
+    /// The three vertices of a key in bucket `j`, which are 0 if it is empty.
+    pub(crate) fn ends(&self, j: u32, key: &[u8]) -> [u32; 3]
+        requires inside { j < length self.now.buckets }
+        ensures ends { result ≡ ends_in (slice_index_or self.now.buckets j no_bucket) key.now }
+    {
+        self.kept[j as usize].ends(key)
+    }
+
+    /// The answer of bucket `j` to each key of these vertices, after the numbers of the buckets before.
+    pub(crate) fn answer_at(&self, j: u32, ends: [u32; 3]) -> Option<u32>
+        requires inside { j < length self.now.buckets }
+        requires ends { (key : List ℕ) × (ends ≡ ends_in (slice_index_or self.now.buckets j no_bucket) key) }
+        ensures answer { (key : List ℕ) → ends ≡ ends_in (slice_index_or self.now.buckets j no_bucket) key → result ≡ answer_of_bucket self.now j key }
+        ensures inside { IfSome result (λ n. n < self.now.keys) }
+    {
+        self.kept[j as usize].answer_at(&self.cells, ends)
     }
 
     /// The function, once it has all of its buckets. It takes no memory.

@@ -6,7 +6,6 @@ ghost use Rattle.cm_outer.specs.Writing.{Writes};
 ghost use Rattle.cm_dump.specs.Dumps.{bucket_image, buckets_image};
 ghost use Rattle.cm_dump.specs.Forms.{version_1};
 
-use cm_bits::{Cells, Crumbs};
 use cm_buckets::Brz;
 use cm_outer::{Failed, Sink, write_pieces};
 
@@ -25,7 +24,7 @@ fn save_bucket<O: Sink>(brz: &Brz, j: u32, out: &mut O) -> Result<(), Failed>
         &[
             &brz.size_of(j).to_le_bytes(),
             &brz.seed_of(j).to_le_bytes(),
-            brz.cells_of(j).image(),
+            brz.image_of(j),
         ],
     )
 }
@@ -50,7 +49,7 @@ pub(crate) fn buckets_len(brz: &Brz) -> u64
 {
     let mut len = 0;
     for j in 0..brz.buckets() {
-        len += FRONT + Crumbs::image_len(brz.cells_of(j).len(), 4);
+        len += FRONT + brz.image_of(j).len() as u64;
     }
     len
 }

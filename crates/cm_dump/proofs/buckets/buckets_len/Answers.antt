@@ -1,9 +1,10 @@
 use Rattle.std.proofs.Common.{◌≡◌, ◌∙◌, ◌<◌, ◌≤◌, ℕ, List, length, ap, arith}
 use Rattle.std.specs.Prelude.{slice_index_or}
-use Rattle.cm_bits.specs.PackedLaws.{packed_room}
+use Rattle.std.proofs.lemmas.List.FromFn.{length-map-range_with_len}
 use Rattle.cm_buckets.specs.Functions.{Bucket, no_bucket}
-use Rattle.cm_spec.specs.Image.{packed_len}
+use Rattle.cm_spec.specs.Image.{packed_byte, packed_len}
 use Rattle.cm_dump.proofs.BucketLemmas.{length-buckets_more}
+use Rattle.cm_dump.proofs.PartLemmas.{bucket_short}
 use Rattle.cm_dump.proofs.buckets.buckets_len.Goals as goal
 
 pub loop-j-preserved : goal.loop-j-preserved
@@ -11,11 +12,11 @@ loop-j-preserved c =
     let bs : List Bucket = c.args.brz.now.buckets in
     let j : ℕ = c.loop-j.j in
     let inside : j < length bs = omega (arith, c.loop-j-test.true, c.buckets-j-end.ensures.buckets) in
-    let t = c.cells_of.result.now in
-    let many : c.len.result ≡ length (slice_index_or bs j no_bucket).cells = c.len.ensures ∙ ap length c.cells_of.ensures.cells in
-    let image : c.image_len.result ≡ packed_len 4 (length (slice_index_or bs j no_bucket).cells) = c.image_len.ensures ∙ ap (λ (n : ℕ). packed_len 4 n) many in
-    let room : c.len.result ≤ 671088645 = omega (arith, c.len.ensures, packed_room 4 4 t.n t.bytes.items t.in_room) in
+    let b : Bucket = slice_index_or bs j no_bucket in
+    let valid = c.image_of.ensures.valid in
+    let size : length c.image_of.result.now ≡ packed_len 4 (length b.cells) = ap length c.image_of.ensures.image ∙ length-map-range_with_len (packed_byte 4 4 b.cells) 0 (packed_len 4 (length b.cells)) in
+    let short : packed_len 4 (length b.cells) ≤ 1019 = omega (arith, ap (packed_len 4) valid.cells, bucket_short b.size c.args.brz.now.ratio valid.few c.buckets-j-end.ensures.valid.ratio) in
     record {
-      is = omega (arith, c.loop-j.invariant.is, length-buckets_more bs j inside, image);
-      near = omega (arith, c.loop-j.invariant.near, c.image_len.ensures, room);
+      is = omega (arith, c.loop-j.invariant.is, length-buckets_more bs j inside, size);
+      near = omega (arith, c.loop-j.invariant.near, size, short);
     }

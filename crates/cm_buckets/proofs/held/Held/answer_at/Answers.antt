@@ -1,13 +1,15 @@
-use Rattle.std.proofs.Common.{◌∙◌, ap, arith}
-use Rattle.std.specs.List.{count_by}
-use Rattle.cm_buckets.specs.Kept.{Kept}
-use Rattle.cm_spec.specs.Cells.{is_busy}
+use Rattle.std.proofs.Common.{◌∙◌, ◌<◌, arith, length}
+use Rattle.cm_bits.specs.Held.{packed_cells}
+use Rattle.cm_buckets.specs.Kept.{cells_in}
 use Rattle.cm_buckets.proofs.Ranking.{rank_below}
+use Rattle.cm_buckets.proofs.TableLemmas.{length-cells_in}
 use Rattle.cm_buckets.proofs.held.Held.answer_at.Goals as goal
 
 pub returns-else-get-eq3-clause-inside : goal.returns-else-get-eq3-clause-inside
 returns-else-get-eq3-clause-inside c =
-    let all = ap (λ (k : Kept). count_by (is_busy 3) k.bucket.cells) c.self.view_is ∙ c.requires.busy in
-    let below = rank_below _ c.chosen_among-v.result c.args.self.now.bucket.size c.chosen_among-v.ensures.inside (λ same. c.if-get-eq3.false (c.get.ensures ∙ same)) all in
-    let offset = ap (λ (k : Kept). k.offset) c.self.view_is in
-    omega (arith, c.count_busy.ensures.busy, below, offset)
+    let h = c.args.self.now in
+    let t = c.args.table.now in
+    let cells = cells_in (packed_cells 4 4 t.n t.bytes.items) h in
+    let inside : c.chosen_among-v.result < length cells = omega (arith, c.chosen_among-v.ensures.inside, length-cells_in (packed_cells 4 4 t.n t.bytes.items) h c.requires.lies) in
+    let below = rank_below cells c.chosen_among-v.result h.size inside (λ same. c.if-get-eq3.false (c.get.ensures.cell ∙ same)) c.requires.busy in
+    omega (arith, c.rank.ensures.rank, below)

@@ -1,6 +1,8 @@
-use Rattle.std.proofs.Common.{◌∙◌, arith, refl}
+use Rattle.std.proofs.Common.{◌∙◌, ap, arith, length, refl}
 use Rattle.std.proofs.lemmas.List.Elements.{All-nil}
+use Rattle.cm_bits.specs.Held.{packed_cells}
 use Rattle.cm_buckets.specs.Functions.{IsBucket}
+use Rattle.cm_buckets.specs.Kept.{LiesIn}
 use Rattle.cm_buckets.proofs.parts.BrzParts.new.Goals as goal
 
 pub invariant_of-result : goal.invariant_of-result
@@ -13,8 +15,10 @@ invariant_of-result c =
       count = c.new.ensures.value ∙ c.count_of.ensures.count;
       few = omega arith;
       each = All-nil (IsBucket c.args.c);
+      lie = All-nil (LiesIn (packed_cells 4 4 c.empty.result.n c.empty.result.bytes.items));
       offsets = λ i inside. absurd (omega (arith, inside));
       held = refl;
       within = omega arith;
       all = λ none. absurd (omega (arith, none, c.new.ensures.value, c.count_of.ensures.some));
+      short = omega (arith, ap length c.empty.ensures.cells);
     })
