@@ -15,7 +15,7 @@ use Rattle.cm_witness.specs.Pairs.{pairs}
 use Rattle.cm_witness.specs.declared.certificate.Certificate.{Certificate}
 use Rattle.cm_witness.specs.declared.certificate.GatherFault.{GatherFault}
 use Rattle.cm_witness.specs.declared.certificate.GatherFault.TheVariants as gather_fault
-use Rattle.cm_algo.specs.Fails.{FailsBuild, FoundEqual, ShowsCore, build_fault_of}
+use Rattle.cm_algo.specs.Fails.{FailsBuild, ShowsCore, build_fault_of}
 use Rattle.cm_algo.specs.declared.fault.BuildFault.{BuildFault}
 use Rattle.cm_algo.specs.declared.fault.BuildFault.TheVariants.{Cored}
 use Rattle.cm_algo.proofs.OneSeed.{all_cored, none_chosen}
@@ -69,8 +69,3 @@ fails_pass r told c seeds m (gather_fault.Changed first now) many (inr fewer) = 
 pub handed_on : {T E : Type 0} (result : Result T E) (fault : E) (F : E → Type 0) → IsErrAnd result (λ e. e ≡ fault) → F fault → IfErr result F
 handed_on (Ok x) fault F is holds = absurd is
 handed_on (Err e) fault F is holds = subst F (sym is) holds
-
--- a build that never finds equal keys
-pub never_found : {T : Type 0} (result : Result T BuildFault) (A : Type 0) → IfErr result (λ e. FoundEqual e → ⊥) → IfErr result (λ e. FoundEqual e → A)
-never_found (Ok x) A never = tt
-never_found (Err e) A never = λ found. absurd (never found)

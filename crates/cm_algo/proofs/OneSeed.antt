@@ -73,6 +73,11 @@ steps_on k m s0 s t i a b =
 pub steps_all : (k m s s0 before i len : ℕ) → s0 ≤ before + 8 * (k * m) → s + 8 * (k * m) ≤ s0 + 8 * (k * m) * i → i ≤ len → s ≤ before + 8 * (k * m) * len
 steps_all k m s s0 before i len a b up = omega (arith, mul-le-mul_left (8 * (k * m)) up)
 
+-- the steps of the first seed and of all later ones
+pub steps_both : (k m n before first last len : ℕ) → m ≡ n → first ≤ before + 8 * (k * n) → ((s : ℕ) → first ≤ s + 8 * (k * m) → last ≤ s + 8 * (k * m) * len) → last ≤ before + 8 * (k * n) * len
+steps_both k m n before first last len same spent later =
+    subst (λ (x : ℕ). last ≤ before + 8 * (k * x) * len) same (later before (subst (λ (x : ℕ). first ≤ before + 8 * (k * x)) (sym same) spent))
+
 -- one more seed that leaves a nonempty residual graph
 pub left_more : (P : ℕ → Type 0) (i j : ℕ) → ((j : ℕ) → j < i → P j) → P i → j < i + 1 → P j
 left_more P i j h p l = go (cases_lt j i) where

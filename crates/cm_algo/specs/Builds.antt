@@ -1,5 +1,6 @@
 -- The result of a build over numbered keys.
-use Rattle.std.specs.Prelude.{◌≡◌, ℕ, ◌+◌, ◌*◌, ◌≤◌, List, [], length, Some}
+use Rattle.std.specs.Prelude.{◌≡◌, ◌≢◌, ℕ, ◌+◌, ◌*◌, ◌≤◌, List, [], length, None, Some}
+use Rattle.cm_outer.specs.Passes.{Told}
 use Rattle.cm_spec.specs.Rounds.{rest_of}
 use Rattle.cm_spec.specs.Rule.{Rule}
 use Rattle.cm_spec.specs.Built.{graph_of, cells_under, first_seed, IsFirst}
@@ -17,3 +18,10 @@ pub record IsBuilt (r : Rule) (keys : List (ℕ × List ℕ)) (c : ℕ) (seeds :
   pub first : IsFirst r keys c seeds place seed
   pub cells_are : cells ≡ cells_under r keys c seed
   pub steps : after ≤ before + 8 * (k * length keys) * (place + 1)
+
+-- one seed: the keys have come to their end without a fault, this is their graph, and peeling leaves an edge of it
+pub record IsLeft (r : Rule) (told : Told) (c seed : ℕ) (edges : List (List ℕ)) : Type 0 where
+  pub ended : told.fault ≡ None
+  pub many : length edges ≡ length told.keys
+  pub is : edges ≡ graph_of r told.keys c seed
+  pub left : rest_of (graph_of r told.keys c seed) ≢ []

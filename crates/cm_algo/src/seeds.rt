@@ -1,5 +1,5 @@
 //! The seeds of a list, one after another.
-ghost use Rattle.std.specs.Prelude.{◌≡◌, ◌≢◌, ℕ, ◌+◌, ◌*◌, ◌<◌, ◌≤◌, ◌^◌, [], ◌∷◌, List, length, map, slice_index, IfOk, IfErr, OnOk, None, Some, Contains, count_by};
+ghost use Rattle.std.specs.Prelude.{◌≡◌, ◌≢◌, ℕ, ◌+◌, ◌*◌, ◌<◌, ◌≤◌, ◌^◌, [], ◌∷◌, List, length, map, slice_index, IfOk, IfErr, IfSome, IfNone, OnOk, None, Some, Contains, count_by};
 ghost use Rattle.std.specs.Option.{ForSome};
 ghost use Rattle.cm_outer.specs.Passes.{Told};
 ghost use Rattle.cm_spec.specs.Built.{graph_of, cells_under};
@@ -8,7 +8,7 @@ ghost use Rattle.cm_spec.specs.Rounds.{rest_of};
 ghost use Rattle.cm_spec.specs.Rule.{IsCount, IsRatio, IsSize};
 ghost use Rattle.cm_witness.specs.Cores.{EqualKeysMeet};
 ghost use Rattle.cm_witness.specs.Gathers.{FailsGather, HasGatherCause, HasOther};
-ghost use Rattle.cm_algo.specs.Builds.{IsGiven, IsBuilt};
+ghost use Rattle.cm_algo.specs.Builds.{IsGiven, IsBuilt, IsLeft};
 ghost use Rattle.cm_algo.specs.Fails.{FailsBuild, FoundEqual, HasBuildCause, HasForm, HasNumbers, ShowsCore};
 ghost use Rattle.cm_algo.specs.declared.fault.BuildFault.TheVariants as build_fault;
 
@@ -105,7 +105,7 @@ fn certify<S: Scheme<K>, P: KeyPass, const K: usize>(
 /// The cells of the first seed of a list whose graph has an empty 2-core. The keys are passed once to be counted, and once for each
 /// seed that is tried. If the first seed leaves a 2-core, one more pass gathers its certificate, which is returned if no seed works; if
 /// two of its keys are equal, no other seed is tried. The ratio `c` is in millionths. After a failure the keys may be rewound and used
-/// again.
+/// again. `build` is for many keys: it gathers the certificate before the second seed, so that only one graph is in memory at a time.
 pub fn build<S: Scheme<K>, I: Incidence<K> + Drop, P: KeyPass, const K: usize, L: Ledger>(
     alloc: Global,
     scheme: &S,
@@ -130,10 +130,26 @@ pub fn build<S: Scheme<K>, I: Incidence<K> + Drop, P: KeyPass, const K: usize, L
     ensures early { IfErr result (λ e. FoundEqual e → ForSome (P.told keys.old) (λ told. steps.new ≤ steps.old + 8 * (K * length told.keys))) }
 {
     let mut key = KeyBuf::new();
-    build_with::<S, I, P, K, L>(alloc, scheme, keys, &mut key, c, seeds, steps)
+    let left = match build_first::<S, I, P, K, L>(alloc, scheme, keys, &mut key, c, seeds, steps)? {
+        Ok(built) => return Ok(built),
+        Err(left) => left,
+    };
+    let m = left.edges.len();
+    let certificate = certify::<S, P, K>(alloc, scheme, keys, &mut key, seeds[0], &left)?;
+    drop(left);
+    // Equal keys have equal edges, so that no other seed works.
+    if !certificate.equal.is_empty() {
+        return Err(BuildFault::Cored(certificate));
+    }
+    match build_later::<S, I, P, K, L>(alloc, scheme, keys, &mut key, m, c, seeds, steps)? {
+        Some(built) => Ok(built),
+        None => Err(BuildFault::Cored(certificate)),
+    }
 }
 
-/// `build` with a buffer for its keys, which many builds may share: creating one clears its 64 KiB.
+/// `build` for few keys, with a buffer for them, which many builds may share: creating one clears its 64 KiB. It keeps the graph of the
+/// first seed while it tries the others, and gathers the certificate only if none works, since with few keys the next seed nearly
+/// always does; so it tries them all, even if keys are equal.
 pub fn build_with<S: Scheme<K>, I: Incidence<K> + Drop, P: KeyPass, const K: usize, L: Ledger>(
     alloc: Global,
     scheme: &S,
@@ -156,64 +172,62 @@ pub fn build_with<S: Scheme<K>, I: Incidence<K> + Drop, P: KeyPass, const K: usi
     ensures numbers { IfErr result (HasNumbers (P.place keys.new)) }
     ensures certificate { IfErr result (HasForm (S.algorithm_of scheme.now) (slice_index seeds.now 0)) }
     ensures steps { ForSome (P.told keys.old) (λ told. steps.new ≤ steps.old + 8 * (K * length told.keys) * length seeds.now) }
-    ensures early { IfErr result (λ e. FoundEqual e → ForSome (P.told keys.old) (λ told. steps.new ≤ steps.old + 8 * (K * length told.keys))) }
+{
+    let left = match build_first::<S, I, P, K, L>(alloc, scheme, keys, key, c, seeds, steps)? {
+        Ok(built) => return Ok(built),
+        Err(left) => left,
+    };
+    let m = left.edges.len();
+    match build_later::<S, I, P, K, L>(alloc, scheme, keys, key, m, c, seeds, steps)? {
+        Some(built) => Ok(built),
+        None => {
+            let certificate = certify::<S, P, K>(alloc, scheme, keys, key, seeds[0], &left)?;
+            Err(BuildFault::Cored(certificate))
+        }
+    }
+}
+
+/// The cells of the first seed of a list, or its graph if that has a 2-core. The keys are passed once to be counted, and once more. The
+/// buffer is scratch space.
+fn build_first<S: Scheme<K>, I: Incidence<K> + Drop, P: KeyPass, const K: usize, L: Ledger>(
+    alloc: Global,
+    scheme: &S,
+    keys: &mut P,
+    key: &mut KeyBuf,
+    c: u32,
+    seeds: &[u32],
+    steps: &mut Steps<L>,
+) -> Result<Result<Built<S::Table>, Left<K>>, BuildFault>
+    requires ratio { IsRatio c }
+    requires some { 0 < length seeds.now }
+    ensures told { P.told keys.new ≡ P.told keys.old }
+    ensures cause { HasBuildCause (P.faults keys.old) (P.faults keys.new) result }
+    ensures many { IfOk result (λ o. IfOk o (λ b. (1 ≤ b.m) × (b.m ≤ 16777216) × (b.c ≡ c))) }
+    ensures cells { IfOk result (λ o. IfOk o (λ b. (S.Table.bound_of b.cells ≡ (S.rule scheme.now).bound b.m) × (length (S.Table.cells b.cells) ≡ (S.rule scheme.now).size b.m c))) }
+    ensures busy { IfOk result (λ o. IfOk o (λ b. (S.rule scheme.now).modulus b.m ≤ (S.rule scheme.now).idle → count_by (is_busy (S.rule scheme.now).idle) (S.Table.cells b.cells) ≡ b.m)) }
+    ensures seed { IfOk result (λ o. IfOk o (λ b. Contains seeds.now b.seed)) }
+    ensures first { IfOk result (λ o. IfOk o (λ b. ForSome (P.told keys.old) (λ told. (told.fault ≡ None) × IsBuilt (S.rule scheme.now) told.keys c seeds.now b.m b.seed (S.Table.cells b.cells) K steps.old steps.new))) }
+    ensures peeled { IfOk result (λ o. IfErr o (λ left. left.peeled.rest ≡ rest_of left.edges.edges)) }
+    ensures long { IfOk result (λ o. IfErr o (λ left. (1 ≤ length left.edges.edges) × (length left.edges.edges ≤ 16777216))) }
+    ensures left { IfOk result (λ o. IfErr o (λ left. ForSome (P.told keys.old) (λ told. IsLeft (S.rule scheme.now) told c (slice_index seeds.now 0) left.edges.edges))) }
+    ensures fault { IfErr result (λ e. ForSome (P.told keys.old) (λ told. FailsBuild (S.rule scheme.now) told c seeds.now e)) }
+    ensures numbers { IfErr result (HasNumbers (P.place keys.new)) }
+    ensures certificate { IfErr result (HasForm (S.algorithm_of scheme.now) (slice_index seeds.now 0)) }
+    ensures steps { ForSome (P.told keys.old) (λ told. steps.new ≤ steps.old + 8 * (K * length told.keys)) }
 {
     let m = count_all(keys, key)?;
     if m == 0 {
         return Err(BuildFault::NoKeys);
     }
-    build_counted::<S, I, P, K, L>(alloc, scheme, keys, key, m, c, seeds, steps)
-}
-
-/// `build_with` of keys that were counted.
-fn build_counted<S: Scheme<K>, I: Incidence<K> + Drop, P: KeyPass, const K: usize, L: Ledger>(
-    alloc: Global,
-    scheme: &S,
-    keys: &mut P,
-    key: &mut KeyBuf,
-    m: u32,
-    c: u32,
-    seeds: &[u32],
-    steps: &mut Steps<L>,
-) -> Result<Built<S::Table>, BuildFault>
-    requires many { (1 ≤ m) × (m ≤ 16777216) }
-    requires ratio { IsRatio c }
-    requires some { 0 < length seeds.now }
-    requires counted { ForSome (P.told keys.old) (λ told. (length told.keys ≡ m) × (told.fault ≡ None)) }
-    ensures told { P.told keys.new ≡ P.told keys.old }
-    ensures cause { HasBuildCause (P.faults keys.old) (P.faults keys.new) result }
-    ensures many { IfOk result (λ b. (1 ≤ b.m) × (b.m ≤ 16777216) × (b.c ≡ c)) }
-    ensures cells { IfOk result (λ b. (S.Table.bound_of b.cells ≡ (S.rule scheme.now).bound b.m) × (length (S.Table.cells b.cells) ≡ (S.rule scheme.now).size b.m c)) }
-    ensures busy { IfOk result (λ b. (S.rule scheme.now).modulus b.m ≤ (S.rule scheme.now).idle → count_by (is_busy (S.rule scheme.now).idle) (S.Table.cells b.cells) ≡ b.m) }
-    ensures seed { IfOk result (λ b. Contains seeds.now b.seed) }
-    ensures first { IfOk result (λ b. ForSome (P.told keys.old) (λ told. (told.fault ≡ None) × IsBuilt (S.rule scheme.now) told.keys c seeds.now b.m b.seed (S.Table.cells b.cells) K steps.old steps.new)) }
-    ensures fault { IfErr result (λ e. ForSome (P.told keys.old) (λ told. FailsBuild (S.rule scheme.now) told c seeds.now e)) }
-    ensures numbers { IfErr result (HasNumbers (P.place keys.new)) }
-    ensures certificate { IfErr result (HasForm (S.algorithm_of scheme.now) (slice_index seeds.now 0)) }
-    ensures steps { steps.new ≤ steps.old + 8 * (K * m) * length seeds.now }
-    ensures early { IfErr result (λ e. FoundEqual e → steps.new ≤ steps.old + 8 * (K * m)) }
-{
-    let first = seeds[0];
-    let certificate = match attempt::<S, I, P, K, L>(
-        alloc, scheme, keys, key, m, c, first, steps,
-    )? {
-        Ok(cells) => return Ok(Built {
-            m,
-            c,
-            seed: first,
-            cells,
-        }),
-        Err(left) => certify::<S, P, K>(alloc, scheme, keys, key, first, &left)?,
-    };
-    // Equal keys have equal edges, so that no other seed works.
-    if !certificate.equal.is_empty() {
-        return Err(BuildFault::Cored(certificate));
+    let seed = seeds[0];
+    match attempt::<S, I, P, K, L>(alloc, scheme, keys, key, m, c, seed, steps)? {
+        Ok(cells) => Ok(Ok(Built { m, c, seed, cells })),
+        Err(left) => Ok(Err(left)),
     }
-    build_later::<S, I, P, K, L>(alloc, scheme, keys, key, m, c, seeds, certificate, steps)
 }
 
-/// The cells of the first seed that works after the first of the list. The first one left this certificate, without equal keys. `steps`
-/// has counted those of the first.
+/// The cells of the first seed that works after the first of the list, or none. The first one leaves a 2-core. `steps` has counted those
+/// of the first. The buffer is scratch space.
 fn build_later<S: Scheme<K>, I: Incidence<K> + Drop, P: KeyPass, const K: usize, L: Ledger>(
     alloc: Global,
     scheme: &S,
@@ -222,37 +236,31 @@ fn build_later<S: Scheme<K>, I: Incidence<K> + Drop, P: KeyPass, const K: usize,
     m: u32,
     c: u32,
     seeds: &[u32],
-    certificate: Certificate,
     steps: &mut Steps<L>,
-) -> Result<Built<S::Table>, BuildFault>
+) -> Result<Option<Built<S::Table>>, GatherFault>
     requires many { (1 ≤ m) × (m ≤ 16777216) }
     requires ratio { IsRatio c }
     requires some { 0 < length seeds.now }
-    requires counted { ForSome (P.told keys.old) (λ told. (length told.keys ≡ m) × (told.fault ≡ None)) }
     requires left { ForSome (P.told keys.old) (λ told. rest_of (graph_of (S.rule scheme.now) told.keys c (slice_index seeds.now 0)) ≢ []) }
-    requires form { HasForm (S.algorithm_of scheme.now) (slice_index seeds.now 0) (build_fault.Cored certificate) }
-    requires shows { ForSome (P.told keys.old) (λ told. ShowsCore (S.rule scheme.now) told.keys c (slice_index seeds.now 0) certificate) }
-    requires unequal { certificate.equal.items ≡ [] }
     ensures told { P.told keys.new ≡ P.told keys.old }
-    ensures cause { HasBuildCause (P.faults keys.old) (P.faults keys.new) result }
-    ensures many { IfOk result (λ b. (1 ≤ b.m) × (b.m ≤ 16777216) × (b.c ≡ c)) }
-    ensures cells { IfOk result (λ b. (S.Table.bound_of b.cells ≡ (S.rule scheme.now).bound b.m) × (length (S.Table.cells b.cells) ≡ (S.rule scheme.now).size b.m c)) }
-    ensures busy { IfOk result (λ b. (S.rule scheme.now).modulus b.m ≤ (S.rule scheme.now).idle → count_by (is_busy (S.rule scheme.now).idle) (S.Table.cells b.cells) ≡ b.m) }
-    ensures seed { IfOk result (λ b. Contains seeds.now b.seed) }
+    ensures cause { HasGatherCause (P.faults keys.old) (P.faults keys.new) result }
+    ensures many { IfOk result (λ o. IfSome o (λ b. (b.m ≡ m) × (b.c ≡ c))) }
+    ensures cells { IfOk result (λ o. IfSome o (λ b. (S.Table.bound_of b.cells ≡ (S.rule scheme.now).bound b.m) × (length (S.Table.cells b.cells) ≡ (S.rule scheme.now).size b.m c))) }
+    ensures busy { IfOk result (λ o. IfSome o (λ b. (S.rule scheme.now).modulus b.m ≤ (S.rule scheme.now).idle → count_by (is_busy (S.rule scheme.now).idle) (S.Table.cells b.cells) ≡ b.m)) }
+    ensures seed { IfOk result (λ o. IfSome o (λ b. Contains seeds.now b.seed)) }
     ensures first { (before : ℕ) → steps.old ≤ before + 8 * (K * m) →
-        IfOk result (λ b. ForSome (P.told keys.old) (λ told. (told.fault ≡ None) × IsBuilt (S.rule scheme.now) told.keys c seeds.now b.m b.seed (S.Table.cells b.cells) K before steps.new)) }
-    ensures fault { IfErr result (λ e. ForSome (P.told keys.old) (λ told. FailsBuild (S.rule scheme.now) told c seeds.now e)) }
-    ensures numbers { IfErr result (HasNumbers (P.place keys.new)) }
-    ensures certificate { IfErr result (HasForm (S.algorithm_of scheme.now) (slice_index seeds.now 0)) }
+        IfOk result (λ o. IfSome o (λ b. ForSome (P.told keys.old) (λ told. IsBuilt (S.rule scheme.now) told.keys c seeds.now b.m b.seed (S.Table.cells b.cells) K before steps.new))) }
+    ensures none { IfOk result (λ o. IfNone o (ForSome (P.told keys.old) (λ told. (j : ℕ) → j < length seeds.now → rest_of (graph_of (S.rule scheme.now) told.keys c (slice_index seeds.now j)) ≢ []))) }
+    ensures changed { IfErr result (HasOther m (P.place keys.new)) }
+    ensures fault { IfErr result (λ e. ForSome (P.told keys.old) (λ told. FailsGather told m e)) }
     ensures steps { (before : ℕ) → steps.old ≤ before + 8 * (K * m) → steps.new ≤ before + 8 * (K * m) * length seeds.now }
-    ensures unequal { IfErr result (λ e. FoundEqual e → ⊥) }
 {
     for i in 1..seeds.len() {
         let seed = seeds[i];
         match attempt::<S, I, P, K, L>(alloc, scheme, keys, key, m, c, seed, steps)? {
-            Ok(cells) => return Ok(Built { m, c, seed, cells }),
+            Ok(cells) => return Ok(Some(Built { m, c, seed, cells })),
             Err(_) => {}
         }
     }
-    Err(BuildFault::Cored(certificate))
+    Ok(None)
 }

@@ -1,8 +1,7 @@
 use Rattle.std.proofs.Common.{arith, rules, ◌≡◌, ◌≢◌, ℕ, [], length, refl, sym, subst, ◌∙◌, get_or}
 use Rattle.cm_spec.specs.Built.{graph_of}
 use Rattle.cm_spec.specs.Rounds.{rest_of}
-use Rattle.cm_algo.specs.Fails.{build_fault_of}
-use Rattle.cm_algo.proofs.Cored.{fails_pass, handed_on, leaves_some, refused}
+use Rattle.cm_algo.proofs.Cored.{leaves_some}
 use Rattle.cm_algo.proofs.OneSeed.{steps_err, steps_more, steps_later, steps_on, steps_all, chosen_at, first_at, left_more}
 use Rattle.cm_algo.proofs.seeds.build_later.Goals as goal
 
@@ -16,32 +15,23 @@ loop-i-init g c = record {
       subst (λ (j : ℕ). rest_of (graph_of (g.S.Scheme.rule c.args.scheme.now) told.keys c.args.c (get_or c.args.seeds.now j 0)) ≢ []) (sym zero) (c.requires.left told is);
 }
 
-pub returns-in_err-cells-clause-fault : goal.returns-in_err-cells-clause-fault
-returns-in_err-cells-clause-fault g c =
-    let fault = c.in_err-cells.field-0.0 in
-    handed_on c.from_residual.result (build_fault_of fault) _ c.from_residual.ensures.1
-    (λ told is. fails_pass (g.S.Scheme.rule c.args.scheme.now) told c.args.c c.args.seeds.now c.args.m fault (sym (c.requires.counted told is).0) (c.in_err-cells.ensures.fault told (c.loop-i.invariant.told ∙ is)))
-
 pub returns-in_err-cells-clause-steps : goal.returns-in_err-cells-clause-steps
 returns-in_err-cells-clause-steps g c = λ before spent. steps_err g.row.K c.args.m c.args.m before c.loop-i.steps _ c.loop-i.i _ (steps_later _ _ _ _ _ spent c.loop-i.invariant.steps) c.attempt.ensures.steps refl c.loop-i-test.true
 
 pub returns-in-Ok-clause-first : goal.returns-in-Ok-clause-first
 returns-in-Ok-clause-first g c = λ before spent told is.
     let r = g.S.Scheme.rule c.args.scheme.now in
-    let a = c.requires.counted told is in
     let made = rw c.in-Ok.is at c.in_ok-cells.ensures.made in
     let given = made told (c.loop-i.invariant.told ∙ is) in
-    let left = c.loop-i.invariant.left told is in (
-      a.1,
-      record {
-        place = c.loop-i.i;
-        many = sym a.0;
-        chosen = chosen_at r told.keys c.args.c c.loop-i.i c.args.seeds.now c.loop-i-test.true given.1.0 left;
-        first = first_at r told.keys c.args.c c.loop-i.i c.args.seeds.now c.loop-i-test.true given.1.0 left;
-        cells_are = given.1.1;
-        steps = steps_more g.row.K c.args.m (length told.keys) before c.loop-i.steps c.attempt.new.steps c.loop-i.i (steps_later _ _ _ _ _ spent c.loop-i.invariant.steps) c.attempt.ensures.steps (sym a.0);
-      },
-    )
+    let left = c.loop-i.invariant.left told is in
+    record {
+      place = c.loop-i.i;
+      many = given.0;
+      chosen = chosen_at r told.keys c.args.c c.loop-i.i c.args.seeds.now c.loop-i-test.true given.1.0 left;
+      first = first_at r told.keys c.args.c c.loop-i.i c.args.seeds.now c.loop-i-test.true given.1.0 left;
+      cells_are = given.1.1;
+      steps = steps_more g.row.K c.args.m (length told.keys) before c.loop-i.steps c.attempt.new.steps c.loop-i.i (steps_later _ _ _ _ _ spent c.loop-i.invariant.steps) c.attempt.ensures.steps given.0;
+    }
 
 pub returns-in-Ok-clause-steps : goal.returns-in-Ok-clause-steps
 returns-in-Ok-clause-steps g c = λ before spent. steps_err g.row.K c.args.m c.args.m before c.loop-i.steps _ c.loop-i.i _ (steps_later _ _ _ _ _ spent c.loop-i.invariant.steps) c.attempt.ensures.steps refl c.loop-i-test.true
@@ -61,13 +51,5 @@ loop-i-preserved g c =
           (leaves_some r told.keys c.args.c (get_or c.args.seeds.now i 0) c.in-Err.field-0.edges.edges c.in-Err.field-0.peeled.rest (left told (before.told ∙ is)) (rw c.in-Err.is at c.in_ok-cells.ensures.peeled) (rw c.in-Err.is at c.in_ok-cells.ensures.some)) low;
     }
 
-pub returns-clause-fault : goal.returns-clause-fault
-returns-clause-fault g c = λ told is.
-    let a = c.requires.counted told is in
-    refused (g.S.Scheme.rule c.args.scheme.now) told c.args.c c.args.seeds.now c.args.certificate (omega (arith, a.0, c.requires.many.0)) a.1 (λ j within. c.loop-i.invariant.left told is j (omega (arith, within, c.loop-i-test.false))) (c.requires.shows told is)
-
 pub returns-clause-steps : goal.returns-clause-steps
 returns-clause-steps g c = λ before spent. steps_all g.row.K c.args.m _ _ before c.loop-i.i _ spent c.loop-i.invariant.steps (omega (arith, c.requires.some, c.loop-i.auto.i-end))
-
-pub returns-clause-unequal : goal.returns-clause-unequal
-returns-clause-unequal g c = λ found. found c.requires.unequal
