@@ -16,7 +16,6 @@ use Rattle.cm_witness.specs.declared.certificate.Certificate.{Certificate}
 use Rattle.cm_witness.specs.declared.certificate.GatherFault.{GatherFault}
 use Rattle.cm_witness.specs.declared.certificate.GatherFault.TheVariants as gather_fault
 use Rattle.cm_algo.specs.Fails.{FailsBuild, ShowsCore, build_fault_of}
-use Rattle.cm_algo.specs.declared.fault.BuildFault.{BuildFault}
 use Rattle.cm_algo.specs.declared.fault.BuildFault.TheVariants.{Cored}
 use Rattle.cm_algo.proofs.OneSeed.{all_cored, none_chosen}
 
