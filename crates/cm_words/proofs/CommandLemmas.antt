@@ -1,8 +1,27 @@
 -- The command, argument by argument, and that clap states its matches and its faults.
-use Rattle.std.proofs.Common.{◌≡◌, ◌∙◌, true, refl, ap, List}
-use Rattle.clap.specs.Words.{App, Rule, is_simple, is_simple_and_free}
+use Rattle.std.proofs.Common.{◌≡◌, ◌∙◌, ℕ, Some, true, false, refl, ap, List}
+use Rattle.clap.specs.Words.{AddsArg, App, Rule, Text, app_of, is_simple, is_simple_and_free, new_rule, rule_of}
+use Rattle.clap.specs.declared.builder.action.ArgAction.{ArgAction}
+use Rattle.clap.specs.declared.builder.action.ArgAction.TheVariants.{Set}
+use Rattle.clap.specs.declared.builder.arg.Arg.{Arg}
+use Rattle.clap.specs.declared.builder.command.Command.{Command}
 use Rattle.clap.proofs.OnLiterals.{clap_on_literals}
-use Rattle.cm_words.specs.Command.{cmph_app, with_argument, with_arguments}
+use Rattle.cm_words.specs.Command.{cmph_app, file_rule, option_rule, with_argument, with_arguments}
+
+-- a command that was given an argument, by the argument's rule
+added : {old new : Command} {arg : Arg} {rule : Rule} → arg.global ≡ false → rule_of arg ≡ rule → AddsArg old arg new → app_of new ≡ with_argument (app_of old) rule
+unfolding with_argument
+added {old = old} local is adds = adds.shape local ∙ ap (λ (r : Rule). with_argument (app_of old) r) is
+
+pub option_added : {old new : Command} {fresh short arg : Arg} {id : Text} {letter : ℕ} {action : ArgAction} → short ≡ record fresh { short = Some letter } → arg ≡ record short { action = Some action }
+    → fresh.global ≡ false → rule_of fresh ≡ new_rule id → AddsArg old arg new → app_of new ≡ with_argument (app_of old) (option_rule id letter action)
+option_added {letter = letter} {action = action} named is local fresh_is adds =
+    let same = is ∙ ap (λ (a : Arg). record a { action = Some action }) named in
+    added (ap (λ (a : Arg). a.global) same ∙ local) (ap rule_of same ∙ ap (λ (r : Rule). record r { short = Some letter; action = Some action }) fresh_is) adds
+
+pub file_added : {old new : Command} {fresh arg : Arg} {id : Text} → arg ≡ record fresh { action = Some Set }
+    → fresh.global ≡ false → rule_of fresh ≡ new_rule id → AddsArg old arg new → app_of new ≡ with_argument (app_of old) (file_rule id)
+file_added is local fresh_is adds = added (ap (λ (a : Arg). a.global) is ∙ local) (ap rule_of is ∙ ap (λ (r : Rule). record r { action = Some Set }) fresh_is) adds
 
 -- one argument more, over the same command
 pub along : {app old new : App} (rule : Rule) → app ≡ with_argument old rule → old ≡ new → app ≡ with_argument new rule

@@ -7,7 +7,6 @@ use clap::{Arg, ArgAction, Command};
 use std::alloc::{AllocError, Global};
 
 /// The command with one option more, of a name within this crate and a letter.
-#[tactic(auto, unfolding(crate::specs::Command::with_argument))]
 fn with_option<'a>(
     alloc: Global,
     command: Command<'a>,
@@ -20,7 +19,6 @@ fn with_option<'a>(
     command.arg(Arg::new(alloc, id).short(letter).action(action))
 }
 
-#[tactic(auto, unfolding(crate::specs::Command::with_argument))]
 fn with_file<'a>(
     alloc: Global,
     command: Command<'a>,
