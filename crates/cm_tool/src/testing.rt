@@ -39,7 +39,6 @@ use std::marker::Brand;
 use std::sync::ledger::Blank;
 
 /// A pass over n generated keys.
-#[tactic(auto, unfolding(crate::specs::Tested::generated))]
 fn generated_pass(n: u32) -> Keys<MadeKeys>
     requires some { 1 ≤ n }
     requires few { n ≤ 16777216 }

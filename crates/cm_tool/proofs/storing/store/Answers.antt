@@ -25,4 +25,4 @@ pub returns-in-Err-close-clause-files : goal.returns-in-Err-close-clause-files
 returns-in-Err-close-clause-files g c =
     let closed = c.in-Err-close.ensures.files in
     let n = closed.0 in
-    inr (n, holds _ _ (λ (l : List ℕ). take n l) _ _ _ _ _ c.in_ok-writer.ensures.files c.in_ok-writer.ensures.writer c.in-Ok.ensures.bytes closed.1)
+    inr (n, holds _ _ (λ (l : List ℕ). take n l) _ _ (g.D.Disk.files c.close.new.self) _ _ c.in_ok-writer.ensures.files c.in_ok-writer.ensures.writer c.in-Ok.ensures.bytes closed.1)
