@@ -133,3 +133,36 @@ returns-in-Err-clause-cut g c = λ either files is.
 pub returns-in-Err-clause-err : goal.returns-in-Err-clause-err
 returns-in-Err-clause-err g c =
     ([], usage_message c.in-Err.fault, unless_query _ refl, rw c.report_usage.ensures.status (usage_said _ c.in-Err.fault _ _ refl c.in-Err.ensures.fault), c.report_usage.ensures.says)
+
+pub returns-in-Ok-Build-clause-first : goal.returns-in-Ok-Build-clause-first
+returns-in-Ok-Build-clause-first g c = rw (asks _ _ _ c.in-Ok-Build.ensures.job c.in-Ok-Build.field-0-is) c.run_build.ensures.first
+
+pub returns-in-Ok-Build-clause-cored : goal.returns-in-Ok-Build-clause-cored
+returns-in-Ok-Build-clause-cored g c = rw (asks _ _ _ c.in-Ok-Build.ensures.job c.in-Ok-Build.field-0-is) c.run_build.ensures.cored
+
+pub returns-in-Ok-Build-clause-numbers : goal.returns-in-Ok-Build-clause-numbers
+returns-in-Ok-Build-clause-numbers g c = rw (asks _ _ _ c.in-Ok-Build.ensures.job c.in-Ok-Build.field-0-is) c.run_build.ensures.numbers
+
+pub returns-in-Ok-Build-clause-spilled : goal.returns-in-Ok-Build-clause-spilled
+returns-in-Ok-Build-clause-spilled g c = rw (asks _ _ _ c.in-Ok-Build.ensures.job c.in-Ok-Build.field-0-is) c.run_build.ensures.spilled
+
+pub returns-in-Ok-Build-clause-part : goal.returns-in-Ok-Build-clause-part
+returns-in-Ok-Build-clause-part g c = rw (asks _ _ _ c.in-Ok-Build.ensures.job c.in-Ok-Build.field-0-is) c.run_build.ensures.part
+
+pub returns-in-Ok-Build-clause-memory : goal.returns-in-Ok-Build-clause-memory
+returns-in-Ok-Build-clause-memory g c = rw (asks _ _ _ c.in-Ok-Build.ensures.job c.in-Ok-Build.field-0-is) c.run_build.ensures.memory
+
+pub returns-in-Ok-Build-clause-built : goal.returns-in-Ok-Build-clause-built
+returns-in-Ok-Build-clause-built g c = rw (asks _ _ _ c.in-Ok-Build.ensures.job c.in-Ok-Build.field-0-is) c.run_build.ensures.out
+
+pub returns-in-Ok-Build-clause-err : goal.returns-in-Ok-Build-clause-err
+returns-in-Ok-Build-clause-err g c =
+    let said = c.run_build.ensures.err in
+    let asked = asks _ _ _ c.in-Ok-Build.ensures.job c.in-Ok-Build.field-0-is in
+    ([], said.0, rw asked refl, rw asked said.1, said.2)
+
+pub returns-in-Ok-Query-clause-cut : goal.returns-in-Ok-Query-clause-cut
+returns-in-Ok-Query-clause-cut g c = rw (asks _ _ _ c.in-Ok-Query.ensures.job c.in-Ok-Query.field-0-is) c.run_query.ensures.cut
+
+pub returns-in-Ok-Test-clause-unfinished : goal.returns-in-Ok-Test-clause-unfinished
+returns-in-Ok-Test-clause-unfinished g c = rw (asks _ _ _ c.in-Ok-Test.ensures.job c.in-Ok-Test.field-0-is) c.run_test.ensures.unfinished
