@@ -1,4 +1,4 @@
-use Rattle.std.proofs.Common.{[], ◌≡◌, ◌∙◌, ℕ, ◌+◌, ◌-◌, ◌<◌, ◌≤◌, List, ◌++◌, length, take, drop, get_or, replicate, Option, None, inr, refl, ap, sym, subst, arith, rules}
+use Rattle.std.proofs.Common.{[], ◌≡◌, ◌∙◌, ℕ, ◌+◌, ◌-◌, ◌<◌, ◌≤◌, List, ◌++◌, length, take, drop, get_or, replicate, Option, None, Some, Bool, inr, refl, ap, sym, subst, arith}
 use Rattle.std.proofs.lemmas.List.{length-map, length-replicate}
 use Rattle.std.specs.Prelude.{IfSome}
 use Rattle.cm_bits.specs.Held.{packed_cells}
@@ -11,8 +11,10 @@ use Rattle.cm_outer.specs.NotingLaws.{noted_more}
 use Rattle.cm_query.proofs.ProgressLemmas.{SoFar, next_within, so_far_all, so_far_next, so_far_none, text_at_write}
 use Rattle.cm_outer.specs.NotingLaws.{noted_nothing}
 use Rattle.cm_outer.specs.WritingLaws.{then_nothing}
+use Rattle.cm_query.specs.Tallies.{counted}
 use Rattle.cm_query.specs.Texts.{line_of, notes_of}
 use Rattle.cm_query.specs.Waiting.{WaitingKeys}
+use Rattle.cm_query.specs.declared.tally.Tally.{Tally}
 use Rattle.cm_query.proofs.answering.query.Goals as goal
 
 pub keys-init : goal.keys-init
@@ -102,6 +104,11 @@ mark-repeated-requires g c =
     let here = subst (λ (a : Option ℕ). IfSome a (λ v. v < g.A.Answers.span_of c.args.function.now)) (sym (c.answer-answer.ensures.answer unknown)) (n.answers.inside 0 unknown some) in
     record { inside = λ x is. omega (arith, inv.size, (rw is at here)) }
 
+-- one line more is counted
+lines-counted : (t : Tally) (a : Option ℕ) (repeated : Bool) → (counted t a repeated).lines ≡ t.lines + 1
+lines-counted t None repeated = refl
+lines-counted t (Some v) repeated = refl
+
 pub keys-preserved : goal.keys-preserved
 keys-preserved g c =
     let inv = c.keys.invariant in
@@ -114,7 +121,7 @@ keys-preserved g c =
     let a : Option ℕ = c.answer-answer.result in
     let old = packed_cells 2 8 c.keys.marks.n c.keys.marks.bytes.items in
     let first = first_of f (g.A.Answers.span_of c.args.function.now) waiting c.pass.new.self line key a n.answers counts.0 c.line.ensures.line c.key.ensures.key c.answer-answer.ensures.answer c.pass.ensures.keys c.pass.ensures.answers in
-    let lines : c.count.new.self.lines ≡ c.keys.tally.lines + 1 = search rules in
+    let lines : c.count.new.self.lines ≡ c.keys.tally.lines + 1 = ap (λ (t : Tally). t.lines) c.count.ensures.counted ∙ lines-counted c.keys.tally a c.mark-repeated.result in
     let one_less : length waiting.keys ≡ 1 + length c.pass.new.self.keys = ap length first.keys ∙ omega arith in
     let inside : IfSome a (λ v. v < length old) = subst (λ (s : ℕ). IfSome a (λ v. v < s)) (sym inv.size) first.inside in
     record {
