@@ -42,6 +42,16 @@ count_more sizes key left rest all k s b n h e is l m = record {
       counted_one sizes j b n (size_of_bucket rest k s j) (size_of_bucket all k s j) l m (ap (λ (x : ℕ). get_or sizes j 0 + x) (sym more) ∙ h.each j low);
 }
 
+-- of a bucket that has a key left not all keys were counted
+pub counted_less : (sizes : List ℕ) (key : ℕ × List ℕ) (left rest all : List (ℕ × List ℕ)) (k s b : ℕ) → AreCountedBut sizes left all k s → left ≡ key ∷ rest → b ≡ bucket_of key.1 s k → b < k → get_or sizes b 0 < size_of_bucket all k s b
+counted_less sizes key left rest all k s b h e is low = go (cases_Bool (eqb b b)) where
+  go : (eqb b b ≡ true) ⊎ (eqb b b ≡ false) → get_or sizes b 0 < size_of_bucket all k s b
+  go (inr f) = absurd (eqb-false b b f refl)
+  go (inl t) =
+      let more : size_of_bucket left k s b ≡ cond (eqb b b) 1 0 + size_of_bucket rest k s b = ap (λ (xs : List (ℕ × List ℕ)). size_of_bucket xs k s b) e ∙ (length_filter-cons (λ (x : ℕ × List ℕ). eqb (bucket_of x.1 s k) b) key rest ∙ ap (λ (v : ℕ). cond (eqb v b) 1 0 + size_of_bucket rest k s b) (sym is)) in
+      let one : cond {A = ℕ} (eqb b b) 1 0 ≡ 1 = cond-true (eqb b b) 1 0 t in
+      omega (arith, h.each b low, more, one)
+
 pub get_or-zeros : (n j : ℕ) → ◌≡◌ {A = ℕ} (get_or (replicate n 0) j 0) 0
 get_or-zeros zero j = refl
 get_or-zeros (suc n) zero = refl

@@ -19,7 +19,7 @@ use crate::overfull::gather_equal;
 use crate::split::{Overfull, Split, choose_split};
 use crate::store::Store;
 use cm_algo::count_all;
-use cm_buckets::{Brz, BrzParts};
+use cm_buckets::{Brz, BrzParts, MAX_BUCKET};
 use cm_graph::Steps;
 use cm_outer::{KeyBuf, KeyPass};
 use cm_scheme::Divisor;
@@ -63,37 +63,40 @@ fn put_next<P: KeyPass, B: Store>(
 }
 
 /// The first bucket whose number of keys put differs from the number counted.
-fn find_other(sizes: &[u32], put: &[u32]) -> Option<usize>
+fn find_other(sizes: &[u32], put: &[u8]) -> Option<usize>
     requires long { length put.now ≡ length sizes.now }
     ensures some { IfSome result (λ j. (j < length sizes.now) × (slice_index sizes.now j ≢ slice_index put.now j)) }
     ensures lowest { IfSome result (λ j. (i : ℕ) → i < j → slice_index put.now i ≡ slice_index sizes.now i) }
     ensures none { IfNone result ((i : ℕ) → i < length sizes.now → slice_index put.now i ≡ slice_index sizes.now i) }
 {
     for (j, size) in sizes.iter().enumerate() {
-        if *size != put[j] {
+        if *size != put[j] as u32 {
             return Some(j);
         }
     }
     None
 }
 
-/// Puts all keys, which are to be `m`, into the store in one pass, each with its bucket and its line, and counts those of each bucket.
-/// The buffer is scratch space.
+/// Puts all keys, which are to be `m`, into the store in one pass, each with its bucket and its line, and counts those of each bucket
+/// in a byte: none had more keys than a bucket may have when they were counted. The buffer is scratch space.
 fn put_each<P: KeyPass, B: Store>(
     alloc: Global,
     keys: &mut P,
     key: &mut KeyBuf,
     m: u32,
     split: &Split,
-    put: &mut [u32],
+    sizes: &[u32],
+    put: &mut [u8],
     store: &mut B,
 ) -> Result<(), BrzFault>
     requires few { m ≤ MAX_KEYS }
-    requires long { length put.old ≡ split.now.buckets }
+    requires long { (length sizes.now ≡ split.now.buckets) × (length put.old ≡ split.now.buckets) }
+    requires small { (j : ℕ) → j < length sizes.now → slice_index sizes.now j ≤ MAX_BUCKET }
     requires store { IsTrue (B.usable store.old) }
     requires open { B.sealed store.old ≡ false }
     requires new { B.put_last store.old ≡ 0 }
     requires counted { ForSome (P.told keys.old) (AreCounted m) }
+    requires sizes { ForSome (P.told keys.old) (λ told. AreSizes sizes.now told.keys split.now.buckets split.now.seed) }
     ensures told { P.told keys.new ≡ P.told keys.old }
     ensures keys_cause { HasKeysCause (P.faults keys.old) (P.faults keys.new) result }
     ensures spill_cause { HasSpillCause (B.faults store.old) (B.faults store.new) result }
@@ -109,7 +112,16 @@ fn put_each<P: KeyPass, B: Store>(
     put.fill(0);
     for count in 0..m {
         match put_next(alloc, keys, key, split, store)? {
-            Some(bucket) => put[bucket as usize] += 1,
+            Some(bucket) => {
+                let j = bucket as usize;
+                if put[j] as u32 == MAX_BUCKET {
+                    return Err(BrzFault::Changed {
+                        first: sizes[j],
+                        now: MAX_BUCKET + 1,
+                    });
+                }
+                put[j] += 1;
+            }
             None => {
                 return Err(BrzFault::Changed {
                     first: m,
@@ -140,6 +152,7 @@ fn put_keys<P: KeyPass, B: Store>(
 ) -> Result<(), BrzFault>
     requires few { m ≤ MAX_KEYS }
     requires long { length sizes.now ≡ split.now.buckets }
+    requires small { (j : ℕ) → j < length sizes.now → slice_index sizes.now j ≤ MAX_BUCKET }
     requires store { IsTrue (B.usable store.old) }
     requires open { B.sealed store.old ≡ false }
     requires new { B.put_last store.old ≡ 0 }
@@ -156,12 +169,12 @@ fn put_keys<P: KeyPass, B: Store>(
     ensures form { IfErr result HasPassingForm }
 {
     let mut table = vec![in alloc; 0; sizes.len()]?;
-    let put: &mut [u32] = &mut table;
-    put_each(alloc, keys, key, m, split, put, store)?;
+    let put: &mut [u8] = &mut table;
+    put_each(alloc, keys, key, m, split, sizes, put, store)?;
     match find_other(sizes, put) {
         Some(j) => Err(BrzFault::Changed {
             first: sizes[j],
-            now: put[j],
+            now: put[j] as u32,
         }),
         None => Ok(()),
     }
@@ -179,6 +192,7 @@ fn put_all<P: KeyPass, B: Store>(
 ) -> Result<(), BrzFault>
     requires few { m ≤ MAX_KEYS }
     requires long { length sizes.now ≡ split.now.buckets }
+    requires small { (j : ℕ) → j < length sizes.now → slice_index sizes.now j ≤ MAX_BUCKET }
     requires store { IsTrue (B.usable store.old) }
     requires open { B.sealed store.old ≡ false }
     requires new { B.put_last store.old ≡ 0 }

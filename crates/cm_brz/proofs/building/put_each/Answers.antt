@@ -1,6 +1,6 @@
 use Rattle.std.proofs.Common.{arith, rules, ◌∙◌, ◌<◌, length, refl}
 use Rattle.cm_brz.proofs.Putting.{put_more}
-use Rattle.cm_brz.proofs.Sizes.{count_more, sum_one_more}
+use Rattle.cm_brz.proofs.Sizes.{count_more, counted_less, sum_one_more}
 use Rattle.cm_brz.proofs.building.put_each.Goals as goal
 
 pub returns-in-None-clause-fault : goal.returns-in-None-clause-fault
@@ -37,3 +37,13 @@ loop-count-preserved g c =
           put_more (B.holds c.loop-count.store) (B.holds c.put_next.new.store) (P.told c.args.keys.now) (P.told c.loop-count.keys) (P.place c.loop-count.keys) (P.place c.put_next.new.keys) c.loop-count.put c.args.split.now.buckets c.args.split.now.seed c.in-Some.bucket _ before.same (before.records none)
           (λ records held. rw c.in-Some.is at (c.in_ok-bucket.ensures.puts records held)) low refl;
     }
+
+pub returns-then-put-j-eq-MAX_BUCKET-clause-fault : goal.returns-then-put-j-eq-MAX_BUCKET-clause-fault
+returns-then-put-j-eq-MAX_BUCKET-clause-fault g c = λ told is.
+    let before = c.loop-count.invariant in
+    let below = rw c.in-Some.is at c.in_ok-bucket.ensures.below in
+    let gives = rw c.in-Some.is at c.in_ok-bucket.ensures.gives in
+    let given = gives told (before.same ∙ is) in
+    let low : c.in-Some.bucket < length c.args.sizes.now = omega (arith, below, c.requires.long.0) in
+    let less = counted_less c.loop-count.put given.0 _ _ told.keys c.args.split.now.buckets c.args.split.now.seed c.in-Some.bucket (before.counts told is) given.1 given.2 below in
+    omega (arith, c.requires.small c.in-Some.bucket low, c.requires.sizes told is c.in-Some.bucket below, less, c.if-put-j-eq-MAX_BUCKET.true)
