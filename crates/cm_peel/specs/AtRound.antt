@@ -1,11 +1,18 @@
 -- The states of peeling. Only the contracts of its steps cite this.
-use Rattle.std.specs.Prelude.{◌≡◌, ◌≢◌, ℕ, suc, ◌+◌, ◌-◌, ◌*◌, ◌/◌, ◌%◌, ◌<◌, ◌==◌, Bool, false, true, not, ◌&&◌, ◌||◌, min, if◌then◌else◌, List, [], ◌∷◌, ◌++◌, length, map, slice_index}
+use Rattle.std.specs.Prelude.{◌≡◌, ◌≢◌, ℕ, suc, ◌+◌, ◌-◌, ◌*◌, ◌/◌, ◌%◌, ◌<◌, ◌≤◌, ◌==◌, Bool, false, true, not, ◌&&◌, ◌||◌, min, if◌then◌else◌, List, [], ◌∷◌, ◌++◌, length, map, slice_index}
 use Rattle.std.specs.List.{list_any}
 use Rattle.cm_spec.specs.Lists.{has}
+use Rattle.cm_spec.specs.Graph.{AreEdges}
 use Rattle.cm_spec.specs.Rounds.{is_left, removed_after, level_of, pivot_of}
 use Rattle.cm_graph.specs.Graph.{Graph, Links}
 use Rattle.cm_peel.specs.Incident.{AreLinked, is_half_left, is_picked, free_position, other_halves_all}
 use Rattle.cm_peel.specs.Peeling.{is_taken}
+
+-- the edges have k ends each, and k and their number are within the limits
+pub record IsSmall (k : ℕ) (graph : Graph) : Type 0 where
+  pub ends : k ≤ 3
+  pub fits : length graph.edges ≤ 67108864
+  pub edges : AreEdges k graph.vertices graph.edges
 
 -- no number stands twice in a list
 abbrev pub AreApart : List ℕ → Type 0
@@ -44,6 +51,14 @@ pub record InRound (graph : Graph) (t : ℕ) (gone : List ℕ) (l : Links) (next
   -- an edge that is freed has the lowest position of an end of degree one
   pub next_byte : (e : ℕ) → has next e ≡ true → slice_index bytes e ≡ tag_of (suc t) + free_position l graph.edges e
   pub taken : (e : ℕ) → e < length graph.edges → is_taken bytes e ≡ (has next e || not (is_left graph.edges (suc t) e))
+
+-- before the first round: no edge is taken, and each level is 0
+pub record AreFresh (graph : Graph) (levels bytes : List ℕ) : Type 0 where
+  -- levels are kept of all edges, or of none
+  pub levels_kept : 0 < length levels → length levels ≡ length graph.edges
+  pub level : (e : ℕ) → e < length levels → slice_index levels e ≡ 0
+  pub bytes_long : length bytes ≡ length graph.edges
+  pub byte : (e : ℕ) → e < length bytes → slice_index bytes e ≡ 8
 
 -- t rounds went before, and the edges of the next one are taken; none of its half-edges is removed yet
 pub record AtRound (graph : Graph) (t : ℕ) (l : Links) (levels bytes : List ℕ) : Type 0 where

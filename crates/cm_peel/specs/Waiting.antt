@@ -3,9 +3,10 @@ use Rattle.std.specs.Prelude.{◌≡◌, ℕ, ◌+◌, ◌*◌, ◌/◌, ◌%◌
 use Rattle.cm_spec.specs.Lists.{has, numbers_from}
 use Rattle.cm_spec.specs.Graph.{ends_at}
 use Rattle.cm_graph.specs.declared.incidence.Half.{Half}
-use Rattle.cm_graph.specs.Graph.{Graph, Links}
-use Rattle.cm_peel.specs.AtRound.{AreApart, AreTaken, InRound, IsOtherPlace}
-use Rattle.cm_peel.specs.Marks.{is_marked}
+use Rattle.cm_graph.specs.Graph.{AreHalves, Graph, Links}
+use Rattle.cm_peel.specs.declared.freed.Plan.{Plan}
+use Rattle.cm_peel.specs.AtRound.{AreApart, AreTaken, InRound, IsOtherPlace, IsSmall}
+use Rattle.cm_peel.specs.Marks.{IsUnmarked, is_marked}
 use Rattle.cm_peel.specs.Peeling.{is_taken}
 
 -- the marked edges
@@ -115,3 +116,32 @@ IsOpen size counts = (b : ℕ) → b < length counts → 2 * slice_index counts 
 -- no half-edge waits
 abbrev pub AreEmpty : List ℕ → Type 0
 AreEmpty counts = (b : ℕ) → b < length counts → slice_index counts b ≡ 0
+
+-- in a round by blocks, with room for all of them, as `InBlocks` says
+pub record AtBlocks (k : ℕ) (graph : Graph) (plan : Plan) (room counts : List ℕ) (l : Links) (marks bytes freed done : List ℕ) : Type 0 where
+  pub small : IsSmall k graph
+  pub early : plan.rounds < length graph.edges
+  pub positive : 0 < plan.size
+  pub space : IsRoom graph plan.size room counts marks
+  pub state : InBlocks graph plan.rounds plan.size plan.blocks plan.each room counts l marks bytes freed done
+
+-- in a round by blocks, as `InTaking` says, and these half-edges can be removed
+pub record AtPart (k : ℕ) (graph : Graph) (plan : Plan) (gone : List ℕ) (l : Links) (marks bytes freed : List ℕ) (halves : List Half) : Type 0 where
+  pub small : IsSmall k graph
+  pub early : plan.rounds < length graph.edges
+  pub state : InTaking graph plan.rounds plan.blocks plan.each gone l marks bytes freed
+  pub linked : AreHalves l halves
+  pub others : (q : ℕ) → has (map (λ h. h.place) halves) q ≡ true → IsOtherPlace graph.edges plan.rounds q
+
+-- these half-edges of the edges that this round removes can wait, since none is removed or waits
+pub record CanWait (edges : List (List ℕ)) (t : ℕ) (done : List ℕ) (halves : List Half) : Type 0 where
+  pub ends : All (IsEnd edges) halves
+  pub others : (q : ℕ) → has (map (λ h. h.place) halves) q ≡ true → IsOtherPlace edges t q
+  pub apart : AreApart (map (λ h. h.place) halves)
+  pub fresh : (q : ℕ) → has (map (λ h. h.place) halves) q ≡ true → has done q ≡ false
+
+-- between rounds: no half-edge waits and no edge is marked, and if there are counts, there is one for each block of vertices
+pub record AreTables (graph : Graph) (counts marks : List ℕ) : Type 0 where
+  pub blocks : 0 < length counts → graph.vertices ≤ 65536 * length counts
+  pub empty : AreEmpty counts
+  pub clear : IsUnmarked (length graph.edges) marks

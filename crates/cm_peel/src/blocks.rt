@@ -3,12 +3,11 @@ ghost use Rattle.std.specs.Prelude.{◌≡◌, ◌≢◌, ℕ, true, false, List
 ghost use Rattle.std.specs.Ordering.{nat_cmp};
 ghost use Rattle.std.specs.List.Sorted.{IsSorted};
 ghost use Rattle.cm_spec.specs.Lists.{has};
-ghost use Rattle.cm_spec.specs.Graph.{AreEdges};
 ghost use Rattle.cm_spec.specs.Rounds.{left_after, removed_after};
-ghost use Rattle.cm_graph.specs.Graph.{AreHalves};
-ghost use Rattle.cm_peel.specs.AtRound.{AreApart, InRound, IsOtherPlace, other_places};
+ghost use Rattle.cm_graph.specs.Graph.{Graph};
+ghost use Rattle.cm_peel.specs.AtRound.{InRound, IsSmall, other_places};
 ghost use Rattle.cm_peel.specs.Marks.{IsUnmarked};
-ghost use Rattle.cm_peel.specs.Waiting.{AreEmpty, AreOpen, InBlocks, InTaking, IsEnd, IsOpen, IsRoom, halves_in, marked_of, put_room};
+ghost use Rattle.cm_peel.specs.Waiting.{AreEmpty, AreTables, AtBlocks, AtPart, CanWait, InTaking, IsOpen, halves_in, marked_of, put_room};
 
 use crate::chunk::{CHUNK, CHUNK_ENDS, list_halves};
 use crate::freed;
@@ -75,7 +74,6 @@ fn read_pairs(pairs: &[u32], halves: &mut [Half])
 
 /// Removes the half-edges of these pairs, takes the edges that this frees, and marks them. Returns how many are new.
 fn empty<const K: usize, I: Incidence<K>, L: Ledger>(
-    edges: &Edges<K>,
     incidence: &mut I,
     pairs: &[u32],
     plan: Plan,
@@ -84,16 +82,9 @@ fn empty<const K: usize, I: Incidence<K>, L: Ledger>(
     marks: &mut [u64],
     steps: &mut Steps<L>,
 ) -> usize
-    requires small { K ≤ 3 }
-    requires fits { length edges.now.edges ≤ 67108864 }
-    requires edges { AreEdges K edges.now.vertices edges.now.edges }
-    requires early { plan.rounds < length edges.now.edges }
-    requires room { length edges.now.edges ≤ 64 * length marks.old }
-    requires state { (gone : List ℕ) × InTaking edges.now plan.rounds plan.blocks plan.each gone (I.links incidence.old) marks.old bytes.old freed.old }
     requires even { length pairs.now ≡ 2 * length (halves_in pairs.now) }
-    requires halves { AreHalves (I.links incidence.old) (halves_in pairs.now) }
-    requires others { (q : ℕ) → has (map (λ h. h.place) (halves_in pairs.now)) q ≡ true → IsOtherPlace edges.now.edges plan.rounds q }
-    ensures state { (gone : List ℕ) → InTaking edges.now plan.rounds plan.blocks plan.each gone (I.links incidence.old) marks.old bytes.old freed.old → InTaking edges.now plan.rounds plan.blocks plan.each (gone ++ map (λ h. h.place) (halves_in pairs.now)) (I.links incidence.new) marks.new bytes.new freed.new }
+    requires state { (graph : Graph) × (gone : List ℕ) × AtPart K graph plan gone (I.links incidence.old) marks.old bytes.old freed.old (halves_in pairs.now) }
+    ensures state { (graph : Graph) (gone : List ℕ) → AtPart K graph plan gone (I.links incidence.old) marks.old bytes.old freed.old (halves_in pairs.now) → InTaking graph plan.rounds plan.blocks plan.each (gone ++ map (λ h. h.place) (halves_in pairs.now)) (I.links incidence.new) marks.new bytes.new freed.new }
     ensures count { length (marked_of marks.new) ≡ length (marked_of marks.old) + result }
     ensures steps { steps.new ≤ steps.old + 3 * length (halves_in pairs.now) }
 {
@@ -134,7 +125,6 @@ fn put(half: Half, size: usize, room: &mut [u32], counts: &mut [u32]) -> usize
 
 /// Empties a block: removes the half-edges that wait for it. Returns how many edges were marked.
 fn empty_block<const K: usize, I: Incidence<K>, L: Ledger>(
-    edges: &Edges<K>,
     incidence: &mut I,
     b: usize,
     plan: Plan,
@@ -145,27 +135,21 @@ fn empty_block<const K: usize, I: Incidence<K>, L: Ledger>(
     counts: &mut [u32],
     steps: &mut Steps<L>,
 ) -> usize
-    requires small { K ≤ 3 }
-    requires fits { length edges.now.edges ≤ 67108864 }
-    requires edges { AreEdges K edges.now.vertices edges.now.edges }
-    requires early { plan.rounds < length edges.now.edges }
-    requires room { IsRoom edges.now plan.size room.now counts.old marks.old }
     requires there { b < length counts.old }
-    requires state { (done : List ℕ) × InBlocks edges.now plan.rounds plan.size plan.blocks plan.each room.now counts.old (I.links incidence.old) marks.old bytes.old freed.old done }
+    requires state { (graph : Graph) × (done : List ℕ) × AtBlocks K graph plan room.now counts.old (I.links incidence.old) marks.old bytes.old freed.old done }
     ensures counts { counts.new ≡ slice_set counts.old b 0 }
-    ensures state { (done : List ℕ) → InBlocks edges.now plan.rounds plan.size plan.blocks plan.each room.now counts.old (I.links incidence.old) marks.old bytes.old freed.old done → InBlocks edges.now plan.rounds plan.size plan.blocks plan.each room.now counts.new (I.links incidence.new) marks.new bytes.new freed.new done }
+    ensures state { (graph : Graph) (done : List ℕ) → AtBlocks K graph plan room.now counts.old (I.links incidence.old) marks.old bytes.old freed.old done → AtBlocks K graph plan room.now counts.new (I.links incidence.new) marks.new bytes.new freed.new done }
     ensures count { length (marked_of marks.new) ≡ length (marked_of marks.old) + result }
     ensures steps { steps.new ≤ steps.old + 3 * slice_index counts.old b }
 {
     let many = 2 * counts[b] as usize;
     counts[b] = 0;
     let pairs = &room[b * plan.size..b * plan.size + many];
-    empty(edges, incidence, pairs, plan, bytes, freed, marks, steps)
+    empty(incidence, pairs, plan, bytes, freed, marks, steps)
 }
 
 /// Empties a block if its part is full. Returns how many edges were marked.
 fn settle<const K: usize, I: Incidence<K>, L: Ledger>(
-    edges: &Edges<K>,
     incidence: &mut I,
     b: usize,
     plan: Plan,
@@ -176,32 +160,23 @@ fn settle<const K: usize, I: Incidence<K>, L: Ledger>(
     counts: &mut [u32],
     steps: &mut Steps<L>,
 ) -> usize
-    requires small { K ≤ 3 }
-    requires fits { length edges.now.edges ≤ 67108864 }
-    requires edges { AreEdges K edges.now.vertices edges.now.edges }
-    requires early { plan.rounds < length edges.now.edges }
-    requires room { IsRoom edges.now plan.size room.now counts.old marks.old }
-    requires positive { 0 < plan.size }
     requires there { b < length counts.old }
-    requires state { (done : List ℕ) × InBlocks edges.now plan.rounds plan.size plan.blocks plan.each room.now counts.old (I.links incidence.old) marks.old bytes.old freed.old done }
+    requires state { (graph : Graph) × (done : List ℕ) × AtBlocks K graph plan room.now counts.old (I.links incidence.old) marks.old bytes.old freed.old done }
     ensures free { 2 * slice_index counts.new b < plan.size }
     ensures others { (k : ℕ) → k ≢ b → slice_index counts.new k ≡ slice_index counts.old k }
-    ensures state { (done : List ℕ) → InBlocks edges.now plan.rounds plan.size plan.blocks plan.each room.now counts.old (I.links incidence.old) marks.old bytes.old freed.old done → InBlocks edges.now plan.rounds plan.size plan.blocks plan.each room.now counts.new (I.links incidence.new) marks.new bytes.new freed.new done }
+    ensures state { (graph : Graph) (done : List ℕ) → AtBlocks K graph plan room.now counts.old (I.links incidence.old) marks.old bytes.old freed.old done → AtBlocks K graph plan room.now counts.new (I.links incidence.new) marks.new bytes.new freed.new done }
     ensures count { length (marked_of marks.new) ≡ length (marked_of marks.old) + result }
     ensures steps { steps.new + 3 * sum counts.new ≤ steps.old + 3 * sum counts.old }
 {
     if (2 * counts[b] as usize) < plan.size {
         return 0;
     }
-    empty_block(
-        edges, incidence, b, plan, bytes, freed, room, marks, counts, steps,
-    )
+    empty_block(incidence, b, plan, bytes, freed, room, marks, counts, steps)
 }
 
 /// Lets these half-edges wait in the parts of their blocks, of `size` numbers each, and empties each block whose part is full. Returns
 /// how many edges were marked.
 fn wait<const K: usize, I: Incidence<K>, L: Ledger>(
-    edges: &Edges<K>,
     incidence: &mut I,
     halves: &[Half],
     plan: Plan,
@@ -212,35 +187,23 @@ fn wait<const K: usize, I: Incidence<K>, L: Ledger>(
     counts: &mut [u32],
     steps: &mut Steps<L>,
 ) -> usize
-    requires small { K ≤ 3 }
-    requires fits { length edges.now.edges ≤ 67108864 }
-    requires edges { AreEdges K edges.now.vertices edges.now.edges }
-    requires early { plan.rounds < length edges.now.edges }
-    requires room { IsRoom edges.now plan.size room.old counts.old marks.old }
-    requires positive { 0 < plan.size }
     requires free { IsOpen plan.size counts.old }
-    requires ends { All (IsEnd edges.now.edges) halves.now }
-    requires others { (q : ℕ) → has (map (λ h. h.place) halves.now) q ≡ true → IsOtherPlace edges.now.edges plan.rounds q }
-    requires apart { AreApart (map (λ h. h.place) halves.now) }
-    requires state { (done : List ℕ) × ((q : ℕ) → has (map (λ h. h.place) halves.now) q ≡ true → has done q ≡ false) × InBlocks edges.now plan.rounds plan.size plan.blocks plan.each room.old counts.old (I.links incidence.old) marks.old bytes.old freed.old done }
+    requires state { (graph : Graph) × (done : List ℕ) × AtBlocks K graph plan room.old counts.old (I.links incidence.old) marks.old bytes.old freed.old done × CanWait graph.edges plan.rounds done halves.now }
     ensures free { IsOpen plan.size counts.new }
-    ensures state { (done : List ℕ) → ((q : ℕ) → has (map (λ h. h.place) halves.now) q ≡ true → has done q ≡ false) → InBlocks edges.now plan.rounds plan.size plan.blocks plan.each room.old counts.old (I.links incidence.old) marks.old bytes.old freed.old done → InBlocks edges.now plan.rounds plan.size plan.blocks plan.each room.new counts.new (I.links incidence.new) marks.new bytes.new freed.new (done ++ map (λ h. h.place) halves.now) }
+    ensures state { (graph : Graph) (done : List ℕ) → CanWait graph.edges plan.rounds done halves.now → AtBlocks K graph plan room.old counts.old (I.links incidence.old) marks.old bytes.old freed.old done → AtBlocks K graph plan room.new counts.new (I.links incidence.new) marks.new bytes.new freed.new (done ++ map (λ h. h.place) halves.now) }
     ensures count { length (marked_of marks.new) ≡ length (marked_of marks.old) + result }
     ensures steps { steps.new + 3 * sum counts.new ≤ steps.old + 3 * (sum counts.old + length halves.now) }
 {
     let mut count = 0;
     for half in halves {
         let b = put(*half, plan.size, room, counts);
-        count += settle(
-            edges, incidence, b, plan, bytes, freed, room, marks, counts, steps,
-        );
+        count += settle(incidence, b, plan, bytes, freed, room, marks, counts, steps);
     }
     count
 }
 
 /// Empties all blocks. Returns how many edges were marked.
 fn empty_all<const K: usize, I: Incidence<K>, L: Ledger>(
-    edges: &Edges<K>,
     incidence: &mut I,
     plan: Plan,
     bytes: &mut [u8],
@@ -250,23 +213,16 @@ fn empty_all<const K: usize, I: Incidence<K>, L: Ledger>(
     counts: &mut [u32],
     steps: &mut Steps<L>,
 ) -> usize
-    requires small { K ≤ 3 }
-    requires fits { length edges.now.edges ≤ 67108864 }
-    requires edges { AreEdges K edges.now.vertices edges.now.edges }
-    requires early { plan.rounds < length edges.now.edges }
-    requires room { IsRoom edges.now plan.size room.now counts.old marks.old }
-    requires state { (done : List ℕ) × InBlocks edges.now plan.rounds plan.size plan.blocks plan.each room.now counts.old (I.links incidence.old) marks.old bytes.old freed.old done }
+    requires state { (graph : Graph) × (done : List ℕ) × AtBlocks K graph plan room.now counts.old (I.links incidence.old) marks.old bytes.old freed.old done }
     ensures none { AreEmpty counts.new }
-    ensures state { (done : List ℕ) → InBlocks edges.now plan.rounds plan.size plan.blocks plan.each room.now counts.old (I.links incidence.old) marks.old bytes.old freed.old done → InBlocks edges.now plan.rounds plan.size plan.blocks plan.each room.now counts.new (I.links incidence.new) marks.new bytes.new freed.new done }
+    ensures state { (graph : Graph) (done : List ℕ) → AtBlocks K graph plan room.now counts.old (I.links incidence.old) marks.old bytes.old freed.old done → AtBlocks K graph plan room.now counts.new (I.links incidence.new) marks.new bytes.new freed.new done }
     ensures count { length (marked_of marks.new) ≡ length (marked_of marks.old) + result }
     ensures steps { steps.new + 3 * sum counts.new ≤ steps.old + 3 * sum counts.old }
 {
     let mut count = 0;
     let mut b = 0;
     'each: while b < counts.len() {
-        count += empty_block(
-            edges, incidence, b, plan, bytes, freed, room, marks, counts, steps,
-        );
+        count += empty_block(incidence, b, plan, bytes, freed, room, marks, counts, steps);
         b += 1;
     }
     count
@@ -286,16 +242,10 @@ fn wait_round<const K: usize, I: Incidence<K>, L: Ledger>(
     counts: &mut [u32],
     steps: &mut Steps<L>,
 ) -> usize
-    requires small { K ≤ 3 }
-    requires fits { length edges.now.edges ≤ 67108864 }
-    requires edges { AreEdges K edges.now.vertices edges.now.edges }
     requires round { round.now ≡ removed_after edges.now.edges plan.rounds }
-    requires early { plan.rounds < length edges.now.edges }
-    requires room { IsRoom edges.now plan.size room.old counts.old marks.old }
-    requires positive { 0 < plan.size }
     requires free { IsOpen plan.size counts.old }
-    requires state { InBlocks edges.now plan.rounds plan.size plan.blocks plan.each room.old counts.old (I.links incidence.old) marks.old bytes.old freed.old [] }
-    ensures state { InBlocks edges.now plan.rounds plan.size plan.blocks plan.each room.new counts.new (I.links incidence.new) marks.new bytes.new freed.new (other_places edges.now.edges round.now) }
+    requires state { AtBlocks K edges.now plan room.old counts.old (I.links incidence.old) marks.old bytes.old freed.old [] }
+    ensures state { AtBlocks K edges.now plan room.new counts.new (I.links incidence.new) marks.new bytes.new freed.new (other_places edges.now.edges round.now) }
     ensures count { length (marked_of marks.new) ≡ length (marked_of marks.old) + result }
     ensures steps { steps.new + 3 * sum counts.new ≤ steps.old + 3 * (sum counts.old + K * length round.now) }
 {
@@ -319,7 +269,7 @@ fn wait_round<const K: usize, I: Incidence<K>, L: Ledger>(
         );
         let now = &halves[..others];
         count += wait(
-            edges, incidence, now, plan, bytes, freed, room, marks, counts, steps,
+            incidence, now, plan, bytes, freed, room, marks, counts, steps,
         );
         at += many;
     }
@@ -340,16 +290,10 @@ fn unlink_marked<const K: usize, I: Incidence<K>, L: Ledger>(
     counts: &mut [u32],
     steps: &mut Steps<L>,
 ) -> usize
-    requires small { K ≤ 3 }
-    requires fits { length edges.now.edges ≤ 67108864 }
-    requires edges { AreEdges K edges.now.vertices edges.now.edges }
     requires round { round.now ≡ removed_after edges.now.edges plan.rounds }
-    requires early { plan.rounds < length edges.now.edges }
-    requires room { IsRoom edges.now plan.size room.old counts.old marks.old }
-    requires positive { 0 < plan.size }
     requires empty { AreEmpty counts.old }
     requires marks { IsUnmarked (length edges.now.edges) marks.old }
-    requires state { InTaking edges.now plan.rounds plan.blocks plan.each [] (I.links incidence.old) marks.old bytes.old freed.old }
+    requires state { AtBlocks K edges.now plan room.old counts.old (I.links incidence.old) marks.old bytes.old freed.old [] }
     ensures state { InRound edges.now plan.rounds (other_places edges.now.edges round.now) (I.links incidence.new) (marked_of marks.new) bytes.new }
     ensures count { length (marked_of marks.new) ≡ result }
     ensures empty { AreEmpty counts.new }
@@ -358,9 +302,7 @@ fn unlink_marked<const K: usize, I: Incidence<K>, L: Ledger>(
     let before = wait_round(
         edges, incidence, round, plan, bytes, freed, room, marks, counts, steps,
     );
-    let last = empty_all(
-        edges, incidence, plan, bytes, freed, room, marks, counts, steps,
-    );
+    let last = empty_all(incidence, plan, bytes, freed, room, marks, counts, steps);
     before + last + freed::take_all(plan, bytes, freed, marks)
 }
 
@@ -402,9 +344,7 @@ pub(crate) fn unlink_by_blocks<const K: usize, I: Incidence<K>, L: Ledger>(
     counts: &mut [u32],
     steps: &mut Steps<L>,
 ) -> usize
-    requires small { K ≤ 3 }
-    requires fits { length edges.now.edges ≤ 67108864 }
-    requires edges { AreEdges K edges.now.vertices edges.now.edges }
+    requires graph { IsSmall K edges.now }
     requires round { round.now ≡ removed_after edges.now.edges rounds }
     requires early { rounds < length edges.now.edges }
     requires room { length (left_after edges.now.edges (suc rounds)) ≤ length list.old }
@@ -412,15 +352,12 @@ pub(crate) fn unlink_by_blocks<const K: usize, I: Incidence<K>, L: Ledger>(
     requires some { 0 < length counts.old }
     requires pairs { 128 * length counts.old ≤ length list.old }
     requires space { 8192 ≤ length list.old }
-    requires blocks { edges.now.vertices ≤ 65536 * length counts.old }
-    requires empty { AreEmpty counts.old }
-    requires marks { IsUnmarked (length edges.now.edges) marks.old }
+    requires tables { AreTables edges.now counts.old marks.old }
     requires state { InRound edges.now rounds [] (I.links incidence.old) [] bytes.old }
     ensures within { result ≤ length list.new }
     ensures state { InRound edges.now rounds (other_places edges.now.edges round.now) (I.links incidence.new) (take result list.new) bytes.new }
     ensures sorted { IsSorted nat_cmp (take result list.new) }
-    ensures empty { AreEmpty counts.new }
-    ensures marks { IsUnmarked (length edges.now.edges) marks.new }
+    ensures tables { AreTables edges.now counts.new marks.new }
     ensures steps { steps.new ≤ steps.old + 3 * (K * length round.now) }
 {
     let long = list.len() - list.len() / 8;

@@ -1,6 +1,6 @@
 use Rattle.std.proofs.Common.{◌≡◌, ◌≤◌, ◌+◌, ◌-◌, ◌*◌, ◌/◌, ◌++◌, ℕ, List, length, map, take}
-use Rattle.cm_graph.specs.Graph.{removed_all}
-use Rattle.cm_peel.specs.Waiting.{InTaking, halves_in, marked_of}
+use Rattle.cm_graph.specs.Graph.{Graph, removed_all}
+use Rattle.cm_peel.specs.Waiting.{AtPart, InTaking, halves_in, marked_of}
 use Rattle.cm_peel.proofs.Incident.{place_in}
 use Rattle.cm_peel.proofs.blocks.empty.Given as goal
 
@@ -10,9 +10,8 @@ invariant-parts g l = record {
   places : length l.places ≡ 256;
   even : l.at ≡ 2 * (l.at / 2);
   high : l.at ≤ length l.pairs;
-  room : length l.marks ≡ length l.fn.marks;
   links : g.I.Incidence.links l.incidence ≡ removed_all (g.I.Incidence.links l.fn.incidence) (take (l.at / 2) (halves_in l.pairs));
-  state : (gone : List ℕ) → InTaking l.edges l.plan.rounds l.plan.blocks l.plan.each gone (g.I.Incidence.links l.fn.incidence) l.fn.marks l.fn.bytes l.fn.freed → InTaking l.edges l.plan.rounds l.plan.blocks l.plan.each (gone ++ map place_in (take (l.at / 2) (halves_in l.pairs))) (g.I.Incidence.links l.incidence) l.marks l.bytes l.freed;
+  state : (graph : Graph) (gone : List ℕ) → AtPart g.row.K graph l.plan gone (g.I.Incidence.links l.fn.incidence) l.fn.marks l.fn.bytes l.fn.freed (halves_in l.pairs) → InTaking graph l.plan.rounds l.plan.blocks l.plan.each (gone ++ map place_in (take (l.at / 2) (halves_in l.pairs))) (g.I.Incidence.links l.incidence) l.marks l.bytes l.freed;
   count : length (marked_of l.marks) ≡ length (marked_of l.fn.marks) + l.count;
   steps : l.steps ≤ l.fn.steps + 3 * (l.at / 2);
 }

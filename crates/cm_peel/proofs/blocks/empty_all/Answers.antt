@@ -1,16 +1,18 @@
-use Rattle.std.proofs.Common.{◌≡◌, ◌∙◌, ℕ, List, ◌+◌, ◌<◌, length, get_or, set, sum, refl, ap, inl, inr, arith, rules, get_or-set_other}
+use Rattle.std.proofs.Common.{◌≡◌, ◌∙◌, ℕ, List, ◌+◌, ◌<◌, length, get_or, set, sum, ap, inl, inr, arith, rules, get_or-set_other}
 use Rattle.std.proofs.lemmas.Bool.{cases_lt}
 use Rattle.std.proofs.lemmas.List.{get_or-set_same}
 use Rattle.std.proofs.lemmas.List.Sums.{sum_by-set}
 use Rattle.cm_peel.proofs.Settling.{marked_few}
-use Rattle.cm_peel.proofs.Waits.{room_kept}
 use Rattle.cm_peel.proofs.blocks.empty_all.Goals as goal
+
+pub empty_block-count-requires-clause-state : goal.empty_block-count-requires-clause-state
+empty_block-count-requires-clause-state g c = (c.requires.state.0, c.requires.state.1, c.each.invariant.state c.requires.state.0 c.requires.state.1 c.requires.state.2)
 
 pub overflow_add-count : goal.overflow_add-count
 overflow_add-count g c =
     let inv = c.each.invariant in
-    let r = c.empty_block-count.ensures.state _ inv.some.1 in
-    let small : c.each.count + c.empty_block-count.result < 67108865 = omega (arith, marked_few c.empty_block-count.new.marks, r.round.leads.few_marks, c.empty_block-count.ensures.count, inv.count) in
+    let r = c.empty_block-count.ensures.state _ _ (inv.state _ _ c.requires.state.2) in
+    let small : c.each.count + c.empty_block-count.result < 67108865 = omega (arith, marked_few c.empty_block-count.new.marks, r.state.round.leads.few_marks, c.empty_block-count.ensures.count, inv.count) in
     search rules
 
 -- one more block is empty
@@ -24,11 +26,9 @@ pub each-preserved : goal.each-preserved
 each-preserved g c =
     let inv = c.each.invariant in
     record {
-      room = room_kept c.args.edges.now c.args.plan.size c.args.room.now c.each.counts c.each.marks c.args.room.now c.empty_block-count.new.counts c.empty_block-count.new.marks inv.room refl c.empty_block-count.auto.counts c.empty_block-count.auto.marks;
       high = omega (arith, c.each-test.true, c.empty_block-count.auto.counts);
       none = λ k h. none_next c.each.counts _ c.each.b k (omega (arith, c.each-test.true)) c.empty_block-count.ensures.counts inv.none h;
-      some = (inv.some.0, c.empty_block-count.ensures.state inv.some.0 inv.some.1);
-      state = λ done r. c.empty_block-count.ensures.state done (inv.state done r);
+      state = λ graph done r. c.empty_block-count.ensures.state graph done (inv.state graph done r);
       count = omega (arith, c.empty_block-count.ensures.count, inv.count);
       steps = omega (arith, c.empty_block-count.ensures.steps, inv.steps, ap sum c.empty_block-count.ensures.counts, sum_by-set (λ (n : ℕ). n) c.each.counts c.each.b 0 0 (omega (arith, c.each-test.true)));
     }

@@ -1,11 +1,13 @@
-use Rattle.std.proofs.Common.{◌≡◌, ℕ, List, ◌++◌, map, ◌+◌, ◌-◌, ◌*◌, ◌<◌, ◌≤◌, length, get_or, take, drop, sym, ap, subst, arith, rules, length-drop}
+use Rattle.std.proofs.Common.{◌≡◌, ℕ, List, ◌++◌, map, ◌+◌, ◌-◌, ◌*◌, ◌<◌, ◌≤◌, length, get_or, set, take, drop, refl, sym, ap, subst, arith, length-drop}
+use Rattle.std.proofs.Math.ListN.{length-set}
 use Rattle.std.proofs.lemmas.List.{length-take-le}
 use Rattle.cm_graph.specs.Graph.{Graph, Links}
-use Rattle.cm_peel.specs.Waiting.{InBlocks, InTaking, halves_in, waiting_in}
+use Rattle.cm_peel.specs.declared.freed.Plan.{Plan}
+use Rattle.cm_peel.specs.Waiting.{AtBlocks, AtPart, InBlocks, InTaking, halves_in, waiting_in}
 use Rattle.cm_peel.proofs.Incident.{place_in}
 use Rattle.cm_peel.proofs.Parts.{IsPart}
 use Rattle.cm_peel.proofs.Pairs.{pairs_long}
-use Rattle.cm_peel.proofs.Waits.{step_over, block_halves, blocks_emptied}
+use Rattle.cm_peel.proofs.Waits.{step_over, block_halves, blocks_emptied, room_kept}
 use Rattle.cm_peel.proofs.blocks.empty_block.Goals as goal
 
 -- the pairs of a block
@@ -23,31 +25,49 @@ record AreReady (graph : Graph) (t : ℕ) (l : Links) (pairs : List ℕ) : Type 
   pub even : length pairs ≡ 2 * length (halves_in pairs)
   pub part : IsPart graph.edges t l (halves_in pairs)
 
-ready : (graph : Graph) (t size blocks each : ℕ) (room counts : List ℕ) (l : Links) (marks bytes freed done : List ℕ) (b : ℕ) → InBlocks graph t size blocks each room counts l marks bytes freed done → length counts * size ≤ length room → b < length counts → AreReady graph t l (take (b * size + 2 * get_or counts b 0 - b * size) (drop (b * size) room))
-ready graph t size blocks each room counts l marks bytes freed done b r within low =
-    let long = block_long graph t size blocks each room counts l marks bytes freed done b r within low in
-    subst (AreReady graph t l) (sym (raw_is room (b * size) (2 * get_or counts b 0))) (record {
+pairs_for : (k : ℕ) (graph : Graph) (plan : Plan) (room counts : List ℕ) (l : Links) (marks bytes freed done : List ℕ) (b : ℕ) → AtBlocks k graph plan room counts l marks bytes freed done → b < length counts → AreReady graph plan.rounds l (take (b * plan.size + 2 * get_or counts b 0 - b * plan.size) (drop (b * plan.size) room))
+pairs_for k graph plan room counts l marks bytes freed done b r low =
+    let long = block_long graph plan.rounds plan.size plan.blocks plan.each room counts l marks bytes freed done b r.state r.space.within low in
+    subst (AreReady graph plan.rounds l) (sym (raw_is room (b * plan.size) (2 * get_or counts b 0))) (record {
       even = omega (arith, long.0, long.1);
-      part = block_halves graph t size blocks each room counts l marks bytes freed done b r low;
+      part = block_halves graph plan.rounds plan.size plan.blocks plan.each room counts l marks bytes freed done b r.state low;
     })
 
-pub empty-requires : goal.empty-requires
-empty-requires g c =
-    let r = c.requires.state.1 in
-    let pairs = ready c.args.edges.now c.args.plan.rounds c.args.plan.size c.args.plan.blocks c.args.plan.each c.args.room.now c.args.counts.now (g.I.Incidence.links c.args.incidence.now) c.args.marks.now c.args.bytes.now c.args.freed.now c.requires.state.0 c.args.b r c.requires.room.within c.requires.there in
-    (search rules, (c.requires.small, (c.requires.fits, (c.requires.edges, (c.requires.early, (c.requires.room.all_marks, ((r.gone, r.round), (pairs.even, (pairs.part.halves, pairs.part.others)))))))))
+part_for : (k : ℕ) (graph : Graph) (plan : Plan) (room counts : List ℕ) (l : Links) (marks bytes freed done : List ℕ) (b : ℕ) (gone : List ℕ) → AtBlocks k graph plan room counts l marks bytes freed done → b < length counts → InTaking graph plan.rounds plan.blocks plan.each gone l marks bytes freed
+    → AtPart k graph plan gone l marks bytes freed (halves_in (take (b * plan.size + 2 * get_or counts b 0 - b * plan.size) (drop (b * plan.size) room)))
+part_for k graph plan room counts l marks bytes freed done b gone r low state =
+    let ready = pairs_for k graph plan room counts l marks bytes freed done b r low in
+    record { small = r.small; early = r.early; state = state; linked = ready.part.halves; others = ready.part.others }
+
+-- the blocks once this one is empty
+emptied_for : (k : ℕ) (graph : Graph) (plan : Plan) (room counts : List ℕ) (l m : Links) (marks bytes freed marks' bytes' freed' done : List ℕ) (b : ℕ) → AtBlocks k graph plan room counts l marks bytes freed done → b < length counts → length marks' ≡ length marks
+    → ((graph : Graph) (gone : List ℕ) → AtPart k graph plan gone l marks bytes freed (halves_in (take (b * plan.size + 2 * get_or counts b 0 - b * plan.size) (drop (b * plan.size) room))) → InTaking graph plan.rounds plan.blocks plan.each (gone ++ map place_in (halves_in (take (b * plan.size + 2 * get_or counts b 0 - b * plan.size) (drop (b * plan.size) room)))) m marks' bytes' freed')
+    → AtBlocks k graph plan room (set counts b 0) m marks' bytes' freed' done
+emptied_for k graph plan room counts l m marks bytes freed marks' bytes' freed' done b r low long step =
+    let same = raw_is room (b * plan.size) (2 * get_or counts b 0) in
+    record {
+      small = r.small;
+      early = r.early;
+      positive = r.positive;
+      space = room_kept graph plan.size room counts marks room (set counts b 0) marks' r.space refl (length-set counts b 0) long;
+      state = blocks_emptied graph plan.rounds plan.size plan.blocks plan.each room counts l m marks bytes freed marks' bytes' freed' done b r.state low (λ gone s.
+          subst (λ (xs : List ℕ). InTaking graph plan.rounds plan.blocks plan.each (gone ++ map place_in (halves_in xs)) m marks' bytes' freed') same (step graph gone (part_for k graph plan room counts l marks bytes freed done b gone r low s)));
+    }
+
+pub empty-requires-clause-even : goal.empty-requires-clause-even
+empty-requires-clause-even g c = (pairs_for g.row.K c.requires.state.0 c.args.plan _ _ _ _ _ _ c.requires.state.1 c.args.b c.requires.state.2 c.requires.there).even
+
+pub empty-requires-clause-state : goal.empty-requires-clause-state
+empty-requires-clause-state g c = (c.requires.state.0, c.requires.state.2.state.gone, part_for g.row.K c.requires.state.0 c.args.plan _ _ _ _ _ _ c.requires.state.1 c.args.b _ c.requires.state.2 c.requires.there c.requires.state.2.state.round)
 
 pub returns-clause-state : goal.returns-clause-state
-returns-clause-state g c = λ done r.
-    let graph : Graph = c.args.edges.now in
-    let b : ℕ = c.args.b in
-    let same = raw_is c.args.room.now (b * c.args.plan.size) (2 * get_or c.args.counts.now b 0) in
-    blocks_emptied graph c.args.plan.rounds c.args.plan.size c.args.plan.blocks c.args.plan.each c.args.room.now c.args.counts.now (g.I.Incidence.links c.args.incidence.now) (g.I.Incidence.links c.empty.new.incidence) c.args.marks.now c.args.bytes.now c.args.freed.now c.empty.new.marks c.empty.new.bytes c.empty.new.freed done b r c.requires.there
-    (λ gone s. subst (λ (xs : List ℕ). InTaking graph c.args.plan.rounds c.args.plan.blocks c.args.plan.each (gone ++ map place_in (halves_in xs)) (g.I.Incidence.links c.empty.new.incidence) c.empty.new.marks c.empty.new.bytes c.empty.new.freed) same (c.empty.ensures.state gone s))
+returns-clause-state g c = λ graph done r.
+    emptied_for g.row.K graph c.args.plan c.args.room.now c.args.counts.now (g.I.Incidence.links c.args.incidence.now) (g.I.Incidence.links c.empty.new.incidence) c.args.marks.now c.args.bytes.now c.args.freed.now c.empty.new.marks c.empty.new.bytes c.empty.new.freed done c.args.b r c.requires.there c.empty.auto.marks c.empty.ensures.state
 
 pub returns-clause-steps : goal.returns-clause-steps
 returns-clause-steps g c =
     let b : ℕ = c.args.b in
+    let r = c.requires.state.2 in
     let same = raw_is c.args.room.now (b * c.args.plan.size) (2 * get_or c.args.counts.now b 0) in
-    let long = block_long c.args.edges.now c.args.plan.rounds c.args.plan.size c.args.plan.blocks c.args.plan.each c.args.room.now c.args.counts.now (g.I.Incidence.links c.args.incidence.now) c.args.marks.now c.args.bytes.now c.args.freed.now c.requires.state.0 b c.requires.state.1 c.requires.room.within c.requires.there in
+    let long = block_long c.requires.state.0 c.args.plan.rounds c.args.plan.size c.args.plan.blocks c.args.plan.each c.args.room.now c.args.counts.now (g.I.Incidence.links c.args.incidence.now) c.args.marks.now c.args.bytes.now c.args.freed.now c.requires.state.1 b r.state r.space.within c.requires.there in
     omega (arith, c.empty.ensures.steps, ap (λ (xs : List ℕ). length (halves_in xs)) same, long.1)

@@ -6,7 +6,7 @@ use Rattle.cm_graph.specs.Graph.{Graph, Links}
 use Rattle.cm_peel.specs.AtRound.{InRound, other_places}
 use Rattle.cm_peel.specs.Marks.{IsUnmarked, is_marked}
 use Rattle.cm_peel.specs.Waiting.{IsRoom, InTaking, marked_of}
-use Rattle.cm_peel.proofs.ByBlocks.{part_some, room_of_parts, taking_begun}
+use Rattle.cm_peel.proofs.ByBlocks.{blocks_begun, part_some, room_of_parts, taking_begun}
 use Rattle.cm_peel.proofs.InRound.{next_few}
 use Rattle.cm_peel.proofs.Listing.{kept_sorted}
 use Rattle.cm_peel.proofs.Pieces.{front_written}
@@ -29,10 +29,27 @@ unlink_marked-count-requires g c =
     let front : List ℕ = c.split_at_mut-room.result.0.now in
     let counts : List ℕ = c.args.counts.now in
     let few : length front ≤ 67109056 = omega (arith, split.front_len, c.requires.few) in
-    let fits = fits_for graph c.plan_round-plan.result.size front counts c.args.marks.now p.size few c.requires.blocks c.requires.marks in
+    let fits = fits_for graph c.plan_round-plan.result.size front counts c.args.marks.now p.size few (c.requires.tables.blocks c.requires.some) c.requires.tables.clear in
     let some : 0 < c.plan_round-plan.result.size = omega (arith, p.size, part_some (length front) (length counts) c.requires.some (omega (arith, split.front_len, c.requires.pairs))) in
-    let state = ready graph c.args.rounds c.plan_round-plan.result.rounds c.plan_round-plan.result.blocks c.plan_round-plan.result.each (g.I.Incidence.links c.args.incidence.now) c.args.marks.now c.args.bytes.now c.clear.new.freed p.rounds c.requires.state c.requires.marks (omega (arith, p.within, c.clear.auto.freed)) (omega (arith, split.back_len, c.clear.auto.freed, c.requires.few)) p.short p.some (omega (arith, p.edges, c.len.ensures.count)) c.clear.ensures.none in
-    (search rules, (c.requires.small, (c.requires.fits, (c.requires.edges, (c.requires.round ∙ ap (removed_after graph.edges) (sym p.rounds), (omega (arith, c.requires.early, p.rounds), (fits, (some, (c.requires.empty, (c.requires.marks, state))))))))))
+    let state = ready graph c.args.rounds c.plan_round-plan.result.rounds c.plan_round-plan.result.blocks c.plan_round-plan.result.each (g.I.Incidence.links c.args.incidence.now) c.args.marks.now c.args.bytes.now c.clear.new.freed p.rounds c.requires.state c.requires.tables.clear (omega (arith, p.within, c.clear.auto.freed)) (omega (arith, split.back_len, c.clear.auto.freed, c.requires.few)) p.short p.some (omega (arith, p.edges, c.len.ensures.count)) c.clear.ensures.none in (
+      search rules,
+      (
+        c.requires.round ∙ ap (removed_after graph.edges) (sym p.rounds),
+        (
+          c.requires.tables.empty,
+          (
+            c.requires.tables.clear,
+            record {
+              small = c.requires.graph;
+              early = omega (arith, c.requires.early, p.rounds);
+              positive = some;
+              space = fits;
+              state = blocks_begun graph c.plan_round-plan.result.rounds c.plan_round-plan.result.size c.plan_round-plan.result.blocks c.plan_round-plan.result.each front counts (g.I.Incidence.links c.args.incidence.now) c.args.marks.now c.args.bytes.now c.clear.new.freed state c.requires.tables.empty;
+            },
+          ),
+        ),
+      ),
+    )
 
 -- the marked edges fit into the list
 few_for : (graph : Graph) (t t' count : ℕ) (gone : List ℕ) (l : Links) (marks bytes old room freed : List ℕ) → t' ≡ t → InRound graph t' gone l (marked_of marks) bytes → length (marked_of marks) ≡ count → length (left_after graph.edges (suc t)) ≤ length old → length room + length freed ≡ length old → count ≤ length (room ++ freed)

@@ -1,33 +1,36 @@
 use Rattle.std.proofs.Common.{◌+◌, ◌<◌, arith, rules}
-use Rattle.cm_peel.proofs.ByBlocks.{all_counted, blocks_begun, blocks_ended, sum_none, taking_ended}
+use Rattle.cm_peel.proofs.ByBlocks.{all_counted, blocks_ended, sum_none, taking_ended}
 use Rattle.cm_peel.proofs.Settling.{marked_few}
 use Rattle.cm_peel.proofs.blocks.unlink_marked.Goals as goal
 
 pub wait_round-before-requires : goal.wait_round-before-requires
 wait_round-before-requires g c =
-    (search rules, (c.requires.small, (c.requires.fits, (c.requires.edges, (c.requires.round, (c.requires.early, (c.requires.room, (c.requires.positive, ((λ b m. omega (arith, c.requires.empty b m, c.requires.positive)), blocks_begun _ _ _ _ _ _ _ _ _ _ _ c.requires.state c.requires.empty)))))))))
+    (search rules, (c.requires.round, ((λ b m. omega (arith, c.requires.empty b m, c.requires.state.positive)), c.requires.state)))
+
+pub empty_all-last-requires : goal.empty_all-last-requires
+empty_all-last-requires g c = record { state = (c.args.edges.now, _, c.wait_round-before.ensures.state) }
 
 pub overflow_add-result : goal.overflow_add-result
 overflow_add-result g c =
-    let r = blocks_ended _ _ _ _ _ _ _ _ _ _ _ _ (c.empty_all-last.ensures.state _ c.wait_round-before.ensures.state) c.empty_all-last.ensures.none in
+    let r = blocks_ended _ _ _ _ _ _ _ _ _ _ _ _ (c.empty_all-last.ensures.state _ _ c.wait_round-before.ensures.state).state c.empty_all-last.ensures.none in
     let small : c.wait_round-before.result + c.empty_all-last.result < 67108865 = omega (arith, marked_few c.empty_all-last.new.marks, r.leads.few_marks, c.empty_all-last.ensures.count, c.wait_round-before.ensures.count) in
     search rules
 
 pub take_all-requires-clause-state : goal.take_all-requires-clause-state
 take_all-requires-clause-state g c =
-    let r = blocks_ended _ _ _ _ _ _ _ _ _ _ _ _ (c.empty_all-last.ensures.state _ c.wait_round-before.ensures.state) c.empty_all-last.ensures.none in
+    let r = blocks_ended _ _ _ _ _ _ _ _ _ _ _ _ (c.empty_all-last.ensures.state _ _ c.wait_round-before.ensures.state).state c.empty_all-last.ensures.none in
     (r.after, r.next, r.leads)
 
 pub overflow_add-result-2 : goal.overflow_add-result-2
 overflow_add-result-2 g c =
-    let r = blocks_ended _ _ _ _ _ _ _ _ _ _ _ _ (c.empty_all-last.ensures.state _ c.wait_round-before.ensures.state) c.empty_all-last.ensures.none in
+    let r = blocks_ended _ _ _ _ _ _ _ _ _ _ _ _ (c.empty_all-last.ensures.state _ _ c.wait_round-before.ensures.state).state c.empty_all-last.ensures.none in
     let e = c.take_all.ensures.state r.after r.next r.leads in
     let small : c.wait_round-before.result + c.empty_all-last.result + c.take_all.result < 67108865 = omega (arith, marked_few c.take_all.new.marks, e.few_marks, c.take_all.ensures.count, c.empty_all-last.ensures.count, c.wait_round-before.ensures.count) in
     search rules
 
 pub returns-clause-state : goal.returns-clause-state
 returns-clause-state g c =
-    let r = blocks_ended _ _ _ _ _ _ _ _ _ _ _ _ (c.empty_all-last.ensures.state _ c.wait_round-before.ensures.state) c.empty_all-last.ensures.none in
+    let r = blocks_ended _ _ _ _ _ _ _ _ _ _ _ _ (c.empty_all-last.ensures.state _ _ c.wait_round-before.ensures.state).state c.empty_all-last.ensures.none in
     taking_ended _ _ _ _ _ _ c.take_all.new.marks c.take_all.new.bytes c.take_all.new.freed r.after r.next (c.take_all.ensures.state r.after r.next r.leads) c.take_all.ensures.none r.round
 
 pub returns-clause-count : goal.returns-clause-count

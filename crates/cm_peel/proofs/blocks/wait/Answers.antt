@@ -1,64 +1,93 @@
-use Rattle.std.proofs.Common.{◌≡◌, ◌≢◌, ◌∙◌, ℕ, true, false, List, [], ◌++◌, ◌%◌, ◌+◌, ◌*◌, ◌/◌, ◌<◌, length, get_or, set, map, sum, take, refl, sym, ap, subst, inl, inr, arith, rules, get_or-set_other}
-use Rattle.std.specs.List.{All}
+use Rattle.std.proofs.Common.{◌≡◌, ◌≢◌, ◌∙◌, ℕ, List, [], ◌++◌, ◌%◌, ◌+◌, ◌*◌, ◌/◌, ◌<◌, length, get_or, set, map, sum, take, refl, sym, ap, subst, inl, inr, arith, rules, get_or-set_other}
 use Rattle.std.proofs.lemmas.List.Sums.{sum_by-set}
 use Rattle.std.proofs.lemmas.Bool.{cases_eq}
 use Rattle.std.proofs.lemmas.List.{get_or_default}
-use Rattle.cm_spec.specs.Lists.{has}
-use Rattle.cm_spec.specs.Graph.{AreEdges}
 use Rattle.cm_graph.specs.declared.incidence.Half.{Half}
 use Rattle.cm_graph.specs.Graph.{Graph, Links}
-use Rattle.cm_peel.specs.Waiting.{InBlocks, IsEnd, IsOpen, IsRoom}
+use Rattle.cm_peel.specs.declared.freed.Plan.{Plan}
+use Rattle.cm_peel.specs.Waiting.{AtBlocks, CanWait, IsEnd, IsOpen, put_room}
 use Rattle.cm_peel.proofs.Incident.{place_in}
 use Rattle.cm_peel.proofs.Settling.{marked_few}
 use Rattle.cm_peel.proofs.Waits.{room_kept, wait_one}
 use Rattle.cm_peel.proofs.blocks.wait.Goals as goal
 
 -- the block of a half-edge
-there_for : (k : ℕ) (graph : Graph) (size : ℕ) (room counts marks : List ℕ) (halves : List Half) (i b : ℕ) (h : Half) → b ≡ h.vertex / 65536 → get_or halves i h ≡ h → AreEdges k graph.vertices graph.edges → IsRoom graph size room counts marks → All (IsEnd graph.edges) halves → i < length halves → b < length counts
-there_for k graph size room counts marks halves i b h at is are fits ends low =
-    let end : IsEnd graph.edges h = subst (IsEnd graph.edges) is (ends i h low) in
-    omega (arith, at, (are (h.place / 4) [] end.0).1.0 (h.place % 4) 0 end.1, end.2, fits.blocks)
+there_for : (k : ℕ) (graph : Graph) (plan : Plan) (room counts : List ℕ) (l : Links) (marks bytes freed done before : List ℕ) (halves : List Half) (i : ℕ) (h : Half) → get_or halves i h ≡ h → AtBlocks k graph plan room counts l marks bytes freed done → CanWait graph.edges plan.rounds before halves → i < length halves → h.vertex / 65536 < length counts
+there_for k graph plan room counts l marks bytes freed done before halves i h is r w low =
+    let end : IsEnd graph.edges h = subst (IsEnd graph.edges) is (w.ends i h low) in
+    omega (arith, (r.small.edges (h.place / 4) [] end.0).1.0 (h.place % 4) 0 end.1, end.2, r.space.blocks)
+
+-- the blocks once one more half-edge waits
+put_for : (k : ℕ) (graph : Graph) (plan : Plan) (room counts room' counts' : List ℕ) (l : Links) (marks bytes freed done : List ℕ) (halves : List Half) (i : ℕ) (h : Half) → CanWait graph.edges plan.rounds done halves → AtBlocks k graph plan room counts l marks bytes freed (done ++ map place_in (take i halves)) → IsOpen plan.size counts
+    → i < length halves → get_or halves i h ≡ h → room' ≡ put_room plan.size room (h.vertex / 65536) (get_or counts (h.vertex / 65536) 0) h → counts' ≡ set counts (h.vertex / 65536) (get_or counts (h.vertex / 65536) 0 + 1) → length room' ≡ length room → length counts' ≡ length counts
+    → AtBlocks k graph plan room' counts' l marks bytes freed (done ++ map place_in (take (i + 1) halves))
+put_for k graph plan room counts room' counts' l marks bytes freed done halves i h w r free low at room_is counts_is room_long counts_long = record {
+  small = r.small;
+  early = r.early;
+  positive = r.positive;
+  space = room_kept graph plan.size room counts marks room' counts' marks r.space room_long counts_long refl;
+  state = rw (room_is, counts_is) (wait_one k graph plan.rounds plan.size plan.blocks plan.each room counts l marks bytes freed done halves i h r.small.edges r.space free w.ends w.others w.apart w.fresh low at r.state);
+}
+
+pub put-b-requires-clause-within : goal.put-b-requires-clause-within
+put-b-requires-clause-within g c =
+    let inv = c.loop-half.invariant in
+    let st = c.requires.state in
+    let i : ℕ = c.loop-half.half-index in
+    let h : Half = get_or c.args.halves.now i (record { vertex = 0; place = 0 }) in
+    (inv.state st.0 st.1 st.3 st.2).space.within
+
+pub put-b-requires-clause-few : goal.put-b-requires-clause-few
+put-b-requires-clause-few g c =
+    let inv = c.loop-half.invariant in
+    let st = c.requires.state in
+    let i : ℕ = c.loop-half.half-index in
+    let h : Half = get_or c.args.halves.now i (record { vertex = 0; place = 0 }) in
+    (inv.state st.0 st.1 st.3 st.2).space.few
+
+pub put-b-requires-clause-there : goal.put-b-requires-clause-there
+put-b-requires-clause-there g c =
+    let inv = c.loop-half.invariant in
+    let st = c.requires.state in
+    let i : ℕ = c.loop-half.half-index in
+    let h : Half = get_or c.args.halves.now i (record { vertex = 0; place = 0 }) in
+    let there = there_for g.row.K st.0 c.args.plan _ c.loop-half.counts _ _ _ _ _ st.1 c.args.halves.now i h (get_or_default c.args.halves.now i _ _ c.loop-half-test.true) (inv.state st.0 st.1 st.3 st.2) st.3 c.loop-half-test.true in
+    there
 
 pub put-b-requires-clause-free : goal.put-b-requires-clause-free
 put-b-requires-clause-free g c =
     let inv = c.loop-half.invariant in
-    let graph : Graph = c.args.edges.now in
-    let size : ℕ = c.args.plan.size in
-    let halves : List Half = c.args.halves.now in
-    let i : ℕ = c.loop-half.half-index in
-    let h : Half = get_or halves i (record { vertex = 0; place = 0 }) in
-    let below = there_for g.row.K graph size c.loop-half.room c.loop-half.counts c.loop-half.marks halves i (h.vertex / 65536) h refl (get_or_default halves i _ _ c.loop-half-test.true) c.requires.edges inv.room c.requires.ends c.loop-half-test.true in
-    omega (arith, inv.free (h.vertex / 65536) below, c.requires.room.even)
-
-pub settle-count-requires : goal.settle-count-requires
-settle-count-requires g c =
-    let inv = c.loop-half.invariant in
-    let graph : Graph = c.args.edges.now in
-    let t : ℕ = c.args.plan.rounds in
-    let size : ℕ = c.args.plan.size in
-    let halves : List Half = c.args.halves.now in
-    let l : Links = g.I.Incidence.links c.loop-half.incidence in
-    let i : ℕ = c.loop-half.half-index in
-    let one : (done : List ℕ) → ((q : ℕ) → has (map place_in halves) q ≡ true → has done q ≡ false) → InBlocks graph t size c.args.plan.blocks c.args.plan.each c.args.room.now c.args.counts.now (g.I.Incidence.links c.args.incidence.now) c.args.marks.now c.args.bytes.now c.args.freed.now done → InBlocks graph t size c.args.plan.blocks c.args.plan.each c.put-b.new.room c.put-b.new.counts l c.loop-half.marks c.loop-half.bytes c.loop-half.freed (done ++ map place_in (take (i + 1) halves)) = (λ done fresh r.
-    rw (c.put-b.ensures.room, c.put-b.ensures.counts) (wait_one g.row.K graph t size c.args.plan.blocks c.args.plan.each c.loop-half.room c.loop-half.counts l c.loop-half.marks c.loop-half.bytes c.loop-half.freed done halves i _ c.requires.edges inv.room inv.free c.requires.ends c.requires.others c.requires.apart fresh c.loop-half-test.true (get_or_default halves i _ _ c.loop-half-test.true) (inv.state done fresh r))) in
-    let after : IsRoom graph size c.put-b.new.room c.put-b.new.counts c.loop-half.marks = room_kept graph size c.loop-half.room c.loop-half.counts c.loop-half.marks c.put-b.new.room c.put-b.new.counts c.loop-half.marks inv.room c.put-b.auto.room c.put-b.auto.counts refl in
     let st = c.requires.state in
-    (search rules, (c.requires.small, (c.requires.fits, (c.requires.edges, (c.requires.early, (after, (c.requires.positive, (there_for g.row.K graph size c.loop-half.room c.put-b.new.counts c.loop-half.marks halves i _ _ c.put-b.ensures.block (get_or_default halves i _ _ c.loop-half-test.true) c.requires.edges (room_kept graph size c.loop-half.room c.loop-half.counts c.loop-half.marks c.loop-half.room c.put-b.new.counts c.loop-half.marks inv.room refl c.put-b.auto.counts refl) c.requires.ends c.loop-half-test.true, (st.0 ++ map place_in (take (i + 1) halves), one st.0 st.1 st.2)))))))))
+    let i : ℕ = c.loop-half.half-index in
+    let h : Half = get_or c.args.halves.now i (record { vertex = 0; place = 0 }) in
+    let there = there_for g.row.K st.0 c.args.plan _ c.loop-half.counts _ _ _ _ _ st.1 c.args.halves.now i h (get_or_default c.args.halves.now i _ _ c.loop-half-test.true) (inv.state st.0 st.1 st.3 st.2) st.3 c.loop-half-test.true in
+    omega (arith, inv.free (h.vertex / 65536) there, st.2.space.even)
+
+pub settle-count-requires-clause-there : goal.settle-count-requires-clause-there
+settle-count-requires-clause-there g c =
+    let inv = c.loop-half.invariant in
+    let st = c.requires.state in
+    let i : ℕ = c.loop-half.half-index in
+    let h : Half = get_or c.args.halves.now i (record { vertex = 0; place = 0 }) in
+    let there = there_for g.row.K st.0 c.args.plan _ c.loop-half.counts _ _ _ _ _ st.1 c.args.halves.now i h (get_or_default c.args.halves.now i _ _ c.loop-half-test.true) (inv.state st.0 st.1 st.3 st.2) st.3 c.loop-half-test.true in
+    omega (arith, there, c.put-b.ensures.block, c.put-b.auto.counts)
+
+pub settle-count-requires-clause-state : goal.settle-count-requires-clause-state
+settle-count-requires-clause-state g c =
+    let inv = c.loop-half.invariant in
+    let st = c.requires.state in
+    let i : ℕ = c.loop-half.half-index in
+    let h : Half = get_or c.args.halves.now i (record { vertex = 0; place = 0 }) in
+    (st.0, st.1 ++ map place_in (take (i + 1) c.args.halves.now), put_for g.row.K st.0 c.args.plan c.loop-half.room c.loop-half.counts c.put-b.new.room c.put-b.new.counts (g.I.Incidence.links c.loop-half.incidence) c.loop-half.marks c.loop-half.bytes c.loop-half.freed st.1 c.args.halves.now i h st.3 (inv.state st.0 st.1 st.3 st.2) inv.free c.loop-half-test.true (get_or_default c.args.halves.now i _ _ c.loop-half-test.true) c.put-b.ensures.room c.put-b.ensures.counts c.put-b.auto.room c.put-b.auto.counts)
 
 pub overflow_add-count : goal.overflow_add-count
 overflow_add-count g c =
     let inv = c.loop-half.invariant in
-    let graph : Graph = c.args.edges.now in
-    let t : ℕ = c.args.plan.rounds in
-    let size : ℕ = c.args.plan.size in
-    let halves : List Half = c.args.halves.now in
-    let l : Links = g.I.Incidence.links c.loop-half.incidence in
-    let i : ℕ = c.loop-half.half-index in
-    let one : (done : List ℕ) → ((q : ℕ) → has (map place_in halves) q ≡ true → has done q ≡ false) → InBlocks graph t size c.args.plan.blocks c.args.plan.each c.args.room.now c.args.counts.now (g.I.Incidence.links c.args.incidence.now) c.args.marks.now c.args.bytes.now c.args.freed.now done → InBlocks graph t size c.args.plan.blocks c.args.plan.each c.put-b.new.room c.put-b.new.counts l c.loop-half.marks c.loop-half.bytes c.loop-half.freed (done ++ map place_in (take (i + 1) halves)) = (λ done fresh r.
-    rw (c.put-b.ensures.room, c.put-b.ensures.counts) (wait_one g.row.K graph t size c.args.plan.blocks c.args.plan.each c.loop-half.room c.loop-half.counts l c.loop-half.marks c.loop-half.bytes c.loop-half.freed done halves i _ c.requires.edges inv.room inv.free c.requires.ends c.requires.others c.requires.apart fresh c.loop-half-test.true (get_or_default halves i _ _ c.loop-half-test.true) (inv.state done fresh r))) in
     let st = c.requires.state in
-    let r = c.settle-count.ensures.state _ (one st.0 st.1 st.2) in
-    let small : c.loop-half.count + c.settle-count.result < 67108865 = omega (arith, marked_few c.settle-count.new.marks, r.round.leads.few_marks, c.settle-count.ensures.count, inv.count) in
+    let i : ℕ = c.loop-half.half-index in
+    let h : Half = get_or c.args.halves.now i (record { vertex = 0; place = 0 }) in
+    let r = c.settle-count.ensures.state _ _ (put_for g.row.K st.0 c.args.plan c.loop-half.room c.loop-half.counts c.put-b.new.room c.put-b.new.counts (g.I.Incidence.links c.loop-half.incidence) c.loop-half.marks c.loop-half.bytes c.loop-half.freed st.1 c.args.halves.now i h st.3 (inv.state st.0 st.1 st.3 st.2) inv.free c.loop-half-test.true (get_or_default c.args.halves.now i _ _ c.loop-half-test.true) c.put-b.ensures.room c.put-b.ensures.counts c.put-b.auto.room c.put-b.auto.counts) in
+    let small : c.loop-half.count + c.settle-count.result < 67108865 = omega (arith, marked_few c.settle-count.new.marks, r.state.round.leads.few_marks, c.settle-count.ensures.count, inv.count) in
     search rules
 
 -- the sum of the counts after one more
@@ -75,20 +104,15 @@ free_for size b old put new free long is here others k h = elim (cases_eq k b) [
 pub loop-half-preserved : goal.loop-half-preserved
 loop-half-preserved g c =
     let inv = c.loop-half.invariant in
-    let graph : Graph = c.args.edges.now in
-    let t : ℕ = c.args.plan.rounds in
-    let size : ℕ = c.args.plan.size in
-    let halves : List Half = c.args.halves.now in
-    let l : Links = g.I.Incidence.links c.loop-half.incidence in
+    let st = c.requires.state in
     let i : ℕ = c.loop-half.half-index in
-    let one : (done : List ℕ) → ((q : ℕ) → has (map place_in halves) q ≡ true → has done q ≡ false) → InBlocks graph t size c.args.plan.blocks c.args.plan.each c.args.room.now c.args.counts.now (g.I.Incidence.links c.args.incidence.now) c.args.marks.now c.args.bytes.now c.args.freed.now done → InBlocks graph t size c.args.plan.blocks c.args.plan.each c.put-b.new.room c.put-b.new.counts l c.loop-half.marks c.loop-half.bytes c.loop-half.freed (done ++ map place_in (take (i + 1) halves)) = (λ done fresh r.
-    rw (c.put-b.ensures.room, c.put-b.ensures.counts) (wait_one g.row.K graph t size c.args.plan.blocks c.args.plan.each c.loop-half.room c.loop-half.counts l c.loop-half.marks c.loop-half.bytes c.loop-half.freed done halves i _ c.requires.edges inv.room inv.free c.requires.ends c.requires.others c.requires.apart fresh c.loop-half-test.true (get_or_default halves i _ _ c.loop-half-test.true) (inv.state done fresh r))) in
-    let there = there_for g.row.K graph size c.loop-half.room c.loop-half.counts c.loop-half.marks halves i _ _ c.put-b.ensures.block (get_or_default halves i _ _ c.loop-half-test.true) c.requires.edges inv.room c.requires.ends c.loop-half-test.true in
+    let h : Half = get_or c.args.halves.now i (record { vertex = 0; place = 0 }) in
+    let there = there_for g.row.K st.0 c.args.plan _ c.loop-half.counts _ _ _ _ _ st.1 c.args.halves.now i h (get_or_default c.args.halves.now i _ _ c.loop-half-test.true) (inv.state st.0 st.1 st.3 st.2) st.3 c.loop-half-test.true in
+    let at : c.put-b.result < length c.loop-half.counts = omega (arith, there, c.put-b.ensures.block) in
     let put : c.put-b.new.counts ≡ set c.loop-half.counts c.put-b.result (get_or c.loop-half.counts c.put-b.result 0 + 1) = rw c.put-b.ensures.block c.put-b.ensures.counts in
     record {
-      room = room_kept graph size c.loop-half.room c.loop-half.counts c.loop-half.marks c.put-b.new.room c.settle-count.new.counts c.settle-count.new.marks inv.room c.put-b.auto.room (c.settle-count.auto.counts ∙ c.put-b.auto.counts) c.settle-count.auto.marks;
-      free = free_for size c.put-b.result c.loop-half.counts c.put-b.new.counts c.settle-count.new.counts inv.free (c.settle-count.auto.counts ∙ c.put-b.auto.counts) put c.settle-count.ensures.free c.settle-count.ensures.others;
-      state = λ done fresh r. c.settle-count.ensures.state _ (one done fresh r);
+      free = free_for c.args.plan.size c.put-b.result c.loop-half.counts c.put-b.new.counts c.settle-count.new.counts inv.free (c.settle-count.auto.counts ∙ c.put-b.auto.counts) put c.settle-count.ensures.free c.settle-count.ensures.others;
+      state = λ graph done w r. c.settle-count.ensures.state graph _ (put_for g.row.K graph c.args.plan c.loop-half.room c.loop-half.counts c.put-b.new.room c.put-b.new.counts (g.I.Incidence.links c.loop-half.incidence) c.loop-half.marks c.loop-half.bytes c.loop-half.freed done c.args.halves.now i h w (inv.state graph done w r) inv.free c.loop-half-test.true (get_or_default c.args.halves.now i _ _ c.loop-half-test.true) c.put-b.ensures.room c.put-b.ensures.counts c.put-b.auto.room c.put-b.auto.counts);
       count = omega (arith, c.settle-count.ensures.count, inv.count);
-      steps = omega (arith, c.settle-count.ensures.steps, inv.steps, sum_put c.loop-half.counts c.put-b.new.counts c.put-b.result 0 0 there put);
+      steps = omega (arith, c.settle-count.ensures.steps, inv.steps, sum_put c.loop-half.counts c.put-b.new.counts c.put-b.result 0 0 at put);
     }

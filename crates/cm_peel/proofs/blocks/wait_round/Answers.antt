@@ -9,13 +9,12 @@ use Rattle.cm_spec.specs.Rounds.{removed_after}
 use Rattle.cm_graph.specs.declared.incidence.Half.{Half}
 use Rattle.cm_graph.specs.Graph.{Graph}
 use Rattle.cm_peel.specs.AtRound.{other_places}
-use Rattle.cm_peel.specs.Waiting.{InBlocks}
-use Rattle.cm_peel.proofs.ByBlocks.{are_next}
+use Rattle.cm_peel.specs.Waiting.{AtBlocks, CanWait}
+use Rattle.cm_peel.proofs.ByBlocks.{AreNext, are_next}
 use Rattle.cm_peel.proofs.Settling.{marked_few}
 use Rattle.cm_peel.proofs.NextRound.{round_places}
 use Rattle.cm_peel.proofs.Pieces.{length_written}
 use Rattle.cm_peel.proofs.Unlinking.{chunk_is, gone_before}
-use Rattle.cm_peel.proofs.Waits.{room_kept}
 use Rattle.cm_peel.proofs.blocks.wait_round.Goals as goal
 
 pub list_halves-others-requires : goal.list_halves-others-requires
@@ -31,26 +30,30 @@ list_halves-others-requires g c =
     let long : length (take n (drop d round)) ≡ n = length-take-le n (drop d round) (omega (arith, length-drop d round)) in
     let places : All (λ e. e < length graph.edges) (take n (drop d round)) = All-take (λ e. e < length graph.edges) n (drop d round) (All-drop (λ e. e < length graph.edges) d round (round_places graph.edges c.args.plan.rounds)) in
     let many = ap length is ∙ long in
-    let room : g.row.K * n ≤ 3 * 64 = omega (arith, mul-le-mul_left g.row.K small, c.requires.small) in
+    let room : g.row.K * n ≤ 3 * 64 = omega (arith, mul-le-mul_left g.row.K small, c.requires.state.small.ends) in
     let same = ap (λ j. g.row.K * j) many in (
       search rules,
       (
         search rules,
         (
-          c.requires.small,
+          c.requires.state.small.ends,
           (
-            c.requires.fits,
+            c.requires.state.small.fits,
             (
               subst (λ (xs : List ℕ). All (λ e. e < length graph.edges) xs) (sym is) places,
-              (sym inv.state.round.leads.taken.bytes_long ∙ inv.state.round.round.bytes_long, (length-take-le n c.chunks.ends (omega (arith, inv.ends)) ∙ sym many, (omega (arith, many, inv.known), omega (arith, same, room, inv.halves)))),
+              (sym inv.state.state.round.leads.taken.bytes_long ∙ inv.state.state.round.round.bytes_long, (length-take-le n c.chunks.ends (omega (arith, inv.ends)) ∙ sym many, (omega (arith, many, inv.known), omega (arith, same, room, inv.halves)))),
             ),
           ),
         ),
       ),
     )
 
-pub wait-count-requires : goal.wait-count-requires
-wait-count-requires g c =
+-- a chunk's half-edges can wait
+can_wait : (graph : Graph) (t d n : ℕ) (halves : List Half) → AreNext graph t d n halves → CanWait graph.edges t (gone_before graph t d) halves
+can_wait graph t d n halves next = record { ends = next.ends; others = next.others; apart = next.apart; fresh = next.fresh }
+
+pub wait-count-requires-clause-state : goal.wait-count-requires-clause-state
+wait-count-requires-clause-state g c =
     let inv = c.chunks.invariant in
     let graph : Graph = c.args.edges.now in
     let t : ℕ = c.args.plan.rounds in
@@ -58,8 +61,8 @@ wait-count-requires g c =
     let d : ℕ = c.chunks.at in
     let few : d + n ≤ length (removed_after graph.edges t) = omega (arith, c.min-many.ensures, inv.high, ap length c.requires.round) in
     let is = chunk_is graph t d n c.args.round.now c.requires.round in
-    let next = are_next g.row.K graph t _ _ d n _ _ _ _ _ _ _ c.requires.small c.requires.edges inv.state.round few is c.list_halves-others.ensures.halves in
-    (search rules, (c.requires.small, (c.requires.fits, (c.requires.edges, (c.requires.early, (inv.room, (c.requires.positive, (inv.free, (next.ends, (next.others, (next.apart, (gone_before graph t d, next.fresh, inv.state))))))))))))
+    let next = are_next g.row.K graph t _ _ d n _ _ _ _ _ _ _ c.requires.state.small.ends c.requires.state.small.edges inv.state.state.round few is c.list_halves-others.ensures.halves in
+    (graph, gone_before graph t d, inv.state, can_wait graph t d n _ next)
 
 pub overflow_add-count : goal.overflow_add-count
 overflow_add-count g c =
@@ -70,9 +73,9 @@ overflow_add-count g c =
     let d : ℕ = c.chunks.at in
     let few : d + n ≤ length (removed_after graph.edges t) = omega (arith, c.min-many.ensures, inv.high, ap length c.requires.round) in
     let is = chunk_is graph t d n c.args.round.now c.requires.round in
-    let next = are_next g.row.K graph t _ _ d n _ _ _ _ _ _ _ c.requires.small c.requires.edges inv.state.round few is c.list_halves-others.ensures.halves in
-    let r = c.wait-count.ensures.state (gone_before graph t d) next.fresh inv.state in
-    let small : c.chunks.count + c.wait-count.result < 67108865 = omega (arith, marked_few c.wait-count.new.marks, r.round.leads.few_marks, c.wait-count.ensures.count, inv.count) in
+    let next = are_next g.row.K graph t _ _ d n _ _ _ _ _ _ _ c.requires.state.small.ends c.requires.state.small.edges inv.state.state.round few is c.list_halves-others.ensures.halves in
+    let r = c.wait-count.ensures.state graph (gone_before graph t d) (can_wait graph t d n _ next) inv.state in
+    let small : c.chunks.count + c.wait-count.result < 67108865 = omega (arith, marked_few c.wait-count.new.marks, r.state.round.leads.few_marks, c.wait-count.ensures.count, inv.count) in
     search rules
 
 -- the steps of a chunk
@@ -95,16 +98,15 @@ chunks-preserved g c =
     let few : d + n ≤ length round = omega (arith, c.min-many.ensures, inv.high, ap length c.requires.round) in
     let small : n ≤ 64 = omega (arith, c.min-many.ensures) in
     let is = chunk_is graph t d n c.args.round.now c.requires.round in
-    let next = are_next g.row.K graph t _ _ d n _ _ _ _ _ _ _ c.requires.small c.requires.edges inv.state.round few is c.list_halves-others.ensures.halves in
+    let next = are_next g.row.K graph t _ _ d n _ _ _ _ _ _ _ c.requires.state.small.ends c.requires.state.small.edges inv.state.state.round few is c.list_halves-others.ensures.halves in
     let long = ap length is ∙ length-take-le n (drop d round) (omega (arith, length-drop d round)) in
     record {
       high = omega (arith, c.min-many.ensures, inv.high);
       ends = length_written c.list_halves-others.new.ends c.chunks.ends n 64 c.list_halves-others.auto.ends small inv.ends;
       halves = c.list_halves-others.auto.halves ∙ inv.halves;
       known = c.list_halves-others.auto.marks ∙ inv.known;
-      room = room_kept graph c.args.plan.size c.chunks.room c.chunks.counts c.chunks.marks c.wait-count.new.room c.wait-count.new.counts c.wait-count.new.marks inv.room c.wait-count.auto.room c.wait-count.auto.counts c.wait-count.auto.marks;
       free = c.wait-count.ensures.free;
-      state = subst (InBlocks graph t c.args.plan.size c.args.plan.blocks c.args.plan.each c.wait-count.new.room c.wait-count.new.counts (g.I.Incidence.links c.wait-count.new.incidence) c.wait-count.new.marks c.wait-count.new.bytes c.wait-count.new.freed) next.more (c.wait-count.ensures.state (gone_before graph t d) next.fresh inv.state);
+      state = subst (AtBlocks g.row.K graph c.args.plan c.wait-count.new.room c.wait-count.new.counts (g.I.Incidence.links c.wait-count.new.incidence) c.wait-count.new.marks c.wait-count.new.bytes c.wait-count.new.freed) next.more (c.wait-count.ensures.state graph (gone_before graph t d) (can_wait graph t d n _ next) inv.state);
       count = omega (arith, c.wait-count.ensures.count, inv.count);
       steps = chunk_steps g.row.K c.args.steps.now c.chunks.steps c.wait-count.new.steps (sum c.args.counts.now) (sum c.chunks.counts) (sum c.wait-count.new.counts) d n _ _ inv.steps c.wait-count.ensures.steps (others_few c.list_halves-others.result _ c.list_halves-others.new.halves c.list_halves-others.ensures.few) long;
     }
@@ -115,7 +117,7 @@ returns-clause-state g c =
     let graph : Graph = c.args.edges.now in
     let round : List ℕ = removed_after graph.edges c.args.plan.rounds in
     let all : c.chunks.at ≡ length round = omega (arith, c.chunks-test.false, inv.high, ap length c.requires.round) in
-    subst (InBlocks graph c.args.plan.rounds c.args.plan.size c.args.plan.blocks c.args.plan.each c.chunks.room c.chunks.counts (g.I.Incidence.links c.chunks.incidence) c.chunks.marks c.chunks.bytes c.chunks.freed) (ap (gone_before graph c.args.plan.rounds) all ∙ (ap (other_places graph.edges) (take-length round) ∙ ap (other_places graph.edges) (sym c.requires.round))) inv.state
+    subst (AtBlocks g.row.K graph c.args.plan c.chunks.room c.chunks.counts (g.I.Incidence.links c.chunks.incidence) c.chunks.marks c.chunks.bytes c.chunks.freed) (ap (gone_before graph c.args.plan.rounds) all ∙ (ap (other_places graph.edges) (take-length round) ∙ ap (other_places graph.edges) (sym c.requires.round))) inv.state
 
 pub returns-clause-steps : goal.returns-clause-steps
 returns-clause-steps g c =

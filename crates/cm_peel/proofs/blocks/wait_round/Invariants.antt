@@ -1,5 +1,5 @@
 use Rattle.std.proofs.Common.{◌≡◌, ◌≤◌, ◌+◌, ◌-◌, ◌*◌, length, sum}
-use Rattle.cm_peel.specs.Waiting.{InBlocks, IsOpen, IsRoom, marked_of}
+use Rattle.cm_peel.specs.Waiting.{AtBlocks, IsOpen, marked_of}
 use Rattle.cm_peel.proofs.Unlinking.{gone_before}
 use Rattle.cm_peel.proofs.blocks.wait_round.Given as goal
 
@@ -9,9 +9,8 @@ invariant-chunks g l = record {
   ends : length l.ends ≡ 64;
   halves : length l.halves ≡ 192;
   known : length l.known ≡ 192;
-  room : IsRoom l.edges l.plan.size l.room l.counts l.marks;
   free : IsOpen l.plan.size l.counts;
-  state : InBlocks l.edges l.plan.rounds l.plan.size l.plan.blocks l.plan.each l.room l.counts (g.I.Incidence.links l.incidence) l.marks l.bytes l.freed (gone_before l.edges l.plan.rounds l.at);
+  state : AtBlocks g.row.K l.edges l.plan l.room l.counts (g.I.Incidence.links l.incidence) l.marks l.bytes l.freed (gone_before l.edges l.plan.rounds l.at);
   count : length (marked_of l.marks) ≡ length (marked_of l.fn.marks) + l.count;
   steps : l.steps + 3 * sum l.counts ≤ l.fn.steps + 3 * (sum l.fn.counts + g.row.K * l.at);
 }

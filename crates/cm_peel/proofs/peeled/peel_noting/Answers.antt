@@ -3,9 +3,8 @@ use Rattle.std.proofs.Math.Seq.{drop-append_seam, take-append-add}
 use Rattle.std.proofs.lemmas.List.{get_or-replicate, length-replicate, length-take-le, take_all}
 use Rattle.cm_spec.specs.Core.{IsCore}
 use Rattle.cm_spec.specs.Rounds.{left_after, removed_after, order_upto}
-use Rattle.cm_peel.specs.AtRound.{AtRound}
-use Rattle.cm_peel.specs.Marks.{IsUnmarked}
-use Rattle.cm_peel.specs.Waiting.{AreEmpty}
+use Rattle.cm_peel.specs.AtRound.{AreFresh, AtRound, IsSmall}
+use Rattle.cm_peel.specs.Waiting.{AreTables}
 use Rattle.cm_peel.specs.CoreLaws.{no_length}
 use Rattle.cm_peel.specs.RoundLaws.{length-order}
 use Rattle.cm_peel.specs.CoreLaws as core
@@ -27,7 +26,9 @@ begin-end-requires g c =
     let read = c.deref_mut-2.ensures.value in
     let bytes = c.in_ok-bytes.ensures.items_if_clones_equal (λ y same. same) in
     let untaken = all_untaken _ c.len-m.result (read ∙ bytes) in
-    (search rules, (c.len-m.ensures.width.1, (search rules, (c.len-m.ensures.edges, (linked_all c.args.edges.now _ c.in_ok-incidence.ensures.links, (kept, (zero, (untaken.0 ∙ c.len-m.ensures.count, (untaken.1, omega (arith, ap length c.deref_mut-3.ensures.value, c.in_ok-order.ensures.len, c.in_ok-order.order.ok.0, c.len-m.ensures.count))))))))))
+    let graph : IsSmall g.row.K c.args.edges.now = record { ends = c.len-m.ensures.width.1; fits = omega (arith, c.len-m.ensures.count); edges = c.len-m.ensures.edges } in
+    let fresh : AreFresh c.args.edges.now c.deref_mut.result.now c.deref_mut-2.result.now = record { levels_kept = kept; level = zero; bytes_long = untaken.0 ∙ c.len-m.ensures.count; byte = untaken.1 } in
+    (search rules, (graph, (linked_all c.args.edges.now _ c.in_ok-incidence.ensures.links, (fresh, omega (arith, ap length c.deref_mut-3.ensures.value, c.in_ok-order.ensures.len, c.in_ok-order.order.ok.0, c.len-m.ensures.count)))))
 
 -- the round that stands at the end of the order
 round_is : (edges : List (List ℕ)) (t start end : ℕ) (items seen done : List ℕ) → take end items ≡ order_upto edges (suc t) → start ≡ length (order_upto edges t) → done ≡ take end seen → seen ≡ items → take (length done - start) (drop start done) ≡ removed_after edges t
@@ -50,12 +51,10 @@ advance-count-requires g c =
     let early : t < length edges = round_early edges t (omega (arith, c.rounds-test.true, round_long edges t c.rounds.start c.rounds.end inv.start_is inv.end_is)) in
     let room : length (left_after edges (suc t)) + 192 ≤ length c.split_at_mut-done.result.1.now = omega (arith, split.back_len, ap length c.deref_mut-in-rounds.ensures.value, c.rounds.order.ok.0, inv.room, inv.end_is, length-order edges (suc t)) in
     let state : AtRound c.args.edges.now t (g.I.Incidence.links c.rounds.incidence) c.deref_mut-in-rounds-2.result.now c.deref_mut-in-rounds-3.result.now = rw (c.deref_mut-in-rounds-2.ensures.value, c.deref_mut-in-rounds-3.ensures.value) inv.state in
-    let marks : IsUnmarked (length edges) c.deref_mut-in-rounds-4.result.now = rw c.deref_mut-in-rounds-4.ensures.value inv.marks in
-    let counts = c.deref_mut-in-rounds-5.ensures.value in
-    let blocks = subst (λ (xs : List ℕ). 0 < length xs → c.args.edges.now.vertices ≤ 65536 * length xs) (sym counts) inv.blocks in
-    let empty : AreEmpty c.deref_mut-in-rounds-5.result.now = subst AreEmpty (sym counts) inv.empty in
+    let graph : IsSmall g.row.K c.args.edges.now = record { ends = c.len-m.ensures.width.1; fits = inv.fits; edges = c.len-m.ensures.edges } in
+    let tables : AreTables c.args.edges.now c.deref_mut-in-rounds-5.result.now c.deref_mut-in-rounds-4.result.now = rw (c.deref_mut-in-rounds-4.ensures.value, c.deref_mut-in-rounds-5.ensures.value) inv.tables in
     let few : length c.split_at_mut-done.result.1.now ≤ 67109056 = omega (arith, split.back_len, ap length c.deref_mut-in-rounds.ensures.value, c.rounds.order.ok.0, inv.room, inv.fits) in
-    (search rules, (search rules, (c.len-m.ensures.width.1, (inv.fits, (c.len-m.ensures.edges, (blocks, (empty, (marks, (round, (early, (room, (few, state))))))))))))
+    (search rules, (search rules, (graph, (tables, (round, (early, (room, (few, state))))))))
 
 pub rounds-smaller : goal.rounds-smaller
 rounds-smaller g c =
@@ -100,9 +99,7 @@ rounds-preserved g c =
       end_is = rw z next.1;
       long = ap length levels ∙ (c.advance-count.auto.levels ∙ (ap length c.deref_mut-in-rounds-2.ensures.value ∙ inv.long));
       fits = inv.fits;
-      marks = rw marks c.advance-count.ensures.marks;
-      empty = rw counts c.advance-count.ensures.empty;
-      blocks = subst (λ (n : ℕ). 0 < n → c.args.edges.now.vertices ≤ 65536 * n) (sym (ap length counts ∙ (c.advance-count.auto.counts ∙ ap length c.deref_mut-in-rounds-5.ensures.value))) inv.blocks;
+      tables = rw (marks, counts) c.advance-count.ensures.tables;
       steps = steps_next g.row.K c.args.steps.now c.rounds.steps c.advance-count.new.steps (length edges) c.rounds.start c.rounds.end inv.steps steps (omega (arith, long));
     }
 

@@ -1,8 +1,7 @@
-use Rattle.std.proofs.Common.{◌≡◌, suc, ◌+◌, ◌-◌, ◌*◌, ◌<◌, ◌≤◌, length, take, vec_len}
+use Rattle.std.proofs.Common.{◌≡◌, suc, ◌+◌, ◌-◌, ◌*◌, ◌≤◌, length, take, vec_len}
 use Rattle.cm_spec.specs.Rounds.{order_upto}
 use Rattle.cm_peel.specs.AtRound.{AtRound}
-use Rattle.cm_peel.specs.Marks.{IsUnmarked}
-use Rattle.cm_peel.specs.Waiting.{AreEmpty}
+use Rattle.cm_peel.specs.Waiting.{AreTables}
 use Rattle.cm_peel.proofs.peeled.peel_noting.Given as goal
 
 abbrev pub invariant-rounds : goal.invariant-rounds
@@ -15,9 +14,7 @@ invariant-rounds g l = record {
   end_is : l.end ≡ length (order_upto l.edges.edges (suc l.rounds));
   long : length l.levels.items ≡ length l.fn.levels.items;
   fits : length l.edges.edges ≤ 67108864;
-  marks : IsUnmarked (length l.edges.edges) l.marks.items;
-  empty : AreEmpty l.counts.items;
-  blocks : 0 < length l.counts.items → l.edges.vertices ≤ 65536 * length l.counts.items;
+  tables : AreTables l.edges l.counts.items l.marks.items;
   steps : l.steps ≤ l.fn.steps + 4 * (g.row.K * length l.edges.edges) + 3 * (g.row.K * l.start);
 }
 
