@@ -19,6 +19,7 @@ pub mod Parts
 pub mod Pieces
 pub mod RoundFacts
 pub mod Sets
+pub mod Same
 pub mod Settling
 pub mod Taking
 pub mod Unlinking

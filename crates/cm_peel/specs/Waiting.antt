@@ -5,6 +5,7 @@ use Rattle.cm_spec.specs.Graph.{ends_at}
 use Rattle.cm_graph.specs.declared.incidence.Half.{Half}
 use Rattle.cm_graph.specs.Graph.{AreHalves, Graph, Links}
 use Rattle.cm_peel.specs.declared.freed.Plan.{Plan}
+use Rattle.cm_peel.specs.declared.freed.Taking.{Taking}
 use Rattle.cm_peel.specs.AtRound.{AreApart, AreTaken, InRound, IsOtherPlace, IsSmall}
 use Rattle.cm_peel.specs.Marks.{IsUnmarked, is_marked}
 use Rattle.cm_peel.specs.Peeling.{is_taken}
@@ -124,6 +125,22 @@ pub record AtBlocks (k : ℕ) (graph : Graph) (plan : Plan) (room counts : List 
   pub positive : 0 < plan.size
   pub space : IsRoom graph plan.size room counts marks
   pub state : InBlocks graph plan.rounds plan.size plan.blocks plan.each room counts l marks bytes freed done
+
+-- the same of what the steps of a round take and change
+abbrev pub AtTaking : ℕ → Graph → Taking → List ℕ → Links → List ℕ → Type 0
+AtTaking k graph taking room l done = AtBlocks k graph taking.plan room taking.counts.now l taking.marks.now taking.bytes.now taking.freed.now done
+
+-- the same plan, and the same slices
+pub record IsSameTaking (a b : Taking) : Type 0 where
+  pub plan : a.plan ≡ b.plan
+  pub bytes : a.bytes.ghost_name ≡ b.bytes.ghost_name
+  pub freed : a.freed.ghost_name ≡ b.freed.ghost_name
+  pub marks : a.marks.ghost_name ≡ b.marks.ghost_name
+  pub counts : a.counts.ghost_name ≡ b.counts.ghost_name
+  pub bytes_long : length a.bytes.now ≡ length b.bytes.now
+  pub freed_long : length a.freed.now ≡ length b.freed.now
+  pub marks_long : length a.marks.now ≡ length b.marks.now
+  pub counts_long : length a.counts.now ≡ length b.counts.now
 
 -- in a round by blocks, as `InTaking` says, and these half-edges can be removed
 pub record AtPart (k : ℕ) (graph : Graph) (plan : Plan) (gone : List ℕ) (l : Links) (marks bytes freed : List ℕ) (halves : List Half) : Type 0 where

@@ -7,11 +7,11 @@ ghost use Rattle.cm_spec.specs.Rounds.{left_after, removed_after};
 ghost use Rattle.cm_graph.specs.Graph.{Graph};
 ghost use Rattle.cm_peel.specs.AtRound.{InRound, IsSmall, other_places};
 ghost use Rattle.cm_peel.specs.Marks.{IsUnmarked};
-ghost use Rattle.cm_peel.specs.Waiting.{AreEmpty, AreTables, AtBlocks, AtPart, CanWait, InTaking, IsOpen, halves_in, marked_of, put_room};
+ghost use Rattle.cm_peel.specs.Waiting.{AreEmpty, AreTables, AtPart, CanWait, InTaking, IsOpen, IsSameTaking, AtTaking, halves_in, marked_of, put_room};
 
 use crate::chunk::{CHUNK, CHUNK_ENDS, list_halves};
 use crate::freed;
-use crate::freed::{EDGES, FREED, Plan};
+use crate::freed::{EDGES, FREED, Plan, Taking};
 use crate::marks::list_marked;
 use cm_graph::{Edges, Half, Incidence, Steps};
 use std::sync::ledger::Ledger;
@@ -76,16 +76,15 @@ fn read_pairs(pairs: &[u32], halves: &mut [Half])
 fn empty<const K: usize, I: Incidence<K>, L: Ledger>(
     incidence: &mut I,
     pairs: &[u32],
-    plan: Plan,
-    bytes: &mut [u8],
-    freed: &mut [u32],
-    marks: &mut [u64],
+    taking: &mut Taking<'_>,
     steps: &mut Steps<L>,
 ) -> usize
     requires even { length pairs.now ≡ 2 * length (halves_in pairs.now) }
-    requires state { (graph : Graph) × (gone : List ℕ) × AtPart K graph plan gone (I.links incidence.old) marks.old bytes.old freed.old (halves_in pairs.now) }
-    ensures state { (graph : Graph) (gone : List ℕ) → AtPart K graph plan gone (I.links incidence.old) marks.old bytes.old freed.old (halves_in pairs.now) → InTaking graph plan.rounds plan.blocks plan.each (gone ++ map (λ h. h.place) (halves_in pairs.now)) (I.links incidence.new) marks.new bytes.new freed.new }
-    ensures count { length (marked_of marks.new) ≡ length (marked_of marks.old) + result }
+    requires state { (graph : Graph) × (gone : List ℕ) × AtPart K graph taking.old.plan gone (I.links incidence.old) taking.old.marks.now taking.old.bytes.now taking.old.freed.now (halves_in pairs.now) }
+    ensures state { (graph : Graph) (gone : List ℕ) → AtPart K graph taking.old.plan gone (I.links incidence.old) taking.old.marks.now taking.old.bytes.now taking.old.freed.now (halves_in pairs.now) → InTaking graph taking.new.plan.rounds taking.new.plan.blocks taking.new.plan.each (gone ++ map (λ h. h.place) (halves_in pairs.now)) (I.links incidence.new) taking.new.marks.now taking.new.bytes.now taking.new.freed.now }
+    ensures taking { IsSameTaking taking.new taking.old }
+    ensures counts { taking.new.counts.now ≡ taking.old.counts.now }
+    ensures count { length (marked_of taking.new.marks.now) ≡ length (marked_of taking.old.marks.now) + result }
     ensures steps { steps.new ≤ steps.old + 3 * length (halves_in pairs.now) }
 {
     let mut halves = [Half {
@@ -99,7 +98,13 @@ fn empty<const K: usize, I: Incidence<K>, L: Ledger>(
         let many = PART.min((pairs.len() - at) / 2);
         read_pairs(&pairs[at..at + 2 * many], &mut halves[..many]);
         let alone = incidence.remove(&halves[..many], &mut places, steps);
-        count += freed::wait(&places[..alone], plan, bytes, freed, marks);
+        count += freed::wait(
+            &places[..alone],
+            taking.plan,
+            taking.bytes,
+            taking.freed,
+            taking.marks,
+        );
         at += 2 * many;
     }
     count
@@ -127,77 +132,68 @@ fn put(half: Half, size: usize, room: &mut [u32], counts: &mut [u32]) -> usize
 fn empty_block<const K: usize, I: Incidence<K>, L: Ledger>(
     incidence: &mut I,
     b: usize,
-    plan: Plan,
-    bytes: &mut [u8],
-    freed: &mut [u32],
+    taking: &mut Taking<'_>,
     room: &[u32],
-    marks: &mut [u64],
-    counts: &mut [u32],
     steps: &mut Steps<L>,
 ) -> usize
-    requires there { b < length counts.old }
-    requires state { (graph : Graph) × (done : List ℕ) × AtBlocks K graph plan room.now counts.old (I.links incidence.old) marks.old bytes.old freed.old done }
-    ensures counts { counts.new ≡ slice_set counts.old b 0 }
-    ensures state { (graph : Graph) (done : List ℕ) → AtBlocks K graph plan room.now counts.old (I.links incidence.old) marks.old bytes.old freed.old done → AtBlocks K graph plan room.now counts.new (I.links incidence.new) marks.new bytes.new freed.new done }
-    ensures count { length (marked_of marks.new) ≡ length (marked_of marks.old) + result }
-    ensures steps { steps.new ≤ steps.old + 3 * slice_index counts.old b }
+    requires there { b < length taking.old.counts.now }
+    requires state { (graph : Graph) × (done : List ℕ) × AtTaking K graph taking.old room.now (I.links incidence.old) done }
+    ensures taking { IsSameTaking taking.new taking.old }
+    ensures counts { taking.new.counts.now ≡ slice_set taking.old.counts.now b 0 }
+    ensures state { (graph : Graph) (done : List ℕ) → AtTaking K graph taking.old room.now (I.links incidence.old) done → AtTaking K graph taking.new room.now (I.links incidence.new) done }
+    ensures count { length (marked_of taking.new.marks.now) ≡ length (marked_of taking.old.marks.now) + result }
+    ensures steps { steps.new ≤ steps.old + 3 * slice_index taking.old.counts.now b }
 {
-    let many = 2 * counts[b] as usize;
-    counts[b] = 0;
-    let pairs = &room[b * plan.size..b * plan.size + many];
-    empty(incidence, pairs, plan, bytes, freed, marks, steps)
+    let many = 2 * taking.counts[b] as usize;
+    taking.counts[b] = 0;
+    let first = b * taking.plan.size;
+    empty(incidence, &room[first..first + many], taking, steps)
 }
 
 /// Empties a block if its part is full. Returns how many edges were marked.
 fn settle<const K: usize, I: Incidence<K>, L: Ledger>(
     incidence: &mut I,
     b: usize,
-    plan: Plan,
-    bytes: &mut [u8],
-    freed: &mut [u32],
+    taking: &mut Taking<'_>,
     room: &[u32],
-    marks: &mut [u64],
-    counts: &mut [u32],
     steps: &mut Steps<L>,
 ) -> usize
-    requires there { b < length counts.old }
-    requires state { (graph : Graph) × (done : List ℕ) × AtBlocks K graph plan room.now counts.old (I.links incidence.old) marks.old bytes.old freed.old done }
-    ensures free { 2 * slice_index counts.new b < plan.size }
-    ensures others { (k : ℕ) → k ≢ b → slice_index counts.new k ≡ slice_index counts.old k }
-    ensures state { (graph : Graph) (done : List ℕ) → AtBlocks K graph plan room.now counts.old (I.links incidence.old) marks.old bytes.old freed.old done → AtBlocks K graph plan room.now counts.new (I.links incidence.new) marks.new bytes.new freed.new done }
-    ensures count { length (marked_of marks.new) ≡ length (marked_of marks.old) + result }
-    ensures steps { steps.new + 3 * sum counts.new ≤ steps.old + 3 * sum counts.old }
+    requires there { b < length taking.old.counts.now }
+    requires state { (graph : Graph) × (done : List ℕ) × AtTaking K graph taking.old room.now (I.links incidence.old) done }
+    ensures free { 2 * slice_index taking.new.counts.now b < taking.old.plan.size }
+    ensures others { (k : ℕ) → k ≢ b → slice_index taking.new.counts.now k ≡ slice_index taking.old.counts.now k }
+    ensures state { (graph : Graph) (done : List ℕ) → AtTaking K graph taking.old room.now (I.links incidence.old) done → AtTaking K graph taking.new room.now (I.links incidence.new) done }
+    ensures taking { IsSameTaking taking.new taking.old }
+    ensures count { length (marked_of taking.new.marks.now) ≡ length (marked_of taking.old.marks.now) + result }
+    ensures steps { steps.new + 3 * sum taking.new.counts.now ≤ steps.old + 3 * sum taking.old.counts.now }
 {
-    if (2 * counts[b] as usize) < plan.size {
+    if (2 * taking.counts[b] as usize) < taking.plan.size {
         return 0;
     }
-    empty_block(incidence, b, plan, bytes, freed, room, marks, counts, steps)
+    empty_block(incidence, b, taking, room, steps)
 }
 
-/// Lets these half-edges wait in the parts of their blocks, of `size` numbers each, and empties each block whose part is full. Returns
-/// how many edges were marked.
+/// Lets these half-edges wait in the parts of their blocks, and empties each block whose part is full. Returns how many edges were
+/// marked.
 fn wait<const K: usize, I: Incidence<K>, L: Ledger>(
     incidence: &mut I,
     halves: &[Half],
-    plan: Plan,
-    bytes: &mut [u8],
-    freed: &mut [u32],
+    taking: &mut Taking<'_>,
     room: &mut [u32],
-    marks: &mut [u64],
-    counts: &mut [u32],
     steps: &mut Steps<L>,
 ) -> usize
-    requires free { IsOpen plan.size counts.old }
-    requires state { (graph : Graph) × (done : List ℕ) × AtBlocks K graph plan room.old counts.old (I.links incidence.old) marks.old bytes.old freed.old done × CanWait graph.edges plan.rounds done halves.now }
-    ensures free { IsOpen plan.size counts.new }
-    ensures state { (graph : Graph) (done : List ℕ) → CanWait graph.edges plan.rounds done halves.now → AtBlocks K graph plan room.old counts.old (I.links incidence.old) marks.old bytes.old freed.old done → AtBlocks K graph plan room.new counts.new (I.links incidence.new) marks.new bytes.new freed.new (done ++ map (λ h. h.place) halves.now) }
-    ensures count { length (marked_of marks.new) ≡ length (marked_of marks.old) + result }
-    ensures steps { steps.new + 3 * sum counts.new ≤ steps.old + 3 * (sum counts.old + length halves.now) }
+    requires free { IsOpen taking.old.plan.size taking.old.counts.now }
+    requires state { (graph : Graph) × (done : List ℕ) × AtTaking K graph taking.old room.old (I.links incidence.old) done × CanWait graph.edges taking.old.plan.rounds done halves.now }
+    ensures free { IsOpen taking.old.plan.size taking.new.counts.now }
+    ensures state { (graph : Graph) (done : List ℕ) → CanWait graph.edges taking.old.plan.rounds done halves.now → AtTaking K graph taking.old room.old (I.links incidence.old) done → AtTaking K graph taking.new room.new (I.links incidence.new) (done ++ map (λ h. h.place) halves.now) }
+    ensures taking { IsSameTaking taking.new taking.old }
+    ensures count { length (marked_of taking.new.marks.now) ≡ length (marked_of taking.old.marks.now) + result }
+    ensures steps { steps.new + 3 * sum taking.new.counts.now ≤ steps.old + 3 * (sum taking.old.counts.now + length halves.now) }
 {
     let mut count = 0;
     for half in halves {
-        let b = put(*half, plan.size, room, counts);
-        count += settle(incidence, b, plan, bytes, freed, room, marks, counts, steps);
+        let b = put(*half, taking.plan.size, room, taking.counts);
+        count += settle(incidence, b, taking, room, steps);
     }
     count
 }
@@ -205,24 +201,21 @@ fn wait<const K: usize, I: Incidence<K>, L: Ledger>(
 /// Empties all blocks. Returns how many edges were marked.
 fn empty_all<const K: usize, I: Incidence<K>, L: Ledger>(
     incidence: &mut I,
-    plan: Plan,
-    bytes: &mut [u8],
-    freed: &mut [u32],
+    taking: &mut Taking<'_>,
     room: &[u32],
-    marks: &mut [u64],
-    counts: &mut [u32],
     steps: &mut Steps<L>,
 ) -> usize
-    requires state { (graph : Graph) × (done : List ℕ) × AtBlocks K graph plan room.now counts.old (I.links incidence.old) marks.old bytes.old freed.old done }
-    ensures none { AreEmpty counts.new }
-    ensures state { (graph : Graph) (done : List ℕ) → AtBlocks K graph plan room.now counts.old (I.links incidence.old) marks.old bytes.old freed.old done → AtBlocks K graph plan room.now counts.new (I.links incidence.new) marks.new bytes.new freed.new done }
-    ensures count { length (marked_of marks.new) ≡ length (marked_of marks.old) + result }
-    ensures steps { steps.new + 3 * sum counts.new ≤ steps.old + 3 * sum counts.old }
+    requires state { (graph : Graph) × (done : List ℕ) × AtTaking K graph taking.old room.now (I.links incidence.old) done }
+    ensures none { AreEmpty taking.new.counts.now }
+    ensures state { (graph : Graph) (done : List ℕ) → AtTaking K graph taking.old room.now (I.links incidence.old) done → AtTaking K graph taking.new room.now (I.links incidence.new) done }
+    ensures taking { IsSameTaking taking.new taking.old }
+    ensures count { length (marked_of taking.new.marks.now) ≡ length (marked_of taking.old.marks.now) + result }
+    ensures steps { steps.new + 3 * sum taking.new.counts.now ≤ steps.old + 3 * sum taking.old.counts.now }
 {
     let mut count = 0;
     let mut b = 0;
-    'each: while b < counts.len() {
-        count += empty_block(incidence, b, plan, bytes, freed, room, marks, counts, steps);
+    'each: while b < taking.counts.len() {
+        count += empty_block(incidence, b, taking, room, steps);
         b += 1;
     }
     count
@@ -234,20 +227,17 @@ fn wait_round<const K: usize, I: Incidence<K>, L: Ledger>(
     edges: &Edges<K>,
     incidence: &mut I,
     round: &[u32],
-    plan: Plan,
-    bytes: &mut [u8],
-    freed: &mut [u32],
+    taking: &mut Taking<'_>,
     room: &mut [u32],
-    marks: &mut [u64],
-    counts: &mut [u32],
     steps: &mut Steps<L>,
 ) -> usize
-    requires round { round.now ≡ removed_after edges.now.edges plan.rounds }
-    requires free { IsOpen plan.size counts.old }
-    requires state { AtBlocks K edges.now plan room.old counts.old (I.links incidence.old) marks.old bytes.old freed.old [] }
-    ensures state { AtBlocks K edges.now plan room.new counts.new (I.links incidence.new) marks.new bytes.new freed.new (other_places edges.now.edges round.now) }
-    ensures count { length (marked_of marks.new) ≡ length (marked_of marks.old) + result }
-    ensures steps { steps.new + 3 * sum counts.new ≤ steps.old + 3 * (sum counts.old + K * length round.now) }
+    requires round { round.now ≡ removed_after edges.now.edges taking.old.plan.rounds }
+    requires free { IsOpen taking.old.plan.size taking.old.counts.now }
+    requires state { AtTaking K edges.now taking.old room.old (I.links incidence.old) [] }
+    ensures state { AtTaking K edges.now taking.new room.new (I.links incidence.new) (other_places edges.now.edges round.now) }
+    ensures taking { IsSameTaking taking.new taking.old }
+    ensures count { length (marked_of taking.new.marks.now) ≡ length (marked_of taking.old.marks.now) + result }
+    ensures steps { steps.new + 3 * sum taking.new.counts.now ≤ steps.old + 3 * (sum taking.old.counts.now + K * length round.now) }
 {
     let mut ends = [[0; K]; CHUNK];
     let mut halves = [Half {
@@ -261,16 +251,13 @@ fn wait_round<const K: usize, I: Incidence<K>, L: Ledger>(
         let many = CHUNK.min(round.len() - at);
         let others = list_halves(
             edges,
-            bytes,
+            taking.bytes(),
             &round[at..at + many],
             &mut ends[..many],
             &mut known,
             &mut halves,
         );
-        let now = &halves[..others];
-        count += wait(
-            incidence, now, plan, bytes, freed, room, marks, counts, steps,
-        );
+        count += wait(incidence, &halves[..others], taking, room, steps);
         at += many;
     }
     count
@@ -282,28 +269,23 @@ fn unlink_marked<const K: usize, I: Incidence<K>, L: Ledger>(
     edges: &Edges<K>,
     incidence: &mut I,
     round: &[u32],
-    plan: Plan,
-    bytes: &mut [u8],
-    freed: &mut [u32],
+    taking: &mut Taking<'_>,
     room: &mut [u32],
-    marks: &mut [u64],
-    counts: &mut [u32],
     steps: &mut Steps<L>,
 ) -> usize
-    requires round { round.now ≡ removed_after edges.now.edges plan.rounds }
-    requires empty { AreEmpty counts.old }
-    requires marks { IsUnmarked (length edges.now.edges) marks.old }
-    requires state { AtBlocks K edges.now plan room.old counts.old (I.links incidence.old) marks.old bytes.old freed.old [] }
-    ensures state { InRound edges.now plan.rounds (other_places edges.now.edges round.now) (I.links incidence.new) (marked_of marks.new) bytes.new }
-    ensures count { length (marked_of marks.new) ≡ result }
-    ensures empty { AreEmpty counts.new }
+    requires round { round.now ≡ removed_after edges.now.edges taking.old.plan.rounds }
+    requires empty { AreEmpty taking.old.counts.now }
+    requires marks { IsUnmarked (length edges.now.edges) taking.old.marks.now }
+    requires state { AtTaking K edges.now taking.old room.old (I.links incidence.old) [] }
+    ensures state { InRound edges.now taking.old.plan.rounds (other_places edges.now.edges round.now) (I.links incidence.new) (marked_of taking.new.marks.now) taking.new.bytes.now }
+    ensures taking { IsSameTaking taking.new taking.old }
+    ensures count { length (marked_of taking.new.marks.now) ≡ result }
+    ensures empty { AreEmpty taking.new.counts.now }
     ensures steps { steps.new ≤ steps.old + 3 * (K * length round.now) }
 {
-    let before = wait_round(
-        edges, incidence, round, plan, bytes, freed, room, marks, counts, steps,
-    );
-    let last = empty_all(incidence, plan, bytes, freed, room, marks, counts, steps);
-    before + last + freed::take_all(plan, bytes, freed, marks)
+    let before = wait_round(edges, incidence, round, taking, room, steps);
+    let last = empty_all(incidence, taking, room, steps);
+    before + last + freed::take_all(taking.plan, taking.bytes, taking.freed, taking.marks)
 }
 
 /// How a round by blocks uses its room: `long` numbers for the half-edges of `counts` blocks of vertices, and `space` numbers for the
@@ -364,9 +346,14 @@ pub(crate) fn unlink_by_blocks<const K: usize, I: Incidence<K>, L: Ledger>(
     let (room, freed) = list.split_at_mut(long);
     let plan = plan_round(rounds, edges.len(), counts.len(), room.len(), freed.len());
     freed::clear(plan.blocks, freed);
-    let count = unlink_marked(
-        edges, incidence, round, plan, bytes, freed, room, marks, counts, steps,
-    );
+    let mut taking = Taking {
+        plan,
+        bytes,
+        freed,
+        marks,
+        counts,
+    };
+    let count = unlink_marked(edges, incidence, round, &mut taking, room, steps);
     list_marked(marks, &mut list[..count]);
     count
 }

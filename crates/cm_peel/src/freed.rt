@@ -28,6 +28,27 @@ pub(crate) struct Plan {
     pub(crate) each: usize,
 }
 
+/// A round by blocks: its plan, the bytes of all edges, the places that wait for blocks of edges, the marks, and how many half-edges wait
+/// for each block of vertices.
+#[derive(Drop)]
+pub(crate) struct Taking<'a> {
+    pub(crate) plan: Plan,
+    pub(crate) bytes: &'a mut [u8],
+    pub(crate) freed: &'a mut [u32],
+    pub(crate) marks: &'a mut [u64],
+    pub(crate) counts: &'a mut [u32],
+}
+
+impl Taking<'_> {
+    /// The bytes of all edges.
+    pub(crate) fn bytes(&self) -> &[u8]
+        ensures { result.now ≡ self.now.bytes.now }
+    {
+        let bytes = &*self.bytes;
+        bytes
+    }
+}
+
 /// Sets the counts of all blocks of edges to 0.
 pub(crate) fn clear(blocks: usize, freed: &mut [u32])
     requires { blocks ≤ length freed.old }

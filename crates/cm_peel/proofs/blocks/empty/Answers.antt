@@ -13,15 +13,16 @@ use Rattle.cm_peel.proofs.Incident.{place_in}
 use Rattle.cm_peel.proofs.InRound.{places_inside}
 use Rattle.cm_peel.proofs.Parts.{removed_all-append, part_is, part_long, IsPart, is_part, part_below, parts_next}
 use Rattle.cm_peel.proofs.Pieces.{length_written}
+use Rattle.cm_peel.proofs.Same.{part_plan}
 use Rattle.cm_peel.proofs.Settling.{marked_few}
 use Rattle.cm_peel.proofs.blocks.empty.Goals as goal
 
 pub remove-alone-requires-clause-vertices : goal.remove-alone-requires-clause-vertices
 remove-alone-requires-clause-vertices g c =
     let inv = c.parts.invariant in
-    let p = c.requires.state.2 in
+    let p = part_plan g.row.K c.requires.state.0 c.args.taking.now.plan c.parts.taking.plan c.requires.state.1 (g.I.Incidence.links c.args.incidence.now) c.args.taking.now.marks.now c.args.taking.now.bytes.now c.args.taking.now.freed.now (halves_in c.args.pairs.now) (sym inv.taking.plan) c.requires.state.2 in
     let graph : Graph = c.requires.state.0 in
-    let t : ℕ = c.args.plan.rounds in
+    let t : ℕ = c.parts.taking.plan.rounds in
     let hs : List Half = halves_in c.args.pairs.now in
     let l : Links = g.I.Incidence.links c.parts.incidence in
     let n : ℕ = c.min-many.result in
@@ -29,15 +30,15 @@ remove-alone-requires-clause-vertices g c =
     let few : i + n ≤ length hs = omega (arith, c.min-many.ensures, inv.even, inv.high, c.requires.even) in
     let is = part_is c.args.pairs.now c.parts.at n c.read_pairs.new.halves c.parts.halves inv.even c.read_pairs.ensures c.read_pairs.auto.halves (omega (arith, c.min-many.ensures, inv.halves)) in
     let part = is_part graph.edges t (g.I.Incidence.links c.args.incidence.now) l hs _ i n few p.linked p.others inv.links is in
-    let r = inv.state c.requires.state.0 c.requires.state.1 p in
+    let r = inv.state c.requires.state.0 c.requires.state.1 c.requires.state.2 in
     part_below g.row.K graph t _ l _ _ _ p.small.edges r.round part
 
 pub remove-alone-requires-clause-halves : goal.remove-alone-requires-clause-halves
 remove-alone-requires-clause-halves g c =
     let inv = c.parts.invariant in
-    let p = c.requires.state.2 in
+    let p = part_plan g.row.K c.requires.state.0 c.args.taking.now.plan c.parts.taking.plan c.requires.state.1 (g.I.Incidence.links c.args.incidence.now) c.args.taking.now.marks.now c.args.taking.now.bytes.now c.args.taking.now.freed.now (halves_in c.args.pairs.now) (sym inv.taking.plan) c.requires.state.2 in
     let graph : Graph = c.requires.state.0 in
-    let t : ℕ = c.args.plan.rounds in
+    let t : ℕ = c.parts.taking.plan.rounds in
     let hs : List Half = halves_in c.args.pairs.now in
     let l : Links = g.I.Incidence.links c.parts.incidence in
     let n : ℕ = c.min-many.result in
@@ -55,9 +56,9 @@ places_for k graph t blocks each gone l m part places marks bytes freed small ar
 pub wait-count-requires-clause-places : goal.wait-count-requires-clause-places
 wait-count-requires-clause-places g c =
     let inv = c.parts.invariant in
-    let p = c.requires.state.2 in
+    let p = part_plan g.row.K c.requires.state.0 c.args.taking.now.plan c.parts.taking.plan c.requires.state.1 (g.I.Incidence.links c.args.incidence.now) c.args.taking.now.marks.now c.args.taking.now.bytes.now c.args.taking.now.freed.now (halves_in c.args.pairs.now) (sym inv.taking.plan) c.requires.state.2 in
     let graph : Graph = c.requires.state.0 in
-    let t : ℕ = c.args.plan.rounds in
+    let t : ℕ = c.parts.taking.plan.rounds in
     let hs : List Half = halves_in c.args.pairs.now in
     let l : Links = g.I.Incidence.links c.parts.incidence in
     let n : ℕ = c.min-many.result in
@@ -65,8 +66,8 @@ wait-count-requires-clause-places g c =
     let few : i + n ≤ length hs = omega (arith, c.min-many.ensures, inv.even, inv.high, c.requires.even) in
     let is = part_is c.args.pairs.now c.parts.at n c.read_pairs.new.halves c.parts.halves inv.even c.read_pairs.ensures c.read_pairs.auto.halves (omega (arith, c.min-many.ensures, inv.halves)) in
     let part = is_part graph.edges t (g.I.Incidence.links c.args.incidence.now) l hs _ i n few p.linked p.others inv.links is in
-    let r = inv.state c.requires.state.0 c.requires.state.1 p in
-    places_for g.row.K graph t _ _ _ l (g.I.Incidence.links c.remove-alone.new.self) _ _ _ c.parts.bytes _ p.small.ends p.small.edges r part c.remove-alone.ensures.links c.remove-alone.ensures.places
+    let r = inv.state c.requires.state.0 c.requires.state.1 c.requires.state.2 in
+    places_for g.row.K graph t _ _ _ l (g.I.Incidence.links c.remove-alone.new.self) _ _ _ c.parts.taking.bytes.now _ p.small.ends p.small.edges r part c.remove-alone.ensures.links c.remove-alone.ensures.places
 
 pub wait-count-requires-clause-free : goal.wait-count-requires-clause-free
 wait-count-requires-clause-free g c = (c.parts.invariant.state c.requires.state.0 c.requires.state.1 c.requires.state.2).free
@@ -79,8 +80,8 @@ wait-count-requires-clause-state g c =
 pub overflow_add-count : goal.overflow_add-count
 overflow_add-count g c =
     let inv = c.parts.invariant in
-    let p = c.requires.state.2 in
-    let r = inv.state c.requires.state.0 c.requires.state.1 p in
+    let p = part_plan g.row.K c.requires.state.0 c.args.taking.now.plan c.parts.taking.plan c.requires.state.1 (g.I.Incidence.links c.args.incidence.now) c.args.taking.now.marks.now c.args.taking.now.bytes.now c.args.taking.now.freed.now (halves_in c.args.pairs.now) (sym inv.taking.plan) c.requires.state.2 in
+    let r = inv.state c.requires.state.0 c.requires.state.1 c.requires.state.2 in
     let w = c.wait-count.ensures.state r.after r.next r.leads in
     let small : c.parts.count + c.wait-count.result < 67108865 = omega (arith, marked_few c.wait-count.new.marks, w.3.few_marks, c.wait-count.ensures.count, inv.count) in
     search rules
@@ -115,8 +116,20 @@ parts-preserved g c =
       even = omega (arith, inv.even);
       high = omega (arith, c.min-many.ensures, inv.high);
       links = c.remove-alone.ensures.links ∙ (ap (removed_all l) is ∙ (ap (λ (x : Links). removed_all x (take n (drop i hs))) inv.links ∙ (sym (removed_all-append (take i hs) (take n (drop i hs)) l₀) ∙ ap (removed_all l₀) (sym (take-add i n hs) ∙ ap (λ j. take j hs) (sym half)))));
-      state = λ graph gone p. subst (λ (j : ℕ). InTaking graph c.args.plan.rounds c.args.plan.blocks c.args.plan.each (gone ++ map place_in (take j hs)) m c.wait-count.new.marks c.wait-count.new.bytes c.wait-count.new.freed) (sym half)
-          (next_for g.row.K graph c.args.plan gone l₀ l m hs _ i n _ c.args.marks.now c.args.bytes.now c.args.freed.now c.parts.marks c.parts.bytes c.parts.freed c.wait-count.new.marks c.wait-count.new.bytes c.wait-count.new.freed p few inv.links is c.remove-alone.ensures.links c.remove-alone.ensures.places (inv.state graph gone p) c.wait-count.ensures.free c.wait-count.ensures.state);
+      taking = record {
+        plan = inv.taking.plan;
+        bytes = inv.taking.bytes;
+        freed = inv.taking.freed;
+        marks = inv.taking.marks;
+        counts = inv.taking.counts;
+        bytes_long = c.wait-count.auto.bytes ∙ inv.taking.bytes_long;
+        freed_long = c.wait-count.auto.freed ∙ inv.taking.freed_long;
+        marks_long = c.wait-count.auto.marks ∙ inv.taking.marks_long;
+        counts_long = inv.taking.counts_long;
+      };
+      counts = inv.counts;
+      state = λ graph gone p. subst (λ (j : ℕ). InTaking graph c.parts.taking.plan.rounds c.parts.taking.plan.blocks c.parts.taking.plan.each (gone ++ map place_in (take j hs)) m c.wait-count.new.marks c.wait-count.new.bytes c.wait-count.new.freed) (sym half)
+          (next_for g.row.K graph c.parts.taking.plan gone l₀ l m hs _ i n _ c.args.taking.now.marks.now c.args.taking.now.bytes.now c.args.taking.now.freed.now c.parts.taking.marks.now c.parts.taking.bytes.now c.parts.taking.freed.now c.wait-count.new.marks c.wait-count.new.bytes c.wait-count.new.freed (part_plan g.row.K graph c.args.taking.now.plan c.parts.taking.plan gone l₀ c.args.taking.now.marks.now c.args.taking.now.bytes.now c.args.taking.now.freed.now hs (sym inv.taking.plan) p) few inv.links is c.remove-alone.ensures.links c.remove-alone.ensures.places (inv.state graph gone p) c.wait-count.ensures.free c.wait-count.ensures.state);
       count = omega (arith, c.wait-count.ensures.count, inv.count);
       steps = omega (arith, c.remove-alone.ensures.steps, inv.steps, half, long_for hs _ i n few is);
     }
@@ -126,4 +139,4 @@ returns-clause-state g c =
     let inv = c.parts.invariant in
     let hs : List Half = halves_in c.args.pairs.now in
     let all : take (c.parts.at / 2) hs ≡ hs = take_all (c.parts.at / 2) hs (omega (arith, c.parts-test.false, inv.even, inv.high, c.requires.even)) in
-    λ graph gone s. subst (λ (xs : List Half). InTaking graph c.args.plan.rounds c.args.plan.blocks c.args.plan.each (gone ++ map place_in xs) (g.I.Incidence.links c.parts.incidence) c.parts.marks c.parts.bytes c.parts.freed) all (inv.state graph gone s)
+    λ graph gone s. subst (λ (xs : List Half). InTaking graph c.parts.taking.plan.rounds c.parts.taking.plan.blocks c.parts.taking.plan.each (gone ++ map place_in xs) (g.I.Incidence.links c.parts.incidence) c.parts.taking.marks.now c.parts.taking.bytes.now c.parts.taking.freed.now) all (inv.state graph gone s)

@@ -1,6 +1,6 @@
 use Rattle.std.proofs.Common.{◌≡◌, ◌≤◌, ◌+◌, ◌-◌, ◌*◌, ◌/◌, ◌++◌, ℕ, List, length, map, take}
 use Rattle.cm_graph.specs.Graph.{Graph, removed_all}
-use Rattle.cm_peel.specs.Waiting.{AtPart, InTaking, halves_in, marked_of}
+use Rattle.cm_peel.specs.Waiting.{AtPart, InTaking, IsSameTaking, halves_in, marked_of}
 use Rattle.cm_peel.proofs.Incident.{place_in}
 use Rattle.cm_peel.proofs.blocks.empty.Given as goal
 
@@ -11,8 +11,10 @@ invariant-parts g l = record {
   even : l.at ≡ 2 * (l.at / 2);
   high : l.at ≤ length l.pairs;
   links : g.I.Incidence.links l.incidence ≡ removed_all (g.I.Incidence.links l.fn.incidence) (take (l.at / 2) (halves_in l.pairs));
-  state : (graph : Graph) (gone : List ℕ) → AtPart g.row.K graph l.plan gone (g.I.Incidence.links l.fn.incidence) l.fn.marks l.fn.bytes l.fn.freed (halves_in l.pairs) → InTaking graph l.plan.rounds l.plan.blocks l.plan.each (gone ++ map place_in (take (l.at / 2) (halves_in l.pairs))) (g.I.Incidence.links l.incidence) l.marks l.bytes l.freed;
-  count : length (marked_of l.marks) ≡ length (marked_of l.fn.marks) + l.count;
+  taking : IsSameTaking l.taking l.fn.taking;
+  counts : l.taking.counts.now ≡ l.fn.taking.counts.now;
+  state : (graph : Graph) (gone : List ℕ) → AtPart g.row.K graph l.fn.taking.plan gone (g.I.Incidence.links l.fn.incidence) l.fn.taking.marks.now l.fn.taking.bytes.now l.fn.taking.freed.now (halves_in l.pairs) → InTaking graph l.taking.plan.rounds l.taking.plan.blocks l.taking.plan.each (gone ++ map place_in (take (l.at / 2) (halves_in l.pairs))) (g.I.Incidence.links l.incidence) l.taking.marks.now l.taking.bytes.now l.taking.freed.now;
+  count : length (marked_of l.taking.marks.now) ≡ length (marked_of l.fn.taking.marks.now) + l.count;
   steps : l.steps ≤ l.fn.steps + 3 * (l.at / 2);
 }
 

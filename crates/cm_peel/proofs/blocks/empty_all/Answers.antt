@@ -2,6 +2,7 @@ use Rattle.std.proofs.Common.{◌≡◌, ◌∙◌, ℕ, List, ◌+◌, ◌<◌,
 use Rattle.std.proofs.lemmas.Bool.{cases_lt}
 use Rattle.std.proofs.lemmas.List.{get_or-set_same}
 use Rattle.std.proofs.lemmas.List.Sums.{sum_by-set}
+use Rattle.cm_peel.proofs.Same.{taking_then}
 use Rattle.cm_peel.proofs.Settling.{marked_few}
 use Rattle.cm_peel.proofs.blocks.empty_all.Goals as goal
 
@@ -12,7 +13,7 @@ pub overflow_add-count : goal.overflow_add-count
 overflow_add-count g c =
     let inv = c.each.invariant in
     let r = c.empty_block-count.ensures.state _ _ (inv.state _ _ c.requires.state.2) in
-    let small : c.each.count + c.empty_block-count.result < 67108865 = omega (arith, marked_few c.empty_block-count.new.marks, r.state.round.leads.few_marks, c.empty_block-count.ensures.count, inv.count) in
+    let small : c.each.count + c.empty_block-count.result < 67108865 = omega (arith, marked_few c.empty_block-count.new.taking.marks.now, r.state.round.leads.few_marks, c.empty_block-count.ensures.count, inv.count) in
     search rules
 
 -- one more block is empty
@@ -26,9 +27,10 @@ pub each-preserved : goal.each-preserved
 each-preserved g c =
     let inv = c.each.invariant in
     record {
-      high = omega (arith, c.each-test.true, c.empty_block-count.auto.counts);
-      none = λ k h. none_next c.each.counts _ c.each.b k (omega (arith, c.each-test.true)) c.empty_block-count.ensures.counts inv.none h;
+      high = omega (arith, c.each-test.true, c.empty_block-count.ensures.taking.counts_long);
+      none = λ k h. none_next c.each.taking.counts.now _ c.each.b k (omega (arith, c.each-test.true)) c.empty_block-count.ensures.counts inv.none h;
+      taking = taking_then c.empty_block-count.new.taking c.each.taking c.args.taking.now c.empty_block-count.ensures.taking inv.taking;
       state = λ graph done r. c.empty_block-count.ensures.state graph done (inv.state graph done r);
       count = omega (arith, c.empty_block-count.ensures.count, inv.count);
-      steps = omega (arith, c.empty_block-count.ensures.steps, inv.steps, ap sum c.empty_block-count.ensures.counts, sum_by-set (λ (n : ℕ). n) c.each.counts c.each.b 0 0 (omega (arith, c.each-test.true)));
+      steps = omega (arith, c.empty_block-count.ensures.steps, inv.steps, ap sum c.empty_block-count.ensures.counts, sum_by-set (λ (n : ℕ). n) c.each.taking.counts.now c.each.b 0 0 (omega (arith, c.each-test.true)));
     }

@@ -58,20 +58,21 @@ few_for graph t t' count gone l marks bytes old room freed same r many fits long
 pub slice_bounds-list_marked-end : goal.slice_bounds-list_marked-end
 slice_bounds-list_marked-end g c =
     let split = c.split_at_mut-room.ensures in
-    let long : length c.unlink_marked-count.new.room + length c.unlink_marked-count.new.freed ≡ length c.args.list.now = omega (arith, c.unlink_marked-count.auto.room, c.unlink_marked-count.auto.freed, c.clear.auto.freed, split.front_len, split.back_len) in
-    few_for c.args.edges.now c.args.rounds _ _ _ _ c.unlink_marked-count.new.marks c.unlink_marked-count.new.bytes c.args.list.now _ _ c.plan_round-plan.ensures.rounds c.unlink_marked-count.ensures.state c.unlink_marked-count.ensures.count c.requires.room long
+    let long : length c.unlink_marked-count.new.room + length c.freed-2-1.given.0 ≡ length c.args.list.now = omega (arith, c.unlink_marked-count.auto.room, c.freed-2-1.given.1.0, c.clear.auto.freed, split.front_len, split.back_len) in
+    few_for c.args.edges.now c.args.rounds _ _ _ _ c.unlink_marked-count.new.taking.marks.now c.unlink_marked-count.new.taking.bytes.now c.args.list.now _ _ c.plan_round-plan.ensures.rounds c.unlink_marked-count.ensures.state c.unlink_marked-count.ensures.count c.requires.room long
 
 pub slice_bounds-list_marked-end-2 : goal.slice_bounds-list_marked-end-2
 slice_bounds-list_marked-end-2 g c =
     let split = c.split_at_mut-room.ensures in
-    let long : length c.unlink_marked-count.new.room + length c.unlink_marked-count.new.freed ≡ length c.args.list.now = omega (arith, c.unlink_marked-count.auto.room, c.unlink_marked-count.auto.freed, c.clear.auto.freed, split.front_len, split.back_len) in
-    sym (length-take-le _ (c.unlink_marked-count.new.room ++ c.unlink_marked-count.new.freed) (few_for c.args.edges.now c.args.rounds _ _ _ _ c.unlink_marked-count.new.marks c.unlink_marked-count.new.bytes c.args.list.now _ _ c.plan_round-plan.ensures.rounds c.unlink_marked-count.ensures.state c.unlink_marked-count.ensures.count c.requires.room long))
+    let long : length c.unlink_marked-count.new.room + length c.freed-2-1.given.0 ≡ length c.args.list.now = omega (arith, c.unlink_marked-count.auto.room, c.freed-2-1.given.1.0, c.clear.auto.freed, split.front_len, split.back_len) in
+    sym (length-take-le _ (c.unlink_marked-count.new.room ++ c.freed-2-1.given.0) (few_for c.args.edges.now c.args.rounds _ _ _ _ c.unlink_marked-count.new.taking.marks.now c.unlink_marked-count.new.taking.bytes.now c.args.list.now _ _ c.plan_round-plan.ensures.rounds c.unlink_marked-count.ensures.state c.unlink_marked-count.ensures.count c.requires.room long))
 
 pub list_marked-requires-clause-room : goal.list_marked-requires-clause-room
 list_marked-requires-clause-room g c =
+    let marks = c.marks-1.given.1.1 (sym c.unlink_marked-count.ensures.taking.marks) in
     let split = c.split_at_mut-room.ensures in
-    let long : length c.unlink_marked-count.new.room + length c.unlink_marked-count.new.freed ≡ length c.args.list.now = omega (arith, c.unlink_marked-count.auto.room, c.unlink_marked-count.auto.freed, c.clear.auto.freed, split.front_len, split.back_len) in
-    length-take-le _ (c.unlink_marked-count.new.room ++ c.unlink_marked-count.new.freed) (few_for c.args.edges.now c.args.rounds _ _ _ _ c.unlink_marked-count.new.marks c.unlink_marked-count.new.bytes c.args.list.now _ _ c.plan_round-plan.ensures.rounds c.unlink_marked-count.ensures.state c.unlink_marked-count.ensures.count c.requires.room long) ∙ sym c.unlink_marked-count.ensures.count
+    let long : length c.unlink_marked-count.new.room + length c.freed-2-1.given.0 ≡ length c.args.list.now = omega (arith, c.unlink_marked-count.auto.room, c.freed-2-1.given.1.0, c.clear.auto.freed, split.front_len, split.back_len) in
+    length-take-le _ (c.unlink_marked-count.new.room ++ c.freed-2-1.given.0) (few_for c.args.edges.now c.args.rounds _ _ _ _ c.unlink_marked-count.new.taking.marks.now c.unlink_marked-count.new.taking.bytes.now c.args.list.now _ _ c.plan_round-plan.ensures.rounds c.unlink_marked-count.ensures.state c.unlink_marked-count.ensures.count c.requires.room long) ∙ (sym c.unlink_marked-count.ensures.count ∙ ap (λ (xs : List ℕ). length (marked_of xs)) (sym marks))
 
 -- the list once the marked edges are written into it
 list_is : (list new kept : List ℕ) (count : ℕ) → count ≤ length list → length new ≡ length (take count list) → new ≡ kept → take count (new ++ drop count list) ≡ kept
@@ -79,17 +80,21 @@ list_is list new kept count within long is = front_written new list count (long 
 
 pub returns-clause-state : goal.returns-clause-state
 returns-clause-state g c =
+    let marks = c.marks-1.given.1.1 (sym c.unlink_marked-count.ensures.taking.marks) in
     let split = c.split_at_mut-room.ensures in
     let graph : Graph = c.args.edges.now in
-    let long : length c.unlink_marked-count.new.room + length c.unlink_marked-count.new.freed ≡ length c.args.list.now = omega (arith, c.unlink_marked-count.auto.room, c.unlink_marked-count.auto.freed, c.clear.auto.freed, split.front_len, split.back_len) in
-    let few = few_for graph c.args.rounds _ _ _ _ c.unlink_marked-count.new.marks c.unlink_marked-count.new.bytes c.args.list.now _ _ c.plan_round-plan.ensures.rounds c.unlink_marked-count.ensures.state c.unlink_marked-count.ensures.count c.requires.room long in
-    let list = list_is (c.unlink_marked-count.new.room ++ c.unlink_marked-count.new.freed) c.list_marked.new.list (marked_of c.unlink_marked-count.new.marks) _ few c.list_marked.auto.list c.list_marked.ensures.list in
-    subst (λ (xs : List ℕ). InRound graph c.args.rounds (other_places graph.edges c.args.round.now) (g.I.Incidence.links c.unlink_marked-count.new.incidence) xs c.unlink_marked-count.new.bytes) (sym list) (subst (λ (n : ℕ). InRound graph n (other_places graph.edges c.args.round.now) (g.I.Incidence.links c.unlink_marked-count.new.incidence) (marked_of c.unlink_marked-count.new.marks) c.unlink_marked-count.new.bytes) c.plan_round-plan.ensures.rounds c.unlink_marked-count.ensures.state)
+    let long : length c.unlink_marked-count.new.room + length c.freed-2-1.given.0 ≡ length c.args.list.now = omega (arith, c.unlink_marked-count.auto.room, c.freed-2-1.given.1.0, c.clear.auto.freed, split.front_len, split.back_len) in
+    let few = few_for graph c.args.rounds _ _ _ _ c.unlink_marked-count.new.taking.marks.now c.unlink_marked-count.new.taking.bytes.now c.args.list.now _ _ c.plan_round-plan.ensures.rounds c.unlink_marked-count.ensures.state c.unlink_marked-count.ensures.count c.requires.room long in
+    let list = list_is (c.unlink_marked-count.new.room ++ c.freed-2-1.given.0) c.list_marked.new.list (marked_of c.unlink_marked-count.new.taking.marks.now) _ few c.list_marked.auto.list (c.list_marked.ensures.list ∙ ap (λ (xs : List ℕ). marked_of xs) marks) in
+    let bytes = c.bytes-1.given.1.1 (sym c.unlink_marked-count.ensures.taking.bytes) in
+    subst (λ (bs : List ℕ). InRound graph c.args.rounds (other_places graph.edges c.args.round.now) (g.I.Incidence.links c.unlink_marked-count.new.incidence) (take c.unlink_marked-count.result (c.list_marked.new.list ++ drop c.unlink_marked-count.result (c.unlink_marked-count.new.room ++ c.freed-2-1.given.0))) bs) (sym bytes)
+    (subst (λ (xs : List ℕ). InRound graph c.args.rounds (other_places graph.edges c.args.round.now) (g.I.Incidence.links c.unlink_marked-count.new.incidence) xs c.unlink_marked-count.new.taking.bytes.now) (sym list) (subst (λ (n : ℕ). InRound graph n (other_places graph.edges c.args.round.now) (g.I.Incidence.links c.unlink_marked-count.new.incidence) (marked_of c.unlink_marked-count.new.taking.marks.now) c.unlink_marked-count.new.taking.bytes.now) c.plan_round-plan.ensures.rounds c.unlink_marked-count.ensures.state))
 
 pub returns-clause-sorted : goal.returns-clause-sorted
 returns-clause-sorted g c =
+    let marks = c.marks-1.given.1.1 (sym c.unlink_marked-count.ensures.taking.marks) in
     let split = c.split_at_mut-room.ensures in
-    let long : length c.unlink_marked-count.new.room + length c.unlink_marked-count.new.freed ≡ length c.args.list.now = omega (arith, c.unlink_marked-count.auto.room, c.unlink_marked-count.auto.freed, c.clear.auto.freed, split.front_len, split.back_len) in
-    let few = few_for c.args.edges.now c.args.rounds _ _ _ _ c.unlink_marked-count.new.marks c.unlink_marked-count.new.bytes c.args.list.now _ _ c.plan_round-plan.ensures.rounds c.unlink_marked-count.ensures.state c.unlink_marked-count.ensures.count c.requires.room long in
-    let list = list_is (c.unlink_marked-count.new.room ++ c.unlink_marked-count.new.freed) c.list_marked.new.list (marked_of c.unlink_marked-count.new.marks) _ few c.list_marked.auto.list c.list_marked.ensures.list in
-    subst (λ (xs : List ℕ). IsSorted nat_cmp xs) (sym list) (kept_sorted (is_marked c.unlink_marked-count.new.marks) (64 * length c.unlink_marked-count.new.marks))
+    let long : length c.unlink_marked-count.new.room + length c.freed-2-1.given.0 ≡ length c.args.list.now = omega (arith, c.unlink_marked-count.auto.room, c.freed-2-1.given.1.0, c.clear.auto.freed, split.front_len, split.back_len) in
+    let few = few_for c.args.edges.now c.args.rounds _ _ _ _ c.unlink_marked-count.new.taking.marks.now c.unlink_marked-count.new.taking.bytes.now c.args.list.now _ _ c.plan_round-plan.ensures.rounds c.unlink_marked-count.ensures.state c.unlink_marked-count.ensures.count c.requires.room long in
+    let list = list_is (c.unlink_marked-count.new.room ++ c.freed-2-1.given.0) c.list_marked.new.list (marked_of c.unlink_marked-count.new.taking.marks.now) _ few c.list_marked.auto.list (c.list_marked.ensures.list ∙ ap (λ (xs : List ℕ). marked_of xs) marks) in
+    subst (λ (xs : List ℕ). IsSorted nat_cmp xs) (sym list) (kept_sorted (is_marked c.unlink_marked-count.new.taking.marks.now) (64 * length c.unlink_marked-count.new.taking.marks.now))

@@ -7,13 +7,14 @@ use Rattle.cm_graph.specs.Graph.{Graph, Links}
 use Rattle.cm_peel.specs.declared.freed.Plan.{Plan}
 use Rattle.cm_peel.specs.Waiting.{AtBlocks, CanWait, IsEnd, IsOpen, put_room}
 use Rattle.cm_peel.proofs.Incident.{place_in}
+use Rattle.cm_peel.proofs.Same.{open_plan, wait_plan}
 use Rattle.cm_peel.proofs.Settling.{marked_few}
 use Rattle.cm_peel.proofs.Waits.{room_kept, wait_one}
 use Rattle.cm_peel.proofs.blocks.wait.Goals as goal
 
 -- the block of a half-edge
-there_for : (k : ℕ) (graph : Graph) (plan : Plan) (room counts : List ℕ) (l : Links) (marks bytes freed done before : List ℕ) (halves : List Half) (i : ℕ) (h : Half) → get_or halves i h ≡ h → AtBlocks k graph plan room counts l marks bytes freed done → CanWait graph.edges plan.rounds before halves → i < length halves → h.vertex / 65536 < length counts
-there_for k graph plan room counts l marks bytes freed done before halves i h is r w low =
+there_for : (k : ℕ) (graph : Graph) (plan : Plan) (room counts : List ℕ) (l : Links) (marks bytes freed done before : List ℕ) (t : ℕ) (halves : List Half) (i : ℕ) (h : Half) → get_or halves i h ≡ h → AtBlocks k graph plan room counts l marks bytes freed done → CanWait graph.edges t before halves → i < length halves → h.vertex / 65536 < length counts
+there_for k graph plan room counts l marks bytes freed done before t halves i h is r w low =
     let end : IsEnd graph.edges h = subst (IsEnd graph.edges) is (w.ends i h low) in
     omega (arith, (r.small.edges (h.place / 4) [] end.0).1.0 (h.place % 4) 0 end.1, end.2, r.space.blocks)
 
@@ -51,7 +52,7 @@ put-b-requires-clause-there g c =
     let st = c.requires.state in
     let i : ℕ = c.loop-half.half-index in
     let h : Half = get_or c.args.halves.now i (record { vertex = 0; place = 0 }) in
-    let there = there_for g.row.K st.0 c.args.plan _ c.loop-half.counts _ _ _ _ _ st.1 c.args.halves.now i h (get_or_default c.args.halves.now i _ _ c.loop-half-test.true) (inv.state st.0 st.1 st.3 st.2) st.3 c.loop-half-test.true in
+    let there = there_for g.row.K st.0 c.loop-half.taking.plan _ c.loop-half.taking.counts.now _ _ _ _ _ st.1 _ c.args.halves.now i h (get_or_default c.args.halves.now i _ _ c.loop-half-test.true) (inv.state st.0 st.1 st.3 st.2) st.3 c.loop-half-test.true in
     there
 
 pub put-b-requires-clause-free : goal.put-b-requires-clause-free
@@ -60,8 +61,8 @@ put-b-requires-clause-free g c =
     let st = c.requires.state in
     let i : ℕ = c.loop-half.half-index in
     let h : Half = get_or c.args.halves.now i (record { vertex = 0; place = 0 }) in
-    let there = there_for g.row.K st.0 c.args.plan _ c.loop-half.counts _ _ _ _ _ st.1 c.args.halves.now i h (get_or_default c.args.halves.now i _ _ c.loop-half-test.true) (inv.state st.0 st.1 st.3 st.2) st.3 c.loop-half-test.true in
-    omega (arith, inv.free (h.vertex / 65536) there, st.2.space.even)
+    let there = there_for g.row.K st.0 c.loop-half.taking.plan _ c.loop-half.taking.counts.now _ _ _ _ _ st.1 _ c.args.halves.now i h (get_or_default c.args.halves.now i _ _ c.loop-half-test.true) (inv.state st.0 st.1 st.3 st.2) st.3 c.loop-half-test.true in
+    omega (arith, inv.free (h.vertex / 65536) there, st.2.space.even, ap (λ (q : Plan). q.size) inv.taking.plan)
 
 pub settle-count-requires-clause-there : goal.settle-count-requires-clause-there
 settle-count-requires-clause-there g c =
@@ -69,7 +70,7 @@ settle-count-requires-clause-there g c =
     let st = c.requires.state in
     let i : ℕ = c.loop-half.half-index in
     let h : Half = get_or c.args.halves.now i (record { vertex = 0; place = 0 }) in
-    let there = there_for g.row.K st.0 c.args.plan _ c.loop-half.counts _ _ _ _ _ st.1 c.args.halves.now i h (get_or_default c.args.halves.now i _ _ c.loop-half-test.true) (inv.state st.0 st.1 st.3 st.2) st.3 c.loop-half-test.true in
+    let there = there_for g.row.K st.0 c.loop-half.taking.plan _ c.loop-half.taking.counts.now _ _ _ _ _ st.1 _ c.args.halves.now i h (get_or_default c.args.halves.now i _ _ c.loop-half-test.true) (inv.state st.0 st.1 st.3 st.2) st.3 c.loop-half-test.true in
     omega (arith, there, c.put-b.ensures.block, c.put-b.auto.counts)
 
 pub settle-count-requires-clause-state : goal.settle-count-requires-clause-state
@@ -78,7 +79,7 @@ settle-count-requires-clause-state g c =
     let st = c.requires.state in
     let i : ℕ = c.loop-half.half-index in
     let h : Half = get_or c.args.halves.now i (record { vertex = 0; place = 0 }) in
-    (st.0, st.1 ++ map place_in (take (i + 1) c.args.halves.now), put_for g.row.K st.0 c.args.plan c.loop-half.room c.loop-half.counts c.put-b.new.room c.put-b.new.counts (g.I.Incidence.links c.loop-half.incidence) c.loop-half.marks c.loop-half.bytes c.loop-half.freed st.1 c.args.halves.now i h st.3 (inv.state st.0 st.1 st.3 st.2) inv.free c.loop-half-test.true (get_or_default c.args.halves.now i _ _ c.loop-half-test.true) c.put-b.ensures.room c.put-b.ensures.counts c.put-b.auto.room c.put-b.auto.counts)
+    (st.0, st.1 ++ map place_in (take (i + 1) c.args.halves.now), put_for g.row.K st.0 c.loop-half.taking.plan c.loop-half.room c.loop-half.taking.counts.now c.put-b.new.room c.put-b.new.counts (g.I.Incidence.links c.loop-half.incidence) c.loop-half.taking.marks.now c.loop-half.taking.bytes.now c.loop-half.taking.freed.now st.1 c.args.halves.now i h (wait_plan st.0.edges c.args.taking.now.plan c.loop-half.taking.plan st.1 c.args.halves.now (sym inv.taking.plan) st.3) (inv.state st.0 st.1 st.3 st.2) (open_plan c.args.taking.now.plan c.loop-half.taking.plan c.loop-half.taking.counts.now (sym inv.taking.plan) inv.free) c.loop-half-test.true (get_or_default c.args.halves.now i _ _ c.loop-half-test.true) c.put-b.ensures.room c.put-b.ensures.counts c.put-b.auto.room c.put-b.auto.counts)
 
 pub overflow_add-count : goal.overflow_add-count
 overflow_add-count g c =
@@ -86,8 +87,8 @@ overflow_add-count g c =
     let st = c.requires.state in
     let i : ℕ = c.loop-half.half-index in
     let h : Half = get_or c.args.halves.now i (record { vertex = 0; place = 0 }) in
-    let r = c.settle-count.ensures.state _ _ (put_for g.row.K st.0 c.args.plan c.loop-half.room c.loop-half.counts c.put-b.new.room c.put-b.new.counts (g.I.Incidence.links c.loop-half.incidence) c.loop-half.marks c.loop-half.bytes c.loop-half.freed st.1 c.args.halves.now i h st.3 (inv.state st.0 st.1 st.3 st.2) inv.free c.loop-half-test.true (get_or_default c.args.halves.now i _ _ c.loop-half-test.true) c.put-b.ensures.room c.put-b.ensures.counts c.put-b.auto.room c.put-b.auto.counts) in
-    let small : c.loop-half.count + c.settle-count.result < 67108865 = omega (arith, marked_few c.settle-count.new.marks, r.state.round.leads.few_marks, c.settle-count.ensures.count, inv.count) in
+    let r = c.settle-count.ensures.state _ _ (put_for g.row.K st.0 c.loop-half.taking.plan c.loop-half.room c.loop-half.taking.counts.now c.put-b.new.room c.put-b.new.counts (g.I.Incidence.links c.loop-half.incidence) c.loop-half.taking.marks.now c.loop-half.taking.bytes.now c.loop-half.taking.freed.now st.1 c.args.halves.now i h (wait_plan st.0.edges c.args.taking.now.plan c.loop-half.taking.plan st.1 c.args.halves.now (sym inv.taking.plan) st.3) (inv.state st.0 st.1 st.3 st.2) (open_plan c.args.taking.now.plan c.loop-half.taking.plan c.loop-half.taking.counts.now (sym inv.taking.plan) inv.free) c.loop-half-test.true (get_or_default c.args.halves.now i _ _ c.loop-half-test.true) c.put-b.ensures.room c.put-b.ensures.counts c.put-b.auto.room c.put-b.auto.counts) in
+    let small : c.loop-half.count + c.settle-count.result < 67108865 = omega (arith, marked_few c.settle-count.new.taking.marks.now, r.state.round.leads.few_marks, c.settle-count.ensures.count, inv.count) in
     search rules
 
 -- the sum of the counts after one more
@@ -107,12 +108,24 @@ loop-half-preserved g c =
     let st = c.requires.state in
     let i : ℕ = c.loop-half.half-index in
     let h : Half = get_or c.args.halves.now i (record { vertex = 0; place = 0 }) in
-    let there = there_for g.row.K st.0 c.args.plan _ c.loop-half.counts _ _ _ _ _ st.1 c.args.halves.now i h (get_or_default c.args.halves.now i _ _ c.loop-half-test.true) (inv.state st.0 st.1 st.3 st.2) st.3 c.loop-half-test.true in
-    let at : c.put-b.result < length c.loop-half.counts = omega (arith, there, c.put-b.ensures.block) in
-    let put : c.put-b.new.counts ≡ set c.loop-half.counts c.put-b.result (get_or c.loop-half.counts c.put-b.result 0 + 1) = rw c.put-b.ensures.block c.put-b.ensures.counts in
+    let there = there_for g.row.K st.0 c.loop-half.taking.plan _ c.loop-half.taking.counts.now _ _ _ _ _ st.1 _ c.args.halves.now i h (get_or_default c.args.halves.now i _ _ c.loop-half-test.true) (inv.state st.0 st.1 st.3 st.2) st.3 c.loop-half-test.true in
+    let same = c.settle-count.ensures.taking in
+    let at : c.put-b.result < length c.loop-half.taking.counts.now = omega (arith, there, c.put-b.ensures.block) in
+    let put : c.put-b.new.counts ≡ set c.loop-half.taking.counts.now c.put-b.result (get_or c.loop-half.taking.counts.now c.put-b.result 0 + 1) = rw c.put-b.ensures.block c.put-b.ensures.counts in
     record {
-      free = free_for c.args.plan.size c.put-b.result c.loop-half.counts c.put-b.new.counts c.settle-count.new.counts inv.free (c.settle-count.auto.counts ∙ c.put-b.auto.counts) put c.settle-count.ensures.free c.settle-count.ensures.others;
-      state = λ graph done w r. c.settle-count.ensures.state graph _ (put_for g.row.K graph c.args.plan c.loop-half.room c.loop-half.counts c.put-b.new.room c.put-b.new.counts (g.I.Incidence.links c.loop-half.incidence) c.loop-half.marks c.loop-half.bytes c.loop-half.freed done c.args.halves.now i h w (inv.state graph done w r) inv.free c.loop-half-test.true (get_or_default c.args.halves.now i _ _ c.loop-half-test.true) c.put-b.ensures.room c.put-b.ensures.counts c.put-b.auto.room c.put-b.auto.counts);
+      free = free_for c.args.taking.now.plan.size c.put-b.result c.loop-half.taking.counts.now c.put-b.new.counts c.settle-count.new.taking.counts.now inv.free (same.counts_long ∙ c.put-b.auto.counts) put (omega (arith, c.settle-count.ensures.free, ap (λ (q : Plan). q.size) inv.taking.plan)) c.settle-count.ensures.others;
+      taking = record {
+        plan = same.plan ∙ inv.taking.plan;
+        bytes = same.bytes ∙ inv.taking.bytes;
+        freed = same.freed ∙ inv.taking.freed;
+        marks = same.marks ∙ inv.taking.marks;
+        counts = same.counts ∙ inv.taking.counts;
+        bytes_long = same.bytes_long ∙ inv.taking.bytes_long;
+        freed_long = same.freed_long ∙ inv.taking.freed_long;
+        marks_long = same.marks_long ∙ inv.taking.marks_long;
+        counts_long = same.counts_long ∙ (c.put-b.auto.counts ∙ inv.taking.counts_long);
+      };
+      state = λ graph done w r. c.settle-count.ensures.state graph _ (put_for g.row.K graph c.loop-half.taking.plan c.loop-half.room c.loop-half.taking.counts.now c.put-b.new.room c.put-b.new.counts (g.I.Incidence.links c.loop-half.incidence) c.loop-half.taking.marks.now c.loop-half.taking.bytes.now c.loop-half.taking.freed.now done c.args.halves.now i h (wait_plan graph.edges c.args.taking.now.plan c.loop-half.taking.plan done c.args.halves.now (sym inv.taking.plan) w) (inv.state graph done w r) (open_plan c.args.taking.now.plan c.loop-half.taking.plan c.loop-half.taking.counts.now (sym inv.taking.plan) inv.free) c.loop-half-test.true (get_or_default c.args.halves.now i _ _ c.loop-half-test.true) c.put-b.ensures.room c.put-b.ensures.counts c.put-b.auto.room c.put-b.auto.counts);
       count = omega (arith, c.settle-count.ensures.count, inv.count);
-      steps = omega (arith, c.settle-count.ensures.steps, inv.steps, sum_put c.loop-half.counts c.put-b.new.counts c.put-b.result 0 0 at put);
+      steps = omega (arith, c.settle-count.ensures.steps, inv.steps, sum_put c.loop-half.taking.counts.now c.put-b.new.counts c.put-b.result 0 0 at put);
     }

@@ -1,5 +1,5 @@
 use Rattle.std.proofs.Common.{◌≡◌, ◌≤◌, ◌+◌, ◌-◌, ◌*◌, length, sum}
-use Rattle.cm_peel.specs.Waiting.{AtBlocks, IsOpen, marked_of}
+use Rattle.cm_peel.specs.Waiting.{IsOpen, IsSameTaking, AtTaking, marked_of}
 use Rattle.cm_peel.proofs.Unlinking.{gone_before}
 use Rattle.cm_peel.proofs.blocks.wait_round.Given as goal
 
@@ -9,10 +9,11 @@ invariant-chunks g l = record {
   ends : length l.ends ≡ 64;
   halves : length l.halves ≡ 192;
   known : length l.known ≡ 192;
-  free : IsOpen l.plan.size l.counts;
-  state : AtBlocks g.row.K l.edges l.plan l.room l.counts (g.I.Incidence.links l.incidence) l.marks l.bytes l.freed (gone_before l.edges l.plan.rounds l.at);
-  count : length (marked_of l.marks) ≡ length (marked_of l.fn.marks) + l.count;
-  steps : l.steps + 3 * sum l.counts ≤ l.fn.steps + 3 * (sum l.fn.counts + g.row.K * l.at);
+  free : IsOpen l.fn.taking.plan.size l.taking.counts.now;
+  taking : IsSameTaking l.taking l.fn.taking;
+  state : AtTaking g.row.K l.edges l.taking l.room (g.I.Incidence.links l.incidence) (gone_before l.edges l.fn.taking.plan.rounds l.at);
+  count : length (marked_of l.taking.marks.now) ≡ length (marked_of l.fn.taking.marks.now) + l.count;
+  steps : l.steps + 3 * sum l.taking.counts.now ≤ l.fn.steps + 3 * (sum l.fn.taking.counts.now + g.row.K * l.at);
 }
 
 abbrev pub decreases-chunks : goal.decreases-chunks

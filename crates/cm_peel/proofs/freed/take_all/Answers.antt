@@ -11,3 +11,6 @@ overflow_add-count c =
     let r = c.take_block-count.ensures.state _ _ (inv.state _ _ c.requires.state.2) in
     let small : c.each.count + c.take_block-count.result < 67108865 = omega (arith, marked_few c.take_block-count.new.marks, r.few_marks, c.take_block-count.ensures.count, inv.count) in
     search rules
+
+pub returns-clause-none : goal.returns-clause-none
+returns-clause-none c = λ b low. c.each.invariant.none b (omega (arith, c.each-test.false))
