@@ -1,5 +1,6 @@
 -- The command, argument by argument, and that clap states its matches and its faults.
-use Rattle.std.proofs.Common.{◌≡◌, ◌∙◌, ℕ, Some, true, false, refl, ap, List}
+use Rattle.std.proofs.Common.{◌≡◌, ◌∙◌, ℕ, ◌+◌, ◌<◌, Some, true, false, refl, sym, ap, List, [], ◌∷◌, ◌++◌, length, get_or, map, take}
+use Rattle.std.proofs.lemmas.List.{map-append, take_more}
 use Rattle.clap.specs.Words.{AddsArg, App, Rule, Text, app_of, is_simple, is_simple_and_free, new_rule, rule_of}
 use Rattle.clap.specs.declared.builder.action.ArgAction.{ArgAction}
 use Rattle.clap.specs.declared.builder.action.ArgAction.TheVariants.{Set}
@@ -26,6 +27,19 @@ file_added is local fresh_is adds = added (ap (λ (a : Arg). a.global) is ∙ lo
 -- one argument more, over the same command
 pub along : {app old new : App} (rule : Rule) → app ≡ with_argument old rule → old ≡ new → app ≡ with_argument new rule
 along rule is same = is ∙ ap (λ (a : App). with_argument a rule) same
+
+-- the last argument of a list is added last
+with_last : (app : App) (rules : List Rule) (rule : Rule) → with_arguments app (rules ++ rule ∷ []) ≡ with_argument (with_arguments app rules) rule
+with_last app [] rule = refl
+with_last app (first ∷ rules) rule = with_last (with_argument app first) rules rule
+
+-- one option more of a list of them
+pub option_more : {A : Type 0} (app old new : App) (rule : A → Rule) (options : List A) (i : ℕ) (d : A) → i < length options
+    → old ≡ with_arguments app (map rule (take i options)) → new ≡ with_argument old (rule (get_or options i d)) → new ≡ with_arguments app (map rule (take (i + 1) options))
+option_more app old new rule options i d inside before last =
+    let split : map rule (take (i + 1) options) ≡ map rule (take i options) ++ rule (get_or options i d) ∷ [] =
+    ap (map rule) (take_more options i d inside) ∙ map-append rule (take i options) (get_or options i d ∷ []) in
+    along _ last before ∙ sym (with_last app (map rule (take i options)) (rule (get_or options i d))) ∙ sym (ap (with_arguments app) split)
 
 pub all_along : (app old new : App) (rules : List Rule) → app ≡ with_arguments old rules → old ≡ new → app ≡ with_arguments new rules
 all_along app old new rules is same = is ∙ ap (λ (a : App). with_arguments a rules) same

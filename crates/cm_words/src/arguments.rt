@@ -1,5 +1,5 @@
 //! The command that parses the arguments.
-ghost use Rattle.std.specs.Prelude.{◌≡◌, IfOk};
+ghost use Rattle.std.specs.Prelude.{◌≡◌, IfOk, map};
 ghost use Rattle.clap.specs.Words.{app_of};
 ghost use Rattle.cm_words.specs.Command.{bare_app, build_options, cmph_app, file_options, file_rule, flags, option_rule, with_argument, with_arguments};
 
@@ -38,34 +38,59 @@ fn bare<'a>(alloc: Global) -> Command<'a>
         .disable_version_flag(true)
 }
 
+/// The command with these options more.
+fn with_options<'a>(
+    alloc: Global,
+    command: Command<'a>,
+    options: &[(&'a str, char, ArgAction)],
+) -> Result<Command<'a>, AllocError>
+    ensures { IfOk result (λ r. app_of r
+        ≡ with_arguments (app_of command.entry) (map (λ o. option_rule o.0.now o.1 o.2) options.now)) }
+{
+    let mut command = command;
+    for (id, letter, action) in options {
+        command = with_option(alloc, command, id, *letter, *action)?;
+    }
+    Ok(command)
+}
+
 fn with_flags<'a>(alloc: Global, command: Command<'a>) -> Result<Command<'a>, AllocError>
     ensures { IfOk result (λ r. app_of r ≡ with_arguments (app_of command.entry) flags) }
 {
-    let command = with_option(alloc, command, "help", 'h', ArgAction::SetTrue)?;
-    let command = with_option(alloc, command, "version", 'V', ArgAction::SetTrue)?;
-    let command = with_option(alloc, command, "verbose", 'v', ArgAction::Count)?;
-    with_option(alloc, command, "generate", 'g', ArgAction::SetTrue)
+    let flags = [
+        ("help", 'h', ArgAction::SetTrue),
+        ("version", 'V', ArgAction::SetTrue),
+        ("verbose", 'v', ArgAction::Count),
+        ("generate", 'g', ArgAction::SetTrue),
+    ];
+    with_options(alloc, command, &flags)
 }
 
 fn with_build_options<'a>(alloc: Global, command: Command<'a>) -> Result<Command<'a>, AllocError>
     ensures { IfOk result (λ r. app_of r ≡ with_arguments (app_of command.entry) build_options) }
 {
-    let command = with_option(alloc, command, "algorithm", 'a', ArgAction::Set)?;
-    let command = with_option(alloc, command, "bits", 'b', ArgAction::Set)?;
-    let command = with_option(alloc, command, "ratio", 'c', ArgAction::Set)?;
-    let command = with_option(alloc, command, "directory", 'd', ArgAction::Set)?;
-    let command = with_option(alloc, command, "hash", 'f', ArgAction::Set)?;
-    let command = with_option(alloc, command, "buffer", 'M', ArgAction::Set)?;
-    let command = with_option(alloc, command, "count", 'r', ArgAction::Set)?;
-    let command = with_option(alloc, command, "seed", 's', ArgAction::Set)?;
-    with_option(alloc, command, "test", 'T', ArgAction::Set)
+    let options = [
+        ("algorithm", 'a', ArgAction::Set),
+        ("bits", 'b', ArgAction::Set),
+        ("ratio", 'c', ArgAction::Set),
+        ("directory", 'd', ArgAction::Set),
+        ("hash", 'f', ArgAction::Set),
+        ("buffer", 'M', ArgAction::Set),
+        ("count", 'r', ArgAction::Set),
+        ("seed", 's', ArgAction::Set),
+        ("test", 'T', ArgAction::Set),
+    ];
+    with_options(alloc, command, &options)
 }
 
 fn with_file_options<'a>(alloc: Global, command: Command<'a>) -> Result<Command<'a>, AllocError>
     ensures { IfOk result (λ r. app_of r ≡ with_arguments (app_of command.entry) file_options) }
 {
-    let command = with_option(alloc, command, "first", 'k', ArgAction::Set)?;
-    let command = with_option(alloc, command, "function", 'm', ArgAction::Set)?;
+    let options = [
+        ("first", 'k', ArgAction::Set),
+        ("function", 'm', ArgAction::Set),
+    ];
+    let command = with_options(alloc, command, &options)?;
     with_file(alloc, command, "keys")
 }
 

@@ -1,9 +1,10 @@
 //! The job of the arguments.
-ghost use Rattle.std.specs.Prelude.{◌≡◌, ◌⊎◌, Err, IfErr, IfOk, IsOk, Ok, false, map, option_map, string_bytes, true};
-ghost use Rattle.clap.specs.Words.{found_of, rows_of};
+ghost use Rattle.std.specs.Prelude.{◌≡◌, ◌⊎◌, Err, IfErr, IfOk, IsNone, IsOk, Ok, codes, false, map, option_map, string_bytes, true};
+ghost use Rattle.clap.specs.Words.{first_of, found_of, rows_of};
 ghost use Rattle.cm_numbers.specs.Limits.{IsTestSize};
 ghost use Rattle.cm_words.specs.Limits.{AreValues, IsBuild, IsJob, IsTest};
-ghost use Rattle.cm_words.specs.Meaning.{build_of, directory_of, function_of, job_of, job_of_rows, query_of, test_of};
+ghost use Rattle.cm_words.specs.Meaning.{build_of, directory_of, function_of, job_of, job_of_rows, job_over, query_of, test_of};
+ghost use Rattle.cm_words.specs.Options.{is_build};
 
 use crate::arguments::command;
 use crate::values::{Values, all_values, counted, flag, text};
@@ -100,6 +101,27 @@ fn test_job(
     })
 }
 
+/// A build or a query, if the keys file is named.
+fn file_job(alloc: Global, matches: &ArgMatches<'_>, values: Values) -> Result<Job, UsageFault>
+    requires values { AreValues (is_build (rows_of (found_of matches.now))) values }
+    requires no_test { IsNone (first_of (codes "test") (rows_of (found_of matches.now))) }
+    ensures job { IfOk result (λ job. Ok job
+        ≡ job_over (first_of (codes "keys") (rows_of (found_of matches.now))) values (rows_of (found_of matches.now))) }
+    ensures fault { IfErr result (λ fault. (fault ≡ UsageFault.Memory)
+        ⊎ (Err fault ≡ job_over (first_of (codes "keys") (rows_of (found_of matches.now))) values (rows_of (found_of matches.now)))) }
+    ensures within { IfOk result IsJob }
+    ensures memory { result ≡ Err UsageFault.Memory → IsOk (job_over (first_of (codes "keys") (rows_of (found_of matches.now))) values (rows_of (found_of matches.now))) }
+{
+    let Some(keys) = text(matches, "keys") else {
+        return Err(UsageFault::NoFile);
+    };
+    if flag(matches, "generate") {
+        Ok(Job::Build(build_job(alloc, matches, values, keys)?))
+    } else {
+        Ok(Job::Query(query_job(alloc, matches, values, keys)?))
+    }
+}
+
 /// The job of the arguments that clap found.
 fn job(alloc: Global, matches: &ArgMatches<'_>) -> Result<Job, UsageFault>
     ensures job { IfOk result (λ job. Ok job ≡ job_of_rows (rows_of (found_of matches.now))) }
@@ -117,16 +139,9 @@ fn job(alloc: Global, matches: &ArgMatches<'_>) -> Result<Job, UsageFault>
         return Ok(Job::Version);
     }
     let values = all_values(matches)?;
-    if let Some(keys) = values.test {
-        return Ok(Job::Test(test_job(alloc, matches, values, keys)?));
-    }
-    let Some(keys) = text(matches, "keys") else {
-        return Err(UsageFault::NoFile);
-    };
-    if flag(matches, "generate") {
-        Ok(Job::Build(build_job(alloc, matches, values, keys)?))
-    } else {
-        Ok(Job::Query(query_job(alloc, matches, values, keys)?))
+    match values.test {
+        Some(keys) => Ok(Job::Test(test_job(alloc, matches, values, keys)?)),
+        None => file_job(alloc, matches, values),
     }
 }
 

@@ -1,10 +1,4 @@
-use Rattle.std.proofs.lemmas.Result.{IfOk-weaker}
-use Rattle.cm_words.proofs.CommandLemmas.{along}
 use Rattle.cm_words.proofs.arguments.with_flags.Goals as goal
 
 pub returns : goal.returns
-returns c = IfOk-weaker c.with_option-4.result _ _ (λ last is. along _ is
-    (along _ c.in_ok-command-3.ensures
-    (along _ c.in_ok-command-2.ensures
-    c.in_ok-command.ensures)))
-    c.with_option-4.ensures
+returns c = c.with_options.ensures

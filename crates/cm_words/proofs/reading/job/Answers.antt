@@ -1,14 +1,9 @@
-use Rattle.std.proofs.Common.{◌≡◌, ◌∙◌, true, Bool, false, arith, codes, is_none, is_some, refl, sym, ap, subst}
-use Rattle.clap.specs.Words.{first_of, found_of, rows_of}
-use Rattle.cm_words.specs.Limits.{AreValues}
-use Rattle.cm_words.specs.Options.{is_build, is_set}
+use Rattle.std.proofs.Common.{◌≡◌, ◌∙◌, true, codes, refl, sym}
+use Rattle.clap.specs.Words.{found_of, rows_of}
+use Rattle.cm_words.specs.Options.{is_set}
 use Rattle.cm_words.proofs.reading.job.Goals as goal
 
-pub build_job-requires : goal.build_job-requires
-build_job-requires c =
-    let rows = rows_of (found_of c.args.matches.now) in
-    let set : is_set (codes "generate") rows ≡ true = sym c.flag-3.ensures ∙ c.if-flag-3.true in
-    let missing : is_some (first_of (codes "test") rows) ≡ false = c.in_ok-values.ensures.no_test (ap is_some c.in_default.is) in
-    let none : is_none (first_of (codes "test") rows) ≡ true = grind (arith, missing) in
-    let builds : is_build rows ≡ true = rw (set, none) refl in
-    subst (λ (b : Bool). AreValues b c.in_ok-values.values) builds c.in_ok-values.ensures.within
+pub returns-then-flag-clause-job : goal.returns-then-flag-clause-job
+returns-then-flag-clause-job c =
+    let help : is_set (codes "help") (rows_of (found_of c.args.matches.now)) ≡ true = sym c.flag.ensures ∙ c.if-flag.true in
+    rw help refl
