@@ -1,5 +1,5 @@
 -- Passes over keys that gather the edges at some places.
-use Rattle.std.proofs.Common.{◌≡◌, ◌∙◌, ℕ, ◌+◌, ◌<◌, ◌≤◌, All, Bool, true, false, cond, List, [], ◌∷◌, ◌++◌, length, map, filter, take, drop, get_or, Some, Result, Ok, Err, IfErr, IsErrAnd, ap, sym, subst, arith, inl, refl, length-drop, add-zero, append-nil, slice_get}
+use Rattle.std.proofs.Common.{◌≡◌, ◌∙◌, ℕ, ◌+◌, ◌<◌, ◌≤◌, All, Bool, true, false, cond, List, [], ◌∷◌, ◌++◌, length, map, filter, take, drop, get_or, None, Some, Result, Ok, Err, IfErr, IsErrAnd, ap, sym, subst, arith, inl, refl, length-drop, add-zero, append-nil, slice_get}
 use Rattle.std.proofs.lemmas.Bool.{false≢true}
 use Rattle.std.proofs.lemmas.List.{get_or-drop, map_more, take_all, take_more}
 use Rattle.std.proofs.lemmas.Option.{get_or_from_slice_get}
@@ -29,9 +29,9 @@ refused_at_end told m before now line key (TooLong at) is gives = (omega (arith,
 refused_at_end told m before now line key TooMany is gives = (omega (arith, is, gives.all), gives.fault_is)
 
 -- a pass that comes to the end of the keys after n of them has yielded all
-pub ended_at : (told : Told) (m before now line : ℕ) (key : List ℕ) (more : Bool) → before ≡ m → more ≡ false → GivesKey told before now line key (Ok more) → length told.keys ≡ m
+pub ended_at : (told : Told) (m before now line : ℕ) (key : List ℕ) (more : Bool) → before ≡ m → more ≡ false → GivesKey told before now line key (Ok more) → (length told.keys ≡ m) × (told.fault ≡ None)
 ended_at told m before now line key true is none gives = absurd (false≢true (sym none))
-ended_at told m before now line key false is none gives = sym gives.all ∙ is
+ended_at told m before now line key false is none gives = (sym gives.all ∙ is, gives.fault_is)
 
 -- a pass that yields a key after n of them has more of them
 pub more_than : (told : Told) (m before now line : ℕ) (key : List ℕ) (more : Bool) → before ≡ m → more ≡ true → GivesKey told before now line key (Ok more) → AreOthers told m (m + 1)

@@ -1,11 +1,12 @@
 //! What a pass over the keys shows of a 2-core.
-ghost use Rattle.std.specs.Prelude.{◌≡◌, ◌<◌, ◌≤◌, ◌+◌, ℕ, List, length, All, is_some, Some, None, Ok, true, false, if◌then◌else◌, IfOk, IfErr, OnOk, IsTrue};
+ghost use Rattle.std.specs.Prelude.{◌≡◌, ◌<◌, ◌≤◌, ◌+◌, ℕ, List, [], length, All, is_some, Some, None, Ok, true, false, if◌then◌else◌, IfOk, IfErr, OnOk, IsTrue};
 ghost use Rattle.std.specs.List.Sorted.{IsStrictlyIncreasing};
 ghost use Rattle.std.specs.Option.{ForSome};
 ghost use Rattle.cm_outer.specs.Passes.{HasKeyCause, GivesKey};
+ghost use Rattle.cm_witness.specs.Candidates.{FindsEqual, is_twice};
 ghost use Rattle.cm_witness.specs.Cores.{EqualKeysMeet, core_edge as core_edge_of, core_edges, keys_at};
 ghost use Rattle.cm_witness.specs.Gathers.{FailsGather, HasGatherCause, HasOther, ends_of, has_buckets, has_third};
-ghost use Rattle.cm_witness.specs.Noted.{TakesKey};
+ghost use Rattle.cm_witness.specs.Noted.{AreNoted, TakesKey};
 ghost use Rattle.cm_witness.specs.Pairs.{pairs};
 ghost use Rattle.cm_witness.specs.declared.certificate.GatherFault.TheVariants as gather_fault;
 
@@ -161,6 +162,79 @@ fn core_edge<const K: usize>(line: u32, ends: [u32; K]) -> CoreEdge
     }
 }
 
+/// Passes the keys from place `from` up to the last, which are to be `m` in all. Fails as `Changed` if there are fewer, or more. The
+/// buffer is scratch space.
+fn pass_to_end<P: KeyPass>(
+    keys: &mut P,
+    key: &mut KeyBuf,
+    from: u32,
+    m: u32,
+) -> Result<(), GatherFault>
+    requires usable { IsTrue (P.usable keys.old) }
+    requires at { P.place keys.old ≡ from }
+    requires within { from ≤ m }
+    requires few { m ≤ 67108864 }
+    ensures told { P.told keys.new ≡ P.told keys.old }
+    ensures cause { HasGatherCause (P.faults keys.old) (P.faults keys.new) result }
+    ensures given { OnOk result (P.place keys.new ≡ m) }
+    ensures end { OnOk result (ForSome (P.told keys.old) (λ told. (length told.keys ≡ m) × (told.fault ≡ None))) }
+    ensures changed { IfErr result (HasOther m (P.place keys.new)) }
+    ensures fault { IfErr result (λ fault. ForSome (P.told keys.old) (λ told. FailsGather told m fault)) }
+{
+    pass_keys(keys, key, from, m, m)?;
+    if keys.next(key)? {
+        return Err(GatherFault::Changed {
+            first: m,
+            now: m + 1,
+        });
+    }
+    Ok(())
+}
+
+/// The edges at the places `rest`, each with the line of its key, from one pass over all keys: one for each edge. The keys of candidates
+/// are noted. Fails as `Changed` if there are fewer keys than edges, or more. The buffer is scratch space.
+fn gather_edges<P: KeyPass, const K: usize>(
+    alloc: Global,
+    keys: &mut P,
+    key: &mut KeyBuf,
+    edges: &Edges<K>,
+    rest: &[u32],
+    candidates: &Candidates,
+    equal: &mut EqualKeys,
+) -> Result<Vec<CoreEdge>, GatherFault>
+    requires width { (2 ≤ K) × (K ≤ 3) }
+    requires rising { IsStrictlyIncreasing rest.now }
+    requires inside { All (λ e. e < length edges.now.edges) rest.now }
+    requires equal_keys { ForSome (P.told keys.old) (λ told. EqualKeysMeet told.keys edges.now.edges) }
+    requires finds { FindsEqual (is_twice candidates.now) edges.now.edges rest.now }
+    requires none { AreNoted [] equal.old.firsts equal.old.pairs.items }
+    ensures told { P.told keys.new ≡ P.told keys.old }
+    ensures cause { HasGatherCause (P.faults keys.old) (P.faults keys.new) result }
+    ensures count { IfOk result (λ core. length core.items ≡ length rest.now) }
+    ensures third { (algorithm : Algorithm) → K ≡ ends_of algorithm → IfOk result (λ core. All (λ e. is_some e.third ≡ has_third algorithm) core.items) }
+    ensures given { OnOk result (P.place keys.new ≡ length edges.now.edges) }
+    ensures end { OnOk result (ForSome (P.told keys.old) (λ told. (length told.keys ≡ length edges.now.edges) × (told.fault ≡ None))) }
+    ensures edges { IfOk result (λ core. ForSome (P.told keys.old) (λ told. core.items ≡ core_edges told.keys edges.now.edges rest.now)) }
+    ensures equal { OnOk result (ForSome (P.told keys.old) (λ told. equal.new.pairs.items ≡ pairs (keys_at told.keys rest.now))) }
+    ensures changed { IfErr result (HasOther (length edges.now.edges) (P.place keys.new)) }
+    ensures fault { IfErr result (λ fault. ForSome (P.told keys.old) (λ told. FailsGather told (length edges.now.edges) fault)) }
+{
+    let m = edges.len();
+    let mut core = Vec::with_capacity(alloc, rest.len())?;
+    keys.rewind()?;
+    let mut given = 0;
+    for e in rest {
+        pass_keys(keys, key, given, *e, m)?;
+        let ends = edges.ends(*e);
+        let candidate = candidates.twice(ends);
+        let line = take_key(alloc, keys, key, *e, m, candidate, equal)?;
+        core.push_reserved(core_edge(line, ends));
+        given = *e + 1;
+    }
+    pass_to_end(keys, key, given, m)?;
+    Ok(core)
+}
+
 /// The certificate of the edges at the places `rest`, which are those of a 2-core, from one pass over all keys: one for each edge. Of
 /// the keys at these places it keeps those that may equal another one there, equal ones once: those whose edge has the ends of another,
 /// and few others. To find them, it takes 4 bytes an edge of the core; to find equal ones, 8 bytes for each of these keys, and 16 for
@@ -235,27 +309,9 @@ pub fn gather_with<P: KeyPass, const K: usize>(
     ensures equal { IfOk result (λ made. ForSome (P.told keys.old) (λ told. made.equal.items ≡ pairs (keys_at told.keys rest.now))) }
     ensures fault { IfErr result (λ fault. ForSome (P.told keys.old) (λ told. FailsGather told (length edges.now.edges) fault)) }
 {
-    let m = edges.len();
     let candidates = Candidates::among(alloc, edges, rest)?;
     let mut equal = EqualKeys::new(alloc, candidates.count(edges, rest))?;
-    let mut core = Vec::with_capacity(alloc, rest.len())?;
-    keys.rewind()?;
-    let mut given = 0;
-    for e in rest {
-        pass_keys(keys, key, given, *e, m)?;
-        let ends = edges.ends(*e);
-        let candidate = candidates.twice(ends);
-        let line = take_key(alloc, keys, key, *e, m, candidate, &mut equal)?;
-        core.push_reserved(core_edge(line, ends));
-        given = *e + 1;
-    }
-    pass_keys(keys, key, given, m, m)?;
-    if keys.next(key)? {
-        return Err(GatherFault::Changed {
-            first: m,
-            now: m + 1,
-        });
-    }
+    let core = gather_edges(alloc, keys, key, edges, rest, &candidates, &mut equal)?;
     Ok(Certificate {
         algorithm,
         seed,

@@ -1,10 +1,11 @@
 use Rattle.std.proofs.Common.{◌≡◌, ◌<◌, ◌≤◌, All, is_some, length, slice_index, take, true, vec_capacity}
 use Rattle.std.specs.Option.{ForSome}
+use Rattle.cm_algorithm.specs.declared.algorithm.Algorithm.{Algorithm}
 use Rattle.cm_witness.specs.Cores.{core_edges, keys_at}
-use Rattle.cm_witness.specs.Gathers.{has_third}
+use Rattle.cm_witness.specs.Gathers.{ends_of, has_third}
 use Rattle.cm_witness.specs.Noted.{AreNoted}
 use Rattle.cm_witness.proofs.GatherLemmas.{candidates_in}
-use Rattle.cm_witness.proofs.gathering.gather_with.Given as goal
+use Rattle.cm_witness.proofs.gathering.gather_edges.Given as goal
 
 abbrev pub invariant-loop-e : goal.invariant-loop-e
 invariant-loop-e g l =
@@ -18,7 +19,7 @@ invariant-loop-e g l =
       ahead : l.e-index < length l.rest → l.given ≤ slice_index l.rest l.e-index;
       room : length l.rest ≤ vec_capacity l.core;
       count : length l.core.items ≡ l.e-index;
-      third : All (λ e. is_some e.third ≡ has_third l.algorithm) l.core.items;
+      third : (algorithm : Algorithm) → g.row.K ≡ ends_of algorithm → All (λ e. is_some e.third ≡ has_third algorithm) l.core.items;
       edges : ForSome (P.told l.fn.keys) (λ told. l.core.items ≡ core_edges told.keys l.edges.edges (take l.e-index l.rest));
-      noted : ForSome (P.told l.fn.keys) (λ told. AreNoted (keys_at told.keys (candidates_in l.candidates-inside.words.items l.edges.edges (take l.e-index l.rest))) l.equal.firsts l.equal.pairs.items);
+      noted : ForSome (P.told l.fn.keys) (λ told. AreNoted (keys_at told.keys (candidates_in l.candidates l.edges.edges (take l.e-index l.rest))) l.equal.firsts l.equal.pairs.items);
     }
