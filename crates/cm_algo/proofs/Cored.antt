@@ -1,5 +1,5 @@
 -- Builds that fail.
-use Rattle.std.proofs.Common.{◌≡◌, ◌≢◌, ◌∙◌, ℕ, ◌<◌, List, [], length, get_or, Option, None, Result, Ok, Err, IfOk, IfErr, IsErrAnd, false, inl, inr, refl, ap, sym, subst, arith}
+use Rattle.std.proofs.Common.{◌≡◌, ◌≢◌, ◌∙◌, ℕ, ◌<◌, ◌≤◌, List, [], length, get_or, Option, None, Result, Ok, Err, IfOk, IfErr, IsErrAnd, false, inl, inr, refl, ap, sym, subst, arith}
 use Rattle.std.specs.Option.{ForSome}
 use Rattle.cm_algorithm.specs.declared.algorithm.Algorithm.{Algorithm}
 use Rattle.cm_algorithm.specs.declared.algorithm.Algorithm.TheVariants.{Chm, Bdz, BdzPh, Brz}
@@ -10,12 +10,13 @@ use Rattle.cm_spec.specs.Built.{graph_of}
 use Rattle.cm_spec.specs.Rounds.{rest_of}
 use Rattle.cm_spec.specs.Rule.{Rule}
 use Rattle.cm_witness.specs.Cores.{core_edges, keys_at}
-use Rattle.cm_witness.specs.Gathers.{FailsGather, ends_of, has_buckets}
+use Rattle.cm_witness.specs.Gathers.{FailsGather, HasGatherCause, HasOther, ends_of, has_buckets}
 use Rattle.cm_witness.specs.Pairs.{pairs}
 use Rattle.cm_witness.specs.declared.certificate.Certificate.{Certificate}
 use Rattle.cm_witness.specs.declared.certificate.GatherFault.{GatherFault}
 use Rattle.cm_witness.specs.declared.certificate.GatherFault.TheVariants as gather_fault
-use Rattle.cm_algo.specs.Fails.{FailsBuild, ShowsCore, build_fault_of}
+use Rattle.cm_algo.specs.Fails.{FailsBuild, FoundEqual, HasBuildCause, HasForm, HasNumbers, ShowsCore, build_fault_of}
+use Rattle.cm_algo.specs.declared.fault.BuildFault.{BuildFault}
 use Rattle.cm_algo.specs.declared.fault.BuildFault.TheVariants.{Cored}
 use Rattle.cm_algo.proofs.OneSeed.{all_cored, none_chosen}
 
@@ -68,3 +69,29 @@ fails_pass r told c seeds m (gather_fault.Changed first now) many (inr fewer) = 
 pub handed_on : {T E : Type 0} (result : Result T E) (fault : E) (F : E → Type 0) → IsErrAnd result (λ e. e ≡ fault) → F fault → IfErr result F
 handed_on (Ok x) fault F is holds = absurd is
 handed_on (Err e) fault F is holds = subst F (sym is) holds
+
+-- a pass that failed has no certificate: its numbers are those of the pass, and it found no equal keys
+pub numbers_of : (m place : ℕ) (fault : GatherFault) → 1 ≤ m → HasOther m place fault → HasNumbers place (build_fault_of fault)
+numbers_of m place gather_fault.Memory some other = tt
+numbers_of m place (gather_fault.Key fault) some other = tt
+numbers_of m place (gather_fault.Changed first now) some other = (omega (arith, other.0), other.1)
+
+pub no_form : (algorithm : Algorithm) (seed : ℕ) (fault : GatherFault) → HasForm algorithm seed (build_fault_of fault)
+no_form algorithm seed gather_fault.Memory = tt
+no_form algorithm seed (gather_fault.Key fault) = tt
+no_form algorithm seed (gather_fault.Changed first now) = tt
+
+pub none_found : (fault : GatherFault) → FoundEqual (build_fault_of fault) → ⊥
+none_found gather_fault.Memory found = found
+none_found (gather_fault.Key fault) found = found
+none_found (gather_fault.Changed first now) found = found
+
+-- and its cause is that of the pass
+cause_of : (U : Type 0) (before now : ℕ) (fault : GatherFault) → HasGatherCause {T = Unit {0}} before now (Err fault) → HasBuildCause {T = U} before now (Err (build_fault_of fault))
+cause_of U before now gather_fault.Memory cause = cause
+cause_of U before now (gather_fault.Key fault) cause = cause
+cause_of U before now (gather_fault.Changed first again) cause = cause
+
+pub cause_on : (U : Type 0) (before now : ℕ) (result : Result U BuildFault) (fault : GatherFault) → IsErrAnd result (λ e. e ≡ build_fault_of fault) → HasGatherCause {T = Unit {0}} before now (Err fault) → HasBuildCause {T = U} before now result
+cause_on U before now (Ok x) fault is cause = absurd is
+cause_on U before now (Err e) fault is cause = subst (λ (e : BuildFault). HasBuildCause {T = U} before now (Err e)) (sym is) (cause_of U before now fault cause)

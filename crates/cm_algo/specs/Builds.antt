@@ -1,6 +1,7 @@
 -- The result of a build over numbered keys.
-use Rattle.std.specs.Prelude.{◌≡◌, ◌≢◌, ℕ, ◌+◌, ◌*◌, ◌≤◌, List, [], length, None, Some}
+use Rattle.std.specs.Prelude.{◌≡◌, ◌≢◌, ℕ, ◌+◌, ◌*◌, ◌≤◌, List, [], Contains, count_by, length, None, Some}
 use Rattle.cm_outer.specs.Passes.{Told}
+use Rattle.cm_spec.specs.Cells.{is_busy}
 use Rattle.cm_spec.specs.Rounds.{rest_of}
 use Rattle.cm_spec.specs.Rule.{Rule}
 use Rattle.cm_spec.specs.Built.{graph_of, cells_under, first_seed, IsFirst}
@@ -18,6 +19,14 @@ pub record IsBuilt (r : Rule) (keys : List (ℕ × List ℕ)) (c : ℕ) (seeds :
   pub first : IsFirst r keys c seeds place seed
   pub cells_are : cells ≡ cells_under r keys c seed
   pub steps : after ≤ before + 8 * (k * length keys) * (place + 1)
+
+-- the numbers and the table of a function, whatever the keys are: it was built at this ratio under a seed of the list, and its table has
+-- the bound and the cells that the rule gives this many keys
+pub record IsMade (r : Rule) (c : ℕ) (seeds : List ℕ) (m ratio seed bound : ℕ) (cells : List ℕ) : Type 0 where
+  pub many : (1 ≤ m) × (m ≤ 16777216) × (ratio ≡ c)
+  pub sizes : (bound ≡ r.bound m) × (length cells ≡ r.size m c)
+  pub busy : r.modulus m ≤ r.idle → count_by (is_busy r.idle) cells ≡ m
+  pub chosen : Contains seeds seed
 
 -- one seed: the keys have come to their end without a fault, this is their graph, and peeling leaves an edge of it
 pub record IsLeft (r : Rule) (told : Told) (c seed : ℕ) (edges : List (List ℕ)) : Type 0 where

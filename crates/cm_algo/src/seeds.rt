@@ -8,7 +8,7 @@ ghost use Rattle.cm_spec.specs.Rounds.{rest_of};
 ghost use Rattle.cm_spec.specs.Rule.{IsCount, IsRatio, IsSize};
 ghost use Rattle.cm_witness.specs.Cores.{EqualKeysMeet};
 ghost use Rattle.cm_witness.specs.Gathers.{FailsGather, HasGatherCause, HasOther};
-ghost use Rattle.cm_algo.specs.Builds.{IsGiven, IsBuilt, IsLeft};
+ghost use Rattle.cm_algo.specs.Builds.{IsGiven, IsBuilt, IsLeft, IsMade};
 ghost use Rattle.cm_algo.specs.Fails.{FailsBuild, FoundEqual, HasBuildCause, HasForm, HasNumbers, ShowsCore};
 ghost use Rattle.cm_algo.specs.declared.fault.BuildFault.TheVariants as build_fault;
 
@@ -130,20 +130,11 @@ pub fn build<S: Scheme<K>, I: Incidence<K> + Drop, P: KeyPass, const K: usize, L
     ensures early { IfErr result (λ e. FoundEqual e → ForSome (P.told keys.old) (λ told. steps.new ≤ steps.old + 8 * (K * length told.keys))) }
 {
     let mut key = KeyBuf::new();
-    let left = match build_first::<S, I, P, K, L>(alloc, scheme, keys, &mut key, c, seeds, steps)? {
-        Ok(built) => return Ok(built),
-        Err(left) => left,
-    };
-    let m = left.edges.len();
-    let certificate = certify::<S, P, K>(alloc, scheme, keys, &mut key, seeds[0], &left)?;
-    drop(left);
-    // Equal keys have equal edges, so that no other seed works.
-    if !certificate.equal.is_empty() {
-        return Err(BuildFault::Cored(certificate));
-    }
-    match build_later::<S, I, P, K, L>(alloc, scheme, keys, &mut key, m, c, seeds, steps)? {
-        Some(built) => Ok(built),
-        None => Err(BuildFault::Cored(certificate)),
+    match build_first::<S, I, P, K, L>(alloc, scheme, keys, &mut key, c, seeds, steps)? {
+        Ok(built) => Ok(built),
+        Err(left) => certify_first::<S, I, P, K, L>(
+            alloc, scheme, keys, &mut key, c, seeds, left, steps,
+        ),
     }
 }
 
@@ -173,16 +164,10 @@ pub fn build_with<S: Scheme<K>, I: Incidence<K> + Drop, P: KeyPass, const K: usi
     ensures certificate { IfErr result (HasForm (S.algorithm_of scheme.now) (slice_index seeds.now 0)) }
     ensures steps { ForSome (P.told keys.old) (λ told. steps.new ≤ steps.old + 8 * (K * length told.keys) * length seeds.now) }
 {
-    let left = match build_first::<S, I, P, K, L>(alloc, scheme, keys, key, c, seeds, steps)? {
-        Ok(built) => return Ok(built),
-        Err(left) => left,
-    };
-    let m = left.edges.len();
-    match build_later::<S, I, P, K, L>(alloc, scheme, keys, key, m, c, seeds, steps)? {
-        Some(built) => Ok(built),
-        None => {
-            let certificate = certify::<S, P, K>(alloc, scheme, keys, key, seeds[0], &left)?;
-            Err(BuildFault::Cored(certificate))
+    match build_first::<S, I, P, K, L>(alloc, scheme, keys, key, c, seeds, steps)? {
+        Ok(built) => Ok(built),
+        Err(left) => {
+            certify_last::<S, I, P, K, L>(alloc, scheme, keys, key, c, seeds, left, steps)
         }
     }
 }
@@ -202,10 +187,7 @@ fn build_first<S: Scheme<K>, I: Incidence<K> + Drop, P: KeyPass, const K: usize,
     requires some { 0 < length seeds.now }
     ensures told { P.told keys.new ≡ P.told keys.old }
     ensures cause { HasBuildCause (P.faults keys.old) (P.faults keys.new) result }
-    ensures many { IfOk result (λ o. IfOk o (λ b. (1 ≤ b.m) × (b.m ≤ 16777216) × (b.c ≡ c))) }
-    ensures cells { IfOk result (λ o. IfOk o (λ b. (S.Table.bound_of b.cells ≡ (S.rule scheme.now).bound b.m) × (length (S.Table.cells b.cells) ≡ (S.rule scheme.now).size b.m c))) }
-    ensures busy { IfOk result (λ o. IfOk o (λ b. (S.rule scheme.now).modulus b.m ≤ (S.rule scheme.now).idle → count_by (is_busy (S.rule scheme.now).idle) (S.Table.cells b.cells) ≡ b.m)) }
-    ensures seed { IfOk result (λ o. IfOk o (λ b. Contains seeds.now b.seed)) }
+    ensures made { IfOk result (λ o. IfOk o (λ b. IsMade (S.rule scheme.now) c seeds.now b.m b.c b.seed (S.Table.bound_of b.cells) (S.Table.cells b.cells))) }
     ensures first { IfOk result (λ o. IfOk o (λ b. ForSome (P.told keys.old) (λ told. (told.fault ≡ None) × IsBuilt (S.rule scheme.now) told.keys c seeds.now b.m b.seed (S.Table.cells b.cells) K steps.old steps.new))) }
     ensures peeled { IfOk result (λ o. IfErr o (λ left. left.peeled.rest ≡ rest_of left.edges.edges)) }
     ensures long { IfOk result (λ o. IfErr o (λ left. (1 ≤ length left.edges.edges) × (length left.edges.edges ≤ 16777216))) }
@@ -244,10 +226,7 @@ fn build_later<S: Scheme<K>, I: Incidence<K> + Drop, P: KeyPass, const K: usize,
     requires left { ForSome (P.told keys.old) (λ told. rest_of (graph_of (S.rule scheme.now) told.keys c (slice_index seeds.now 0)) ≢ []) }
     ensures told { P.told keys.new ≡ P.told keys.old }
     ensures cause { HasGatherCause (P.faults keys.old) (P.faults keys.new) result }
-    ensures many { IfOk result (λ o. IfSome o (λ b. (b.m ≡ m) × (b.c ≡ c))) }
-    ensures cells { IfOk result (λ o. IfSome o (λ b. (S.Table.bound_of b.cells ≡ (S.rule scheme.now).bound b.m) × (length (S.Table.cells b.cells) ≡ (S.rule scheme.now).size b.m c))) }
-    ensures busy { IfOk result (λ o. IfSome o (λ b. (S.rule scheme.now).modulus b.m ≤ (S.rule scheme.now).idle → count_by (is_busy (S.rule scheme.now).idle) (S.Table.cells b.cells) ≡ b.m)) }
-    ensures seed { IfOk result (λ o. IfSome o (λ b. Contains seeds.now b.seed)) }
+    ensures made { IfOk result (λ o. IfSome o (λ b. IsMade (S.rule scheme.now) c seeds.now b.m b.c b.seed (S.Table.bound_of b.cells) (S.Table.cells b.cells))) }
     ensures first { (before : ℕ) → steps.old ≤ before + 8 * (K * m) →
         IfOk result (λ o. IfSome o (λ b. ForSome (P.told keys.old) (λ told. IsBuilt (S.rule scheme.now) told.keys c seeds.now b.m b.seed (S.Table.cells b.cells) K before steps.new))) }
     ensures none { IfOk result (λ o. IfNone o (ForSome (P.told keys.old) (λ told. (j : ℕ) → j < length seeds.now → rest_of (graph_of (S.rule scheme.now) told.keys c (slice_index seeds.now j)) ≢ []))) }
@@ -263,4 +242,82 @@ fn build_later<S: Scheme<K>, I: Incidence<K> + Drop, P: KeyPass, const K: usize,
         }
     }
     Ok(None)
+}
+
+/// The end of `build`, after the first seed left a 2-core: gathers its certificate, and then tries the other seeds if no two of its keys
+/// are equal. `steps` has counted those of the first seed. The buffer is scratch space.
+fn certify_first<S: Scheme<K>, I: Incidence<K> + Drop, P: KeyPass, const K: usize, L: Ledger>(
+    alloc: Global,
+    scheme: &S,
+    keys: &mut P,
+    key: &mut KeyBuf,
+    c: u32,
+    seeds: &[u32],
+    left: Left<K>,
+    steps: &mut Steps<L>,
+) -> Result<Built<S::Table>, BuildFault>
+    requires ratio { IsRatio c }
+    requires some { 0 < length seeds.now }
+    requires many { (1 ≤ length left.edges.edges) × (length left.edges.edges ≤ 16777216) }
+    requires peeled { left.peeled.rest ≡ rest_of left.edges.edges }
+    requires left { ForSome (P.told keys.old) (λ told. IsLeft (S.rule scheme.now) told c (slice_index seeds.now 0) left.edges.edges) }
+    ensures told { P.told keys.new ≡ P.told keys.old }
+    ensures cause { HasBuildCause (P.faults keys.old) (P.faults keys.new) result }
+    ensures made { IfOk result (λ b. IsMade (S.rule scheme.now) c seeds.now b.m b.c b.seed (S.Table.bound_of b.cells) (S.Table.cells b.cells)) }
+    ensures first { IfOk result (λ b. ForSome (P.told keys.old) (λ told. (before : ℕ) → steps.old ≤ before + 8 * (K * length told.keys) →
+        (told.fault ≡ None) × IsBuilt (S.rule scheme.now) told.keys c seeds.now b.m b.seed (S.Table.cells b.cells) K before steps.new)) }
+    ensures fault { IfErr result (λ e. ForSome (P.told keys.old) (λ told. FailsBuild (S.rule scheme.now) told c seeds.now e)) }
+    ensures numbers { IfErr result (HasNumbers (P.place keys.new)) }
+    ensures certificate { IfErr result (HasForm (S.algorithm_of scheme.now) (slice_index seeds.now 0)) }
+    ensures steps { ForSome (P.told keys.old) (λ told. (before : ℕ) → steps.old ≤ before + 8 * (K * length told.keys) → steps.new ≤ before + 8 * (K * length told.keys) * length seeds.now) }
+    ensures early { IfErr result (λ e. FoundEqual e → steps.new ≡ steps.old) }
+{
+    let m = left.edges.len();
+    let certificate = certify::<S, P, K>(alloc, scheme, keys, key, seeds[0], &left)?;
+    drop(left);
+    // Equal keys have equal edges, so that no other seed works.
+    if !certificate.equal.is_empty() {
+        return Err(BuildFault::Cored(certificate));
+    }
+    match build_later::<S, I, P, K, L>(alloc, scheme, keys, key, m, c, seeds, steps)? {
+        Some(built) => Ok(built),
+        None => Err(BuildFault::Cored(certificate)),
+    }
+}
+
+/// The end of `build_with`, after the first seed left a 2-core: tries the other seeds, and gathers its certificate if none works. `steps`
+/// has counted those of the first seed. The buffer is scratch space.
+fn certify_last<S: Scheme<K>, I: Incidence<K> + Drop, P: KeyPass, const K: usize, L: Ledger>(
+    alloc: Global,
+    scheme: &S,
+    keys: &mut P,
+    key: &mut KeyBuf,
+    c: u32,
+    seeds: &[u32],
+    left: Left<K>,
+    steps: &mut Steps<L>,
+) -> Result<Built<S::Table>, BuildFault>
+    requires ratio { IsRatio c }
+    requires some { 0 < length seeds.now }
+    requires many { (1 ≤ length left.edges.edges) × (length left.edges.edges ≤ 16777216) }
+    requires peeled { left.peeled.rest ≡ rest_of left.edges.edges }
+    requires left { ForSome (P.told keys.old) (λ told. IsLeft (S.rule scheme.now) told c (slice_index seeds.now 0) left.edges.edges) }
+    ensures told { P.told keys.new ≡ P.told keys.old }
+    ensures cause { HasBuildCause (P.faults keys.old) (P.faults keys.new) result }
+    ensures made { IfOk result (λ b. IsMade (S.rule scheme.now) c seeds.now b.m b.c b.seed (S.Table.bound_of b.cells) (S.Table.cells b.cells)) }
+    ensures first { IfOk result (λ b. ForSome (P.told keys.old) (λ told. (before : ℕ) → steps.old ≤ before + 8 * (K * length told.keys) →
+        (told.fault ≡ None) × IsBuilt (S.rule scheme.now) told.keys c seeds.now b.m b.seed (S.Table.cells b.cells) K before steps.new)) }
+    ensures fault { IfErr result (λ e. ForSome (P.told keys.old) (λ told. FailsBuild (S.rule scheme.now) told c seeds.now e)) }
+    ensures numbers { IfErr result (HasNumbers (P.place keys.new)) }
+    ensures certificate { IfErr result (HasForm (S.algorithm_of scheme.now) (slice_index seeds.now 0)) }
+    ensures steps { ForSome (P.told keys.old) (λ told. (before : ℕ) → steps.old ≤ before + 8 * (K * length told.keys) → steps.new ≤ before + 8 * (K * length told.keys) * length seeds.now) }
+{
+    let m = left.edges.len();
+    match build_later::<S, I, P, K, L>(alloc, scheme, keys, key, m, c, seeds, steps)? {
+        Some(built) => Ok(built),
+        None => {
+            let certificate = certify::<S, P, K>(alloc, scheme, keys, key, seeds[0], &left)?;
+            Err(BuildFault::Cored(certificate))
+        }
+    }
 }

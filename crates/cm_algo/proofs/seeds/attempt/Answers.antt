@@ -1,4 +1,4 @@
-use Rattle.std.proofs.Common.{rules, arith, ◌≡◌, ℕ, [], List, length, sym, ap, ◌∙◌}
+use Rattle.std.proofs.Common.{rules, arith, ◌≡◌, ◌≤◌, ℕ, ◌+◌, ◌*◌, [], List, length, sym, subst, ap, ◌∙◌}
 use Rattle.cm_spec.specs.Cells.{plan_of, cells_of}
 use Rattle.cm_spec.specs.Rounds.{rest_of}
 use Rattle.cm_spec.specs.Rule.{IsCount, IsSize}
@@ -36,3 +36,15 @@ pub returns-else-is_empty-clause-left : goal.returns-else-is_empty-clause-left
 returns-else-is_empty-clause-left g c = λ told is.
     let size : c.in_ok-edges.edges.vertices ≡ (g.S.Scheme.rule c.args.scheme.now).size c.args.m c.args.c = c.in_ok-edges.ensures.vertices ∙ c.size.ensures.size in
     graph_from (g.S.Scheme.rule c.args.scheme.now) told.keys c.args.m c.args.c c.args.seed c.in_ok-edges.edges.vertices c.hash_all.new.edges.edges size (c.in_ok-hash_all.ensures.edges told is) c.in_ok-hash_all.ensures.long
+
+pub returns-in_err-peeled-clause-steps : goal.returns-in_err-peeled-clause-steps
+returns-in_err-peeled-clause-steps g c = subst (λ (m : ℕ). c.peel_without_levels.new.steps ≤ c.args.steps.now + 8 * (g.row.K * m)) c.in_ok-hash_all.ensures.long c.peel_without_levels.ensures.steps
+
+pub returns-in_err-table-clause-steps : goal.returns-in_err-table-clause-steps
+returns-in_err-table-clause-steps g c = subst (λ (m : ℕ). c.peel_without_levels.new.steps ≤ c.args.steps.now + 8 * (g.row.K * m)) c.in_ok-hash_all.ensures.long c.peel_without_levels.ensures.steps
+
+pub returns-in_ok-table-clause-steps : goal.returns-in_ok-table-clause-steps
+returns-in_ok-table-clause-steps g c = subst (λ (m : ℕ). c.peel_without_levels.new.steps ≤ c.args.steps.now + 8 * (g.row.K * m)) c.in_ok-hash_all.ensures.long c.peel_without_levels.ensures.steps
+
+pub returns-else-is_empty-clause-steps : goal.returns-else-is_empty-clause-steps
+returns-else-is_empty-clause-steps g c = subst (λ (m : ℕ). c.peel_without_levels.new.steps ≤ c.args.steps.now + 8 * (g.row.K * m)) c.in_ok-hash_all.ensures.long c.peel_without_levels.ensures.steps

@@ -1,4 +1,4 @@
-use Rattle.std.proofs.Common.{arith, ℕ, ◌+◌, ◌*◌, ◌≤◌, length, sym, subst, ◌∙◌, get_or}
+use Rattle.std.proofs.Common.{arith, rules, ℕ, ◌+◌, ◌*◌, ◌≤◌, length, refl, sym, subst, ◌∙◌, get_or}
 use Rattle.cm_algo.proofs.Cored.{leaves_some}
 use Rattle.cm_algo.proofs.OneSeed.{no_keys, steps_more, chosen_at, first_at}
 use Rattle.cm_algo.proofs.seeds.build_first.Goals as goal
@@ -8,8 +8,17 @@ returns-then-m-eq0-clause-fault g c = λ told is.
     let a = c.in_ok-m.ensures.all told is in
     (no_keys told.keys (a.0 ∙ c.if-m-eq0.true), a.1)
 
+pub returns-then-m-eq0-clause-numbers : goal.returns-then-m-eq0-clause-numbers
+returns-then-m-eq0-clause-numbers g c = c.in_ok-m.ensures.given ∙ c.if-m-eq0.true
+
 pub returns-in_err-cells-clause-steps : goal.returns-in_err-cells-clause-steps
 returns-in_err-cells-clause-steps g c = λ told is. subst (λ (m : ℕ). c.attempt.new.steps ≤ c.args.steps.now + 8 * (g.row.K * m)) (sym (c.in_ok-m.ensures.all told is).0) c.attempt.ensures.steps
+
+pub returns-in-Ok-clause-made : goal.returns-in-Ok-clause-made
+returns-in-Ok-clause-made g c =
+    let bound = rw c.in-Ok.is at c.in_ok-cells.ensures.bound in
+    let busy = rw c.in-Ok.is at c.in_ok-cells.ensures.busy in
+    record { many = (omega (arith, c.if-m-eq0.false), c.in_ok-m.ensures.few, refl); sizes = bound; busy = busy; chosen = search rules }
 
 pub returns-in-Ok-clause-first : goal.returns-in-Ok-clause-first
 returns-in-Ok-clause-first g c = λ told is.

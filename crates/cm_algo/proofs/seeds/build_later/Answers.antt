@@ -18,6 +18,12 @@ loop-i-init g c = record {
 pub returns-in_err-cells-clause-steps : goal.returns-in_err-cells-clause-steps
 returns-in_err-cells-clause-steps g c = λ before spent. steps_err g.row.K c.args.m c.args.m before c.loop-i.steps _ c.loop-i.i _ (steps_later _ _ _ _ _ spent c.loop-i.invariant.steps) c.attempt.ensures.steps refl c.loop-i-test.true
 
+pub returns-in-Ok-clause-made : goal.returns-in-Ok-clause-made
+returns-in-Ok-clause-made g c =
+    let bound = rw c.in-Ok.is at c.in_ok-cells.ensures.bound in
+    let busy = rw c.in-Ok.is at c.in_ok-cells.ensures.busy in
+    record { many = (c.requires.many.0, c.requires.many.1, refl); sizes = bound; busy = busy; chosen = search rules }
+
 pub returns-in-Ok-clause-first : goal.returns-in-Ok-clause-first
 returns-in-Ok-clause-first g c = λ before spent told is.
     let r = g.S.Scheme.rule c.args.scheme.now in
@@ -53,3 +59,6 @@ loop-i-preserved g c =
 
 pub returns-clause-steps : goal.returns-clause-steps
 returns-clause-steps g c = λ before spent. steps_all g.row.K c.args.m _ _ before c.loop-i.i _ spent c.loop-i.invariant.steps (omega (arith, c.requires.some, c.loop-i.auto.i-end))
+
+pub returns-clause-none : goal.returns-clause-none
+returns-clause-none g c = λ told is j low. c.loop-i.invariant.left told is j (omega (arith, low, c.loop-i-test.false))
