@@ -3,6 +3,11 @@ use Rattle.cm_brz.specs.Split.{is_split}
 use Rattle.cm_brz.proofs.Sizes.{find_first, find_none, over_never_splits}
 use Rattle.cm_brz.proofs.split.choose_split.Goals as goal
 
+pub returns-in-None-clause-first : goal.returns-in-None-clause-first
+returns-in-None-clause-first g c = λ told is.
+    let splits = rw c.in-None.is at c.in_ok-over.ensures.splits in
+    find_first (is_split told.keys c.args.buckets) c.args.seeds.now 0 c.requires.some (splits told is) (λ j low. absurd (omega (arith, low)))
+
 pub loop-i-init : goal.loop-i-init
 loop-i-init g c =
     let lowest = rw c.in-Some.is at c.in_ok-over.ensures.lowest in
