@@ -45,9 +45,9 @@ fn has_image<C: Cells + Drop>(
     cells: &[u32],
     bytes: &[u8],
 ) -> Result<(), Fail>
-    requires room { length cells.now ≤ 1000 }
     requires fit { C.fits bound }
 {
+    assert!(rt; cells.len() <= 1000);
     let n = cells.len() as u32;
     let mut table = C::zeroed(alloc, n, bound)?;
     for i in 0..n {
@@ -74,9 +74,9 @@ fn has_fault<C: Cells + Drop>(
     bytes: &[u8],
     fault: ImageFault,
 )
-    requires room { n ≤ MAX_CELLS }
     requires fit { C.fits bound }
 {
+    assert!(rt; n <= MAX_CELLS);
     assert!(rt; C::image_len(n, bound) == bytes.len() as u64);
     match C::from_image(alloc, n, bound, bytes) {
         Ok(_) => panic!(rt; "read"),
@@ -84,67 +84,124 @@ fn has_fault<C: Cells + Drop>(
     }
 }
 
+/// Each of these tables of cells has the image beside it.
+fn have_images<C: Cells + Drop>(
+    rt: &impl Abort,
+    alloc: Global,
+    bound: u32,
+    rows: &[(&[u32], &[u8])],
+) -> Result<(), Fail>
+    requires fit { C.fits bound }
+{
+    for (cells, bytes) in rows {
+        has_image::<C>(rt, alloc, bound, *cells, *bytes)?;
+    }
+    Ok(())
+}
+
+const TRITS: [(&[u32], &[u8]); 4] = [
+    (&[2, 2, 2, 2, 2], &[0xf2]),
+    (&[1, 0, 2], &[0x13]),
+    (&[0, 1, 0, 0, 2, 1, 1], &[0xa5, 0x04]),
+    (&[], &[]),
+];
+
+const BITS: [(&[u32], &[u8]); 2] = [(&[1, 0, 1, 1, 0, 0, 0, 1, 1], &[0x8d, 0x01]), (&[], &[])];
+
+const CRUMBS: [(&[u32], &[u8]); 2] = [(&[3, 0, 2, 1, 3], &[0x63, 0x03]), (&[], &[])];
+
+const PLAIN: [(&[u32], &[u8]); 2] = [(&[258, 999], &[2, 1, 0, 0, 0xe7, 3, 0, 0]), (&[], &[])];
+
+const GREATEST: [(&[u32], &[u8]); 1] = [(&[0xffff_fffe], &[0xfe, 0xff, 0xff, 0xff])];
+
+/// The bounds of packed cells, the cells, and the image.
+const FIELDS: [(u32, &[u32], &[u8]); 6] = [
+    (5, &[4, 1, 3], &[0xcc, 0x00]),
+    (100_000, &[99_999, 1], &[0x9f, 0x86, 0x03, 0, 0]),
+    (1, &[0, 0, 0], &[0]),
+    (2, &[0, 1, 1], &[6]),
+    (7, &[], &[]),
+    (
+        MAX_FIELD_BOUND,
+        &[0x3ff_ffff, 0x3ff_ffff],
+        &[0xff, 0xff, 0xff, 0xff, 0xff, 0xff, 0x0f],
+    ),
+];
+
 #[test]
 fn images(rt: HostRuntime) -> Result<(), Fail> {
     let alloc = rt.alloc();
-    has_image::<Trits>(&rt, alloc, 3, &[2, 2, 2, 2, 2], &[0xf2])?;
-    has_image::<Trits>(&rt, alloc, 3, &[1, 0, 2], &[0x13])?;
-    has_image::<Trits>(&rt, alloc, 3, &[0, 1, 0, 0, 2, 1, 1], &[0xa5, 0x04])?;
-    has_image::<Bits>(&rt, alloc, 2, &[1, 0, 1, 1, 0, 0, 0, 1, 1], &[0x8d, 0x01])?;
-    has_image::<Crumbs>(&rt, alloc, 4, &[3, 0, 2, 1, 3], &[0x63, 0x03])?;
-    has_image::<Plain>(&rt, alloc, 1000, &[258, 999], &[2, 1, 0, 0, 0xe7, 3, 0, 0])?;
-    has_image::<Fields>(&rt, alloc, 5, &[4, 1, 3], &[0xcc, 0x00])?;
-    has_image::<Fields>(&rt, alloc, 100_000, &[99_999, 1], &[0x9f, 0x86, 0x03, 0, 0])?;
-    has_image::<Fields>(&rt, alloc, 1, &[0, 0, 0], &[0])?;
-    has_image::<Fields>(&rt, alloc, 2, &[0, 1, 1], &[6])
+    have_images::<Trits>(&rt, alloc, 3, &TRITS)?;
+    have_images::<Bits>(&rt, alloc, 2, &BITS)?;
+    have_images::<Crumbs>(&rt, alloc, 4, &CRUMBS)?;
+    have_images::<Plain>(&rt, alloc, 1000, &PLAIN)?;
+    have_images::<Plain>(&rt, alloc, u32::MAX, &GREATEST)?;
+    for (bound, cells, bytes) in &FIELDS {
+        assert!(rt; 0 < *bound && *bound <= MAX_FIELD_BOUND);
+        has_image::<Fields>(&rt, alloc, *bound, *cells, *bytes)?;
+    }
+    Ok(())
 }
 
-#[test]
-fn no_cells(rt: HostRuntime) -> Result<(), Fail> {
-    let alloc = rt.alloc();
-    has_image::<Bits>(&rt, alloc, 2, &[], &[])?;
-    has_image::<Crumbs>(&rt, alloc, 4, &[], &[])?;
-    has_image::<Trits>(&rt, alloc, 3, &[], &[])?;
-    has_image::<Fields>(&rt, alloc, 7, &[], &[])?;
-    has_image::<Plain>(&rt, alloc, 7, &[], &[])
+/// Reading each of these numbers of cells from the bytes beside it fails with the fault.
+fn have_faults<C: Cells + Drop>(
+    rt: &impl Abort,
+    alloc: Global,
+    bound: u32,
+    rows: &[(u32, &[u8], ImageFault)],
+)
+    requires fit { C.fits bound }
+{
+    for (n, bytes, fault) in rows {
+        has_fault::<C>(rt, alloc, *n, bound, *bytes, *fault);
+    }
 }
 
-#[test]
-fn highest_bounds(rt: HostRuntime) -> Result<(), Fail> {
-    let alloc = rt.alloc();
-    let top = [0xff, 0xff, 0xff, 0xff, 0xff, 0xff, 0x0f];
-    has_image::<Fields>(&rt, alloc, MAX_FIELD_BOUND, &[0x3ff_ffff, 0x3ff_ffff], &top)?;
-    has_image::<Plain>(
-        &rt,
-        alloc,
-        u32::MAX,
-        &[0xffff_fffe],
-        &[0xfe, 0xff, 0xff, 0xff],
-    )
-}
+const TRIT_FAULTS: [(u32, &[u8], ImageFault); 3] = [
+    (5, &[0xf3], ImageFault::BadCell { cell: 0 }),
+    (3, &[0x1b], ImageFault::BadPadding { byte: 0 }),
+    (8, &[0xf2, 0xff], ImageFault::BadCell { cell: 5 }),
+];
 
-fn cell(cell: u32) -> ImageFault {
-    ImageFault::BadCell { cell }
-}
+const BIT_FAULTS: [(u32, &[u8], ImageFault); 1] = [(
+    9,
+    &[0x8d, 0x02],
+    ImageFault::BadPadding { byte: 1 },
+)];
 
-fn padding(byte: u64) -> ImageFault {
-    ImageFault::BadPadding { byte }
-}
+const CRUMB_FAULTS: [(u32, &[u8], ImageFault); 1] = [(
+    5,
+    &[0x63, 0x07],
+    ImageFault::BadPadding { byte: 1 },
+)];
+
+/// Cells below 5.
+const FIELD_FAULTS: [(u32, &[u8], ImageFault); 2] = [
+    (3, &[0xec, 0x02], ImageFault::BadCell { cell: 1 }),
+    (3, &[0xcc, 0x02], ImageFault::BadPadding { byte: 1 }),
+];
+
+/// Cells below 1, of a bit each.
+const ZERO_FAULTS: [(u32, &[u8], ImageFault); 2] = [
+    (10, &[0x00, 0x06], ImageFault::BadCell { cell: 9 }),
+    (10, &[0x00, 0x04], ImageFault::BadPadding { byte: 1 }),
+];
+
+const PLAIN_FAULTS: [(u32, &[u8], ImageFault); 1] = [(
+    2,
+    &[0xe7, 3, 0, 0, 0xe8, 3, 0, 0],
+    ImageFault::BadCell { cell: 1 },
+)];
 
 #[test]
 fn faults(rt: HostRuntime) {
     let alloc = rt.alloc();
-    has_fault::<Trits>(&rt, alloc, 5, 3, &[0xf3], cell(0));
-    has_fault::<Trits>(&rt, alloc, 3, 3, &[0x1b], padding(0));
-    has_fault::<Trits>(&rt, alloc, 8, 3, &[0xf2, 0xff], cell(5));
-    has_fault::<Bits>(&rt, alloc, 9, 2, &[0x8d, 0x02], padding(1));
-    has_fault::<Crumbs>(&rt, alloc, 5, 4, &[0x63, 0x07], padding(1));
-    has_fault::<Fields>(&rt, alloc, 3, 5, &[0xec, 0x02], cell(1));
-    has_fault::<Fields>(&rt, alloc, 3, 5, &[0xcc, 0x02], padding(1));
-    has_fault::<Fields>(&rt, alloc, 10, 1, &[0x00, 0x06], cell(9));
-    has_fault::<Fields>(&rt, alloc, 10, 1, &[0x00, 0x04], padding(1));
-    let two = [0xe7, 3, 0, 0, 0xe8, 3, 0, 0];
-    has_fault::<Plain>(&rt, alloc, 2, 1000, &two, cell(1));
+    have_faults::<Trits>(&rt, alloc, 3, &TRIT_FAULTS);
+    have_faults::<Bits>(&rt, alloc, 2, &BIT_FAULTS);
+    have_faults::<Crumbs>(&rt, alloc, 4, &CRUMB_FAULTS);
+    have_faults::<Fields>(&rt, alloc, 5, &FIELD_FAULTS);
+    have_faults::<Fields>(&rt, alloc, 1, &ZERO_FAULTS);
+    have_faults::<Plain>(&rt, alloc, 1000, &PLAIN_FAULTS);
 }
 
 #[test]
@@ -154,32 +211,6 @@ fn bytes_of_cells(rt: HostRuntime) {
     expect_equal(&rt, &Trits::cell_byte(3, 7), &1);
     expect_equal(&rt, &Fields::cell_byte(100_000, 3), &6);
     expect_equal(&rt, &Plain::cell_byte(9, 3), &12);
-}
-
-/// Sets each cell to the value, and checks the image.
-fn has_filled_image<C: Cells + Drop>(
-    rt: &impl Abort,
-    alloc: Global,
-    bound: u32,
-    value: u32,
-    bytes: &[u8],
-) -> Result<(), Fail>
-    requires fit { C.fits bound }
-    requires below { value < bound }
-{
-    let table: C = filled(alloc, 5, bound, value)?;
-    expect_bytes(rt, image_of(alloc, &table)?.as_slice(), bytes);
-    Ok(())
-}
-
-#[test]
-fn filled_tables(rt: HostRuntime) -> Result<(), Fail> {
-    let alloc = rt.alloc();
-    has_filled_image::<Bits>(&rt, alloc, 2, 1, &[0x1f])?;
-    has_filled_image::<Crumbs>(&rt, alloc, 4, 3, &[0xff, 0x03])?;
-    has_filled_image::<Trits>(&rt, alloc, 3, 2, &[0xf2])?;
-    has_filled_image::<Fields>(&rt, alloc, 5, 4, &[0x24, 0x49])?;
-    has_filled_image::<Plain>(&rt, alloc, 2, 0, &[0; 20])
 }
 
 #[test]

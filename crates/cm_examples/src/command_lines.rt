@@ -1,12 +1,131 @@
-ghost use Rattle.std.specs.Prelude.{IfOk};
-ghost use Rattle.std.specs.Option.{ForSome};
-ghost use Rattle.cm_words.specs.Limits.{IsBuild, IsJob, IsTest};
-
-use crate::equal::{expect_equal, expect_equal_at, expect_text, expect_true};
-use cm_algorithm::Algorithm;
-use cm_words::{BuildJob, Job, TestJob, UsageFault, read_words};
+use crate::equal::{expect_equal, expect_equal_at};
+use cm_words::{UsageFault, read_words};
 use std::alloc::{AllocError, Global};
+use std::process::Abort;
 use std::test::Fail;
+
+/// Lines, and the job that each asks for.
+const JOBS: [(&str, &str); 19] = [
+    (
+        "cmph -vg -abdz -c1.5 -s=0 -r 7 -b 4 -M 1024 -dtmp -f jenkins -k 0000000002 -mf keys",
+        "Build(BuildJob { keys: Text { text: \"keys\" }, function: Text { text: \"f\" }, first: Some(2), algorithm: Bdz, c: 1500000, b: 4, seed: 0, count: 7, buffer: 1073741824, dir: Text { text: \"tmp\" }, verbose: true })",
+    ),
+    (
+        "cmph -g keys",
+        "Build(BuildJob { keys: Text { text: \"keys\" }, function: Text { text: \"keys.mph\" }, first: None, algorithm: Chm, c: 2090000, b: 0, seed: 1, count: 100, buffer: 1048576, dir: Text { text: \".\" }, verbose: false })",
+    ),
+    (
+        "cmph -g -b 11 keys",
+        "Build(BuildJob { keys: Text { text: \"keys\" }, function: Text { text: \"keys.mph\" }, first: None, algorithm: Chm, c: 2090000, b: 0, seed: 1, count: 100, buffer: 1048576, dir: Text { text: \".\" }, verbose: false })",
+    ),
+    (
+        "cmph -g -a bdz keys",
+        "Build(BuildJob { keys: Text { text: \"keys\" }, function: Text { text: \"keys.mph\" }, first: None, algorithm: Bdz, c: 1230000, b: 7, seed: 1, count: 100, buffer: 1048576, dir: Text { text: \".\" }, verbose: false })",
+    ),
+    (
+        "cmph -g -a bdz_ph keys",
+        "Build(BuildJob { keys: Text { text: \"keys\" }, function: Text { text: \"keys.mph\" }, first: None, algorithm: BdzPh, c: 1230000, b: 0, seed: 1, count: 100, buffer: 1048576, dir: Text { text: \".\" }, verbose: false })",
+    ),
+    (
+        "cmph -g -a brz keys",
+        "Build(BuildJob { keys: Text { text: \"keys\" }, function: Text { text: \"keys.mph\" }, first: None, algorithm: Brz, c: 1230000, b: 128, seed: 1, count: 100, buffer: 1048576, dir: Text { text: \".\" }, verbose: false })",
+    ),
+    (
+        "cmph -g -a brz -b 64 keys",
+        "Build(BuildJob { keys: Text { text: \"keys\" }, function: Text { text: \"keys.mph\" }, first: None, algorithm: Brz, c: 1230000, b: 64, seed: 1, count: 100, buffer: 1048576, dir: Text { text: \".\" }, verbose: false })",
+    ),
+    (
+        "cmph -g -a brz -b 175 keys",
+        "Build(BuildJob { keys: Text { text: \"keys\" }, function: Text { text: \"keys.mph\" }, first: None, algorithm: Brz, c: 1230000, b: 175, seed: 1, count: 100, buffer: 1048576, dir: Text { text: \".\" }, verbose: false })",
+    ),
+    (
+        "cmph -T 1",
+        "Test(TestJob { keys: 1, seed: 1, count: 100, buffer: 1048576, dir: Text { text: \".\" } })",
+    ),
+    (
+        "cmph -T 16777216",
+        "Test(TestJob { keys: 16777216, seed: 1, count: 100, buffer: 1048576, dir: Text { text: \".\" } })",
+    ),
+    (
+        "cmph -b 3 -T 5 -g -a brz",
+        "Test(TestJob { keys: 5, seed: 1, count: 100, buffer: 1048576, dir: Text { text: \".\" } })",
+    ),
+    (
+        "cmph -T5 -s 7 -r 9 -M 2 -d tmp keys",
+        "Test(TestJob { keys: 5, seed: 7, count: 9, buffer: 2097152, dir: Text { text: \"tmp\" } })",
+    ),
+    (
+        "cmph -k 1 keys",
+        "Query(QueryJob { keys: Text { text: \"keys\" }, function: Text { text: \"keys.mph\" }, first: Some(1) })",
+    ),
+    (
+        "cmph -k 4294967295 keys",
+        "Query(QueryJob { keys: Text { text: \"keys\" }, function: Text { text: \"keys.mph\" }, first: Some(4294967295) })",
+    ),
+    (
+        "cmph -a bdz -b 11 keys",
+        "Query(QueryJob { keys: Text { text: \"keys\" }, function: Text { text: \"keys.mph\" }, first: None })",
+    ),
+    (
+        "cmph -a brz -b 176 keys",
+        "Query(QueryJob { keys: Text { text: \"keys\" }, function: Text { text: \"keys.mph\" }, first: None })",
+    ),
+    ("cmph -s x -V -h", "Help"),
+    ("cmph -V", "Version"),
+    ("cmph -T 0 -h", "Help"),
+];
+
+/// Lines that are refused, and the fault of each with its text.
+const REFUSED: [(&str, &str); 15] = [
+    ("cmph", "NoFile: no keys file"),
+    ("cmph -g", "NoFile: no keys file"),
+    (
+        "cmph -t 2 keys",
+        "Words: bad arguments; cmph -h shows the usage",
+    ),
+    (
+        "cmph --help",
+        "Words: bad arguments; cmph -h shows the usage",
+    ),
+    ("cmph -T 0", "BadValue { letter: 84 }: bad value of -T"),
+    (
+        "cmph -T 16777217",
+        "BadValue { letter: 84 }: bad value of -T",
+    ),
+    (
+        "cmph -T 1 -s x",
+        "BadValue { letter: 115 }: bad value of -s",
+    ),
+    (
+        "cmph -g keys more",
+        "Words: bad arguments; cmph -h shows the usage",
+    ),
+    (
+        "cmph -f md5 keys",
+        "BadValue { letter: 102 }: bad value of -f",
+    ),
+    (
+        "cmph -g -a bdz -b 11 keys",
+        "BadValue { letter: 98 }: bad value of -b",
+    ),
+    (
+        "cmph -g -a brz -b 176 keys",
+        "BadValue { letter: 98 }: bad value of -b",
+    ),
+    (
+        "cmph -g -a brz -b 63 keys",
+        "BadValue { letter: 98 }: bad value of -b",
+    ),
+    (
+        "cmph -g -r 1001 keys",
+        "BadValue { letter: 114 }: bad value of -r",
+    ),
+    (
+        "cmph -g -a BRZ keys",
+        "BadValue { letter: 97 }: bad value of -a",
+    ),
+    ("cmph -M 1025", "BadValue { letter: 77 }: bad value of -M"),
+];
 
 /// The arguments of a line, separated by single blanks.
 fn words_of(alloc: Global, line: &str) -> Result<Vec<String>, AllocError> {
@@ -17,207 +136,27 @@ fn words_of(alloc: Global, line: &str) -> Result<Vec<String>, AllocError> {
     Ok(words)
 }
 
-fn job_of(alloc: Global, line: &str) -> Result<Job, UsageFault>
-    ensures within { IfOk result IsJob }
-{
+/// The job that a line asks for, or why it is refused.
+fn shown(alloc: Global, line: &str) -> Result<String, AllocError> {
     let words = words_of(alloc, line)?;
-    read_words(alloc, words.as_slice())
-}
-
-fn fault_of(alloc: Global, line: &str) -> Option<UsageFault> {
-    job_of(alloc, line).err()
-}
-
-fn build_of(alloc: Global, line: &str) -> Result<Option<BuildJob>, UsageFault>
-    ensures within { IfOk result (λ found. ForSome found IsBuild) }
-{
-    match job_of(alloc, line)? {
-        Job::Build(job) => Ok(Some(job)),
-        _other => Ok(None),
+    match read_words(alloc, words.as_slice()) {
+        Ok(job) => format!(in alloc; "{job:?}"),
+        Err(fault) => format!(in alloc; "{fault:?}: {fault}"),
     }
 }
 
-fn test_of(alloc: Global, line: &str) -> Result<Option<TestJob>, UsageFault>
-    ensures within { IfOk result (λ found. ForSome found IsTest) }
-{
-    match job_of(alloc, line)? {
-        Job::Test(job) => Ok(Some(job)),
-        _other => Ok(None),
-    }
-}
-
-fn text_of(alloc: Global, fault: UsageFault) -> Result<String, AllocError> {
-    format!(in alloc; "{fault}")
-}
-
-#[test]
-fn refuses(rt: HostRuntime) -> Result<(), Fail> {
-    let alloc = rt.alloc();
-    for (line, fault, text) in [
-        ("cmph", UsageFault::NoFile, "no keys file"),
-        ("cmph -g", UsageFault::NoFile, "no keys file"),
-        (
-            "cmph -t 2 keys",
-            UsageFault::Words,
-            "bad arguments; cmph -h shows the usage",
-        ),
-        (
-            "cmph --help",
-            UsageFault::Words,
-            "bad arguments; cmph -h shows the usage",
-        ),
-        (
-            "cmph -T 0",
-            UsageFault::BadValue { letter: b'T' },
-            "bad value of -T",
-        ),
-        (
-            "cmph -T 16777217",
-            UsageFault::BadValue { letter: b'T' },
-            "bad value of -T",
-        ),
-        (
-            "cmph -T 1 -s x",
-            UsageFault::BadValue { letter: b's' },
-            "bad value of -s",
-        ),
-        (
-            "cmph -g keys more",
-            UsageFault::Words,
-            "bad arguments; cmph -h shows the usage",
-        ),
-        (
-            "cmph -f md5 keys",
-            UsageFault::BadValue { letter: b'f' },
-            "bad value of -f",
-        ),
-        (
-            "cmph -g -a bdz -b 11 keys",
-            UsageFault::BadValue { letter: b'b' },
-            "bad value of -b",
-        ),
-        (
-            "cmph -g -a brz -b 176 keys",
-            UsageFault::BadValue { letter: b'b' },
-            "bad value of -b",
-        ),
-        (
-            "cmph -g -a BRZ keys",
-            UsageFault::BadValue { letter: b'a' },
-            "bad value of -a",
-        ),
-        (
-            "cmph -M 1025",
-            UsageFault::BadValue { letter: b'M' },
-            "bad value of -M",
-        ),
-    ] {
-        let found = fault_of(alloc, line);
-        expect_equal_at(&rt, &line, &found, &Some(fault));
-        expect_text(&rt, text_of(alloc, fault)?.as_str(), text);
-    }
-    expect_equal(
-        &rt,
-        &read_words(alloc, &[]).err(),
-        &Some(UsageFault::NoFile),
-    );
-    Ok(())
-}
-
-#[test]
-fn reads_a_build(rt: HostRuntime) -> Result<(), Fail> {
-    let line =
-        "cmph -vg -abdz -c1.5 -s=0 -r 7 -b 4 -M 1024 -dtmp -f jenkins -k 0000000002 -mf keys";
-    let Some(job) = build_of(rt.alloc(), line)? else {
-        panic!(rt; "no build");
-    };
-    expect_text(&rt, job.keys.as_str(), "keys");
-    expect_text(&rt, job.function.as_str(), "f");
-    expect_equal(&rt, &job.first, &Some(2));
-    expect_equal(&rt, &job.algorithm, &Algorithm::Bdz);
-    expect_equal(
-        &rt,
-        &(job.c, job.b, job.seed, job.count),
-        &(1_500_000, 4, 0, 7),
-    );
-    expect_equal(&rt, &job.buffer, &1_073_741_824);
-    expect_text(&rt, job.dir.as_str(), "tmp");
-    expect_true(&rt, job.verbose);
-    Ok(())
-}
-
-#[test]
-fn has_defaults(rt: HostRuntime) -> Result<(), Fail> {
-    for (line, algorithm, c, b) in [
-        ("cmph -g keys", Algorithm::Chm, 2_090_000, 0),
-        ("cmph -g -b 11 keys", Algorithm::Chm, 2_090_000, 0),
-        ("cmph -g -a bdz keys", Algorithm::Bdz, 1_230_000, 7),
-        ("cmph -g -a bdz_ph keys", Algorithm::BdzPh, 1_230_000, 0),
-        ("cmph -g -a brz keys", Algorithm::Brz, 1_230_000, 128),
-        ("cmph -g -a brz -b 64 keys", Algorithm::Brz, 1_230_000, 64),
-    ] {
-        let Some(job) = build_of(rt.alloc(), line)? else {
-            panic!(rt; "no build: {line}");
-        };
-        expect_equal(&rt, &job.algorithm, &algorithm);
-        expect_equal_at(
-            &rt,
-            &line,
-            &(job.c, job.b, job.seed, job.count, job.buffer),
-            &(c, b, 1, 100, 1_048_576),
-        );
-        expect_text(&rt, job.function.as_str(), "keys.mph");
-        expect_text(&rt, job.dir.as_str(), ".");
-        expect_true(&rt, job.first.is_none() && !job.verbose);
+fn check(rt: &impl Abort, alloc: Global, rows: &[(&str, &str)]) -> Result<(), AllocError> {
+    for (line, text) in rows {
+        expect_equal_at(rt, line, &shown(alloc, *line)?.as_str(), text);
     }
     Ok(())
 }
 
 #[test]
-fn reads_a_test(rt: HostRuntime) -> Result<(), Fail> {
-    for (line, keys, seed, count, buffer, dir) in [
-        ("cmph -T 1", 1, 1, 100, 1_048_576, "."),
-        ("cmph -T 16777216", 16_777_216, 1, 100, 1_048_576, "."),
-        ("cmph -b 3 -T 5 -g -a brz", 5, 1, 100, 1_048_576, "."),
-        (
-            "cmph -T5 -s 7 -r 9 -M 2 -d tmp keys",
-            5,
-            7,
-            9,
-            2_097_152,
-            "tmp",
-        ),
-    ] {
-        let Some(job) = test_of(rt.alloc(), line)? else {
-            panic!(rt; "no test: {line}");
-        };
-        expect_equal_at(
-            &rt,
-            &line,
-            &(job.keys, job.seed, job.count, job.buffer),
-            &(keys, seed, count, buffer),
-        );
-        expect_text(&rt, job.dir.as_str(), dir);
-    }
-    Ok(())
-}
-
-#[test]
-fn reads_other_jobs(rt: HostRuntime) -> Result<(), Fail> {
-    let alloc = rt.alloc();
-    match job_of(alloc, "cmph -k 1 keys")? {
-        Job::Query(job) => {
-            expect_text(&rt, job.keys.as_str(), "keys");
-            expect_text(&rt, job.function.as_str(), "keys.mph");
-            expect_equal(&rt, &job.first, &Some(1));
-        }
-        _other => panic!(rt; "no query"),
-    }
-    expect_true(
-        &rt,
-        matches!(job_of(alloc, "cmph -s x -V -h"), Ok(Job::Help)),
-    );
-    expect_true(&rt, matches!(job_of(alloc, "cmph -V"), Ok(Job::Version)));
-    expect_true(&rt, matches!(job_of(alloc, "cmph -T 0 -h"), Ok(Job::Help)));
+fn lines(rt: HostRuntime) -> Result<(), Fail> {
+    check(&rt, rt.alloc(), &JOBS)?;
+    check(&rt, rt.alloc(), &REFUSED)?;
+    let none = read_words(rt.alloc(), &[]).err();
+    expect_equal(&rt, &none, &Some(UsageFault::NoFile));
     Ok(())
 }

@@ -1,5 +1,6 @@
 use crate::equal::{expect_bytes, expect_equal, expect_true};
-use cm_outer::{Disk, DiskFault, Failed, Sink, Source, Spill, write_pieces};
+use crate::memory::{Uses, store};
+use cm_outer::{Disk, DiskFault, Failed, Source, Spill, write_pieces};
 use cm_real::{FileDisk, StdSink};
 use std::alloc::{AllocError, AllocGlobal, Global};
 use std::fs;
@@ -39,12 +40,12 @@ fn sent(alloc: Global, pieces: &[&[u8]]) -> Vec<u8> {
     sink.into_parts().0
 }
 
-fn store<R: Files>(disk: &mut FileDisk<'_, R>, path: &str, bytes: &[u8]) -> Result<(), DiskFault> {
-    let mut writer = disk.create(path)?;
-    let wrote = writer.write(bytes);
-    disk.close(path, writer)?;
-    wrote?;
-    Ok(())
+/// Reads two bytes, and then from the start to the end. Without a rewind there is one more byte to read.
+fn read_again<S: Source>(reader: &mut S, buf: &mut [u8; 4]) -> [Result<usize, Failed>; 3] {
+    let first = reader.read(&mut buf[..2]);
+    let _ = reader.rewind();
+    let all = reader.read(buf);
+    [first, all, reader.read(&mut buf[3..])]
 }
 
 #[test]
@@ -53,24 +54,15 @@ fn a_file_is_written_and_read(rt: HostRuntime) -> Result<(), Fail> {
     let mut disk = FileDisk::new(&rt, rt.alloc(), 7);
     let stored = store(&mut disk, path.as_str(), b"abc");
     let mut buf = [0u8; 4];
-    let mut counts = [Ok(9), Ok(9), Ok(9)];
+    let mut counts = [Err(Failed); 3];
     if let Ok(mut reader) = disk.open(path.as_str()) {
-        counts[0] = reader.read(&mut buf[..2]);
-        let rewound = reader.rewind();
-        counts[1] = reader.read(&mut buf);
-        counts[2] = reader.read(&mut buf[3..]);
+        counts = read_again(&mut reader, &mut buf);
         disk.shut(reader);
-        expect_equal(&rt, &rewound, &Ok(()));
     }
     fs::remove_file(&rt, path.as_str())?;
     expect_equal(&rt, &stored, &Ok(()));
     expect_equal(&rt, &counts, &[Ok(2), Ok(3), Ok(0)]);
     expect_bytes(&rt, buf.as_slice(), b"abc\0");
-    expect_equal(
-        &rt,
-        &store(&mut disk, "/tmp/no/such/folder", b""),
-        &Err(DiskFault::Failed),
-    );
     expect_true(
         &rt,
         matches!(disk.open(path.as_str()), Err(DiskFault::Failed)),
@@ -78,14 +70,19 @@ fn a_file_is_written_and_read(rt: HostRuntime) -> Result<(), Fail> {
     Ok(())
 }
 
+/// A folder is not read, and a folder that isn't there has no file and no spill.
 #[test]
-fn a_folder_is_not_read(rt: HostRuntime) -> Result<(), Fail> {
+fn folders(rt: HostRuntime) -> Result<(), Fail> {
     let mut disk = FileDisk::new(&rt, rt.alloc(), 7);
     if let Ok(mut reader) = disk.open("/tmp") {
         let count = reader.read(&mut [0u8; 4]);
         disk.shut(reader);
         expect_equal(&rt, &count, &Err(Failed));
     }
+    let stored = store(&mut disk, "/tmp/no/such/folder", b"");
+    expect_equal(&rt, &stored, &Err(DiskFault::Failed));
+    let spill = disk.spill("/tmp/no/such/folder");
+    expect_true(&rt, matches!(spill, Err(DiskFault::Failed)));
     Ok(())
 }
 
@@ -95,39 +92,20 @@ fn a_spill_is_read_from_any_place(rt: HostRuntime) -> Result<(), Fail> {
     let path = format!(in rt.alloc(); "{}/cmph-7.spill", folder.as_str())?;
     fs::write(&rt, path.as_str(), "an earlier one")?;
     let mut disk = FileDisk::new(&rt, rt.alloc(), 7);
-    let mut appended = [Err(Failed); 4];
-    let mut counts = [Err(Failed); 4];
-    let mut bufs = [[0u8; 4]; 4];
+    let mut uses = Uses::new();
     let mut kept = Vec::new(rt.alloc());
     if let Ok(mut spill) = disk.spill(folder.as_str()) {
-        appended[0] = spill.append(b"abc");
-        appended[1] = spill.append(b"de");
-        appended[2] = spill.append(b"f");
-        counts[0] = spill.read_at(1, &mut bufs[0]);
-        counts[1] = spill.read_at(6, &mut bufs[1]);
-        counts[2] = spill.read_at(9, &mut bufs[2]);
-        appended[3] = spill.append(b"gh");
-        counts[3] = spill.read_at(5, &mut bufs[3]);
+        uses.make(&mut spill);
         kept = fs::read(&rt, path.as_str())?;
         disk.give_back(spill);
     }
     let is_there = fs::exists(&rt, path.as_str())?;
     fs::remove_dir(&rt, folder.as_str())?;
-    expect_equal(&rt, &appended, &[Ok(()); 4]);
-    expect_equal(&rt, &counts, &[Ok(4), Ok(0), Ok(0), Ok(3)]);
-    expect_equal(&rt, &bufs, &[*b"bcde", [0; 4], [0; 4], *b"fgh\0"]);
+    expect_equal(&rt, &uses.appends, &[Ok(()); 4]);
+    expect_equal(&rt, &uses.counts, &[Ok(4), Ok(0), Ok(0), Ok(3)]);
+    expect_equal(&rt, &uses.bufs, &[*b"bcde", [0; 4], [0; 4], *b"fgh\0"]);
     expect_bytes(&rt, kept.as_slice(), b"abcdefgh");
     expect_true(&rt, !is_there);
-    Ok(())
-}
-
-#[test]
-fn a_spill_needs_its_folder(rt: HostRuntime) -> Result<(), Fail> {
-    let mut disk = FileDisk::new(&rt, rt.alloc(), 7);
-    expect_true(
-        &rt,
-        matches!(disk.spill("/tmp/no/such/folder"), Err(DiskFault::Failed)),
-    );
     Ok(())
 }
 

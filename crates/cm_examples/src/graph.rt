@@ -8,41 +8,6 @@ use std::process::Abort;
 use std::sync::ledger::{Blank, Ledger};
 use std::test::Fail;
 
-/// Links a path of three edges and then unlinks its first: what is seen of it before, and after.
-fn path<I: Incidence<2> + Drop, L: Ledger>(
-    alloc: Global,
-    steps: &mut Steps<L>,
-) -> Result<[u32; 6], AllocError> {
-    let mut links = I::empty(alloc, 4, 3)?;
-    links.link(0, [0, 1], steps);
-    links.link(1, [1, 2], steps);
-    links.link(2, [2, 3], steps);
-    let middle = links.degree(1, steps);
-    let last = links.degree(3, steps);
-    let first = links.sole(0, steps);
-    links.unlink(0, [0, 1], steps);
-    let lone = links.degree(0, steps);
-    let freed = links.degree(1, steps);
-    let next = links.sole(1, steps);
-    Ok([middle, last, first, lone, freed, next])
-}
-
-/// Links two edges with three ends that share one, and unlinks the second.
-fn fork<I: Incidence<3> + Drop, L: Ledger>(
-    alloc: Global,
-    steps: &mut Steps<L>,
-) -> Result<[u32; 4], AllocError> {
-    let mut links = I::empty(alloc, 9, 6)?;
-    links.link(5, [0, 3, 6], steps);
-    links.link(2, [1, 3, 7], steps);
-    let shared = links.degree(3, steps);
-    let sole = links.sole(7, steps);
-    links.unlink(2, [1, 3, 7], steps);
-    let left = links.sole(3, steps);
-    let none = links.degree(7, steps);
-    Ok([shared, sole, left, none])
-}
-
 /// Links three edges that share a vertex, unlinks the middle one and then the first, and links that one elsewhere.
 fn star<I: Incidence<2> + Drop, L: Ledger>(
     alloc: Global,
@@ -145,10 +110,6 @@ fn shows_by<P: Incidence<2> + Drop, T: Incidence<3> + Drop, L: Ledger>(
     requires some { 0 < blank.parts }
 {
     let mut steps = Steps::<L>::new(blank);
-    let seen = path::<P, L>(alloc, &mut steps)?;
-    expect_equal(rt, &seen, &[2, 1, 0, 0, 1, 1]);
-    let seen = fork::<T, L>(alloc, &mut steps)?;
-    expect_equal(rt, &seen, &[2, 2, 5, 0]);
     let seen = star::<P, L>(alloc, &mut steps)?;
     expect_equal(rt, &seen, &[3, 2, 2, 0, 2]);
     let seen = cut_path::<P, L>(alloc, &mut steps)?;

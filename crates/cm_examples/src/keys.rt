@@ -141,45 +141,42 @@ fn shown_of(
     text
 }
 
+/// Files, how many of their first lines are read, calls, and what the calls show.
+const FILES: [(&str, Option<u32>, &str, &str); 11] = [
+    // Lines are keys. A carriage return belongs to its key, and a last line needs no end.
+    ("a\r\nb", None, "nnnn", "1=a\r; 2=b; end; end; "),
+    ("\n\n", None, "nnn", "1=; 2=; end; "),
+    ("", None, "n", "end; "),
+    // The first lines alone.
+    ("a\nb\nc\n", Some(2), "nnn", "1=a; 2=b; end; "),
+    ("a\nb\nc\n", Some(9), "prn", "3 keys; start; 1=a; "),
+    ("a\n", Some(0), "n", "end; "),
+    // If its whole line is in the buffer, a key is buffered, except past the first lines.
+    (
+        "a\nbc\n\nd",
+        None,
+        "anaaana",
+        "none; 1=a; bc; ; none; 4=d; none; ",
+    ),
+    ("a\nb\nc\n", Some(2), "naan", "1=a; b; none; end; "),
+    // The same lines may be skipped, but not near the last line to read.
+    (
+        "a\nbc\n\nd",
+        None,
+        "snssnsnrp",
+        "0 skipped; 1=a; 2 skipped; 0 skipped; 4=d; 0 skipped; end; start; 4 keys; ",
+    ),
+    ("a\nb\nc\n", Some(65_536), "nsn", "1=a; 0 skipped; 2=b; "),
+    ("a\nb\nc\n", Some(65_537), "nsn", "1=a; 2 skipped; end; "),
+];
+
 #[test]
 fn lines_of_small_files(rt: HostRuntime) -> Result<(), Fail> {
     let alloc = rt.alloc();
-    for (bytes, first, calls, text) in [
-        // Lines are keys. A carriage return belongs to its key, and a last line needs no end.
-        ("a\r\nb", None, "nnnn", "1=a\r; 2=b; end; end; "),
-        ("\n\n", None, "nnn", "1=; 2=; end; "),
-        ("", None, "n", "end; "),
-        // The first lines alone.
-        ("a\nb\nc\n", Some(2), "nnn", "1=a; 2=b; end; "),
-        ("a\nb\nc\n", Some(9), "prn", "3 keys; start; 1=a; "),
-        ("a\n", Some(0), "n", "end; "),
-        // If its whole line is in the buffer, a key is buffered, except past the first lines.
-        (
-            "a\nbc\n\nd",
-            None,
-            "anaaana",
-            "none; 1=a; bc; ; none; 4=d; none; ",
-        ),
-        ("a\nb\nc\n", Some(2), "naan", "1=a; b; none; end; "),
-        // The same lines may be skipped, but not near the last line to read.
-        (
-            "a\nbc\n\nd",
-            None,
-            "snssnsnrp",
-            "0 skipped; 1=a; 2 skipped; 0 skipped; 4=d; 0 skipped; end; start; 4 keys; ",
-        ),
-        ("a\nb\nc\n", Some(65_536), "nsn", "1=a; 0 skipped; 2=b; "),
-        ("a\nb\nc\n", Some(65_537), "nsn", "1=a; 2 skipped; end; "),
-    ] {
-        let shown = shown_of(
-            alloc,
-            bytes.as_bytes().to_vec(alloc)?,
-            &[],
-            &[],
-            first,
-            calls,
-        )?;
-        expect_equal_at(&rt, &calls, &shown.as_str(), &text);
+    for (file, first, calls, text) in &FILES {
+        let bytes = file.as_bytes().to_vec(alloc)?;
+        let shown = shown_of(alloc, bytes, &[], &[], *first, *calls)?;
+        expect_equal_at(&rt, calls, &shown.as_str(), text);
     }
     Ok(())
 }

@@ -20,8 +20,6 @@ mod made;
 #[cfg(test)]
 mod memory;
 #[cfg(test)]
-mod names;
-#[cfg(test)]
 mod peeling;
 #[cfg(test)]
 mod ranks;

@@ -1,4 +1,4 @@
-use crate::equal::{expect_equal, expect_equal_at};
+use crate::equal::expect_equal_at;
 use cm_lookup2::words;
 use std::test::Fail;
 
@@ -32,43 +32,25 @@ const PREFIXES: [[u32; 3]; 23] = [
     [0xbff2_3fb8, 0xcbac_584e, 0xf85b_7c93],
 ];
 
-#[test]
-fn published_rows(rt: HostRuntime) -> Result<(), Fail> {
-    expect_equal(
-        &rt,
-        &words(b"", 0),
-        &[0x9b2e_c03d, 0xdb2b_69ae, 0xbd49_d10d],
-    );
-    expect_equal(
-        &rt,
-        &words(b"a", 0),
-        &[0x9454_baa3, 0xb711_c708, 0x29ee_c818],
-    );
-    expect_equal(
-        &rt,
-        &words(b"b", 0),
-        &[0x985a_ccb1, 0x8a9b_d6c6, 0x54ac_a597],
-    );
-    expect_equal(
-        &rt,
-        &words(b"a", 1),
-        &[0x8338_ae66, 0xdb7e_1739, 0x75f1_faad],
-    );
-    expect_equal(
-        &rt,
-        &words(b"b", 1),
-        &[0x9456_939b, 0xbfb7_060f, 0x2148_e957],
-    );
-    expect_equal(
-        &rt,
-        &words(b"key-0000000000", 1),
-        &[0x2ece_ba23, 0x9595_38f7, 0x9187_254a],
-    );
-    Ok(())
-}
+/// Keys, seeds and published hash values.
+const ROWS: [(&[u8], u32, [u32; 3]); 6] = [
+    (b"", 0, [0x9b2e_c03d, 0xdb2b_69ae, 0xbd49_d10d]),
+    (b"a", 0, [0x9454_baa3, 0xb711_c708, 0x29ee_c818]),
+    (b"b", 0, [0x985a_ccb1, 0x8a9b_d6c6, 0x54ac_a597]),
+    (b"a", 1, [0x8338_ae66, 0xdb7e_1739, 0x75f1_faad]),
+    (b"b", 1, [0x9456_939b, 0xbfb7_060f, 0x2148_e957]),
+    (
+        b"key-0000000000",
+        1,
+        [0x2ece_ba23, 0x9595_38f7, 0x9187_254a],
+    ),
+];
 
 #[test]
-fn tails_of_all_lengths(rt: HostRuntime) -> Result<(), Fail> {
+fn hash_values(rt: HostRuntime) -> Result<(), Fail> {
+    for (key, seed, expected) in &ROWS {
+        expect_equal_at(&rt, &(*key, *seed), &words(*key, *seed), expected);
+    }
     for n in 2..25usize {
         expect_equal_at(&rt, &n, &words(&TEXT[..n], 7), &PREFIXES[n - 2]);
     }

@@ -5,6 +5,21 @@ use cm_outer::{Failed, Source};
 use std::alloc::{AllocError, Global};
 use std::test::Fail;
 
+/// Appends the bytes of a source from its place on, of which there are at most 100, read in pieces of this size.
+fn read_on<S: Source>(
+    source: &mut S,
+    piece: &mut [u8],
+    all: &mut Vec<u8>,
+) -> Result<(), AllocError> {
+    for _ in 0..100 {
+        match source.read(piece) {
+            Ok(0) | Err(Failed) => return Ok(()),
+            Ok(n) => all.extend_from_slice(&piece[..n])?,
+        }
+    }
+    Ok(())
+}
+
 /// All bytes of a source of at most 100, read in pieces of this size, and after them again those from its start.
 fn read_twice<S: Source>(
     alloc: Global,
@@ -12,14 +27,9 @@ fn read_twice<S: Source>(
     size: usize,
 ) -> Result<Vec<u8>, AllocError> {
     let mut all = Vec::new(alloc);
+    let mut piece = vec![in alloc; 0; size]?;
     for _ in 0..2 {
-        let mut piece = vec![in alloc; 0; size]?;
-        for _ in 0..100 {
-            match source.read(&mut piece) {
-                Ok(0) | Err(Failed) => break,
-                Ok(n) => all.extend_from_slice(&piece[..n])?,
-            }
-        }
+        read_on(source, &mut piece, &mut all)?;
         if source.rewind().is_err() {
             break;
         }

@@ -3,12 +3,11 @@ ghost use Rattle.cm_outer.specs.Causes.{HasCause};
 ghost use Rattle.cm_outer.specs.Noting.{Noted};
 ghost use Rattle.cm_outer.specs.Writing.{Writes};
 
-use crate::equal::{expect_bytes, expect_equal, expect_text, expect_true};
+use crate::equal::{expect_bytes, expect_equal, expect_true};
 use cm_outer::{
-    Disk, DiskCall, DiskFault, Failed, KeyBuf, KeyFault, MAX_KEY_LEN, MAX_KEYS, MemDisk, MemSink,
-    MemSource, MemSpill, Notes, Sink, Source, Spill, write_pieces,
+    Disk, DiskFault, Failed, MemDisk, MemSink, MemSource, MemSpill, Notes, Sink, Source, Spill,
+    write_pieces,
 };
-use std::alloc::{AllocError, Global};
 use std::test::Fail;
 
 // Each of these goes through the bounds alone.
@@ -21,7 +20,7 @@ fn rewound<S: Source>(source: &mut S) -> Result<(), Failed> {
     source.rewind()
 }
 
-fn store<D: Disk>(disk: &mut D, path: &str, bytes: &[u8]) -> Result<(), DiskFault> {
+pub fn store<D: Disk>(disk: &mut D, path: &str, bytes: &[u8]) -> Result<(), DiskFault> {
     let mut writer = disk.create(path)?;
     let wrote = writer.write(bytes);
     disk.close(path, writer)?;
@@ -60,84 +59,6 @@ fn holds(disk: &MemDisk, path: &str, bytes: &[u8]) -> bool {
     }
 }
 
-/// The calls that failed, each by its kind and its number among those that were made of one object.
-#[derive(Drop)]
-struct FailedCalls {
-    calls: Vec<(DiskCall, u64)>,
-}
-
-impl FailedCalls {
-    fn note(&mut self, kind: DiskCall, number: u64, failed: bool) -> Result<(), AllocError> {
-        if failed {
-            self.calls.push((kind, number))?;
-        }
-        Ok(())
-    }
-
-    /// Three reads and three rewinds.
-    fn note_reads<S: Source>(&mut self, source: &mut S) -> Result<(), AllocError> {
-        for number in 0..3 {
-            self.note(DiskCall::Read, number, source.read(&mut [0]).is_err())?;
-            self.note(DiskCall::Rewind, number, source.rewind().is_err())?;
-        }
-        Ok(())
-    }
-
-    /// Three writes.
-    fn note_writes<S: Sink>(&mut self, sink: &mut S) -> Result<(), AllocError> {
-        for number in 0..3 {
-            self.note(DiskCall::Write, number, sink.write(b"x").is_err())?;
-        }
-        Ok(())
-    }
-
-    /// Three appends and three reads.
-    fn note_spill<S: Spill>(&mut self, spill: &mut S) -> Result<(), AllocError> {
-        for number in 0..3 {
-            self.note(DiskCall::Append, number, spill.append(b"x").is_err())?;
-            self.note(
-                DiskCall::ReadAt,
-                number,
-                spill.read_at(0, &mut [0]).is_err(),
-            )?;
-        }
-        Ok(())
-    }
-
-    /// One of each of the disk's own calls, and three of each call of what it makes.
-    fn note_round(&mut self, disk: &mut MemDisk, number: u64) -> Result<(), AllocError> {
-        match disk.open("keys") {
-            Ok(mut reader) => {
-                self.note_reads(&mut reader)?;
-                disk.shut(reader);
-            }
-            Err(fault) => self.note(DiskCall::Open, number, fault == DiskFault::Failed)?,
-        }
-        match disk.create("out") {
-            Ok(mut writer) => {
-                self.note_writes(&mut writer)?;
-                let closed = disk.close("out", writer);
-                self.note(DiskCall::Close, number, closed.is_err())?;
-            }
-            Err(fault) => self.note(DiskCall::Create, number, fault == DiskFault::Failed)?,
-        }
-        match disk.spill("tmp") {
-            Ok(mut spill) => {
-                self.note_spill(&mut spill)?;
-                disk.give_back(spill);
-            }
-            Err(fault) => self.note(DiskCall::Spill, number, fault == DiskFault::Failed)?,
-        }
-        Ok(())
-    }
-}
-
-fn one_byte(alloc: Global) -> Result<Vec<u8>, DiskFault> {
-    let mut bytes = Vec::new(alloc);
-    bytes.push(7)?;
-    Ok(bytes)
-}
-
 #[test]
 fn reads_go_on_after_a_fault(rt: HostRuntime) -> Result<(), Fail> {
     let alloc = rt.alloc();
@@ -155,48 +76,58 @@ fn reads_go_on_after_a_fault(rt: HostRuntime) -> Result<(), Fail> {
     expect_bytes(&rt, buf.as_slice(), b"efcd");
     expect_equal(&rt, &read_from(&mut source, &mut buf), &Ok(0));
     expect_equal(&rt, &rewound(&mut source), &Ok(()));
-    expect_equal(&rt, &read_from(&mut source, &mut buf[..1]), &Ok(1));
-    expect_equal(&rt, &read_from(&mut source, &mut []), &Ok(0));
-    expect_equal(&rt, &read_from(&mut source, &mut buf[1..]), &Ok(3));
+    expect_equal(&rt, &read_from(&mut source, &mut buf), &Ok(4));
     expect_bytes(&rt, buf.as_slice(), b"abcd");
-    let mut disk = MemDisk::new(alloc, 0);
-    disk.shut(source);
-    expect_equal(&rt, &disk.read_faults(), &1);
     Ok(())
 }
 
-#[test]
-fn a_room_ends_inside_a_piece(rt: HostRuntime) -> Result<(), Fail> {
-    let alloc = rt.alloc();
-    let mut sink = MemSink::new(alloc, 5, [1].to_vec(alloc)?)?;
-    expect_equal(&rt, &sink.write(b"abc"), &Ok(()));
-    expect_equal(&rt, &sink.write(b"x"), &Err(Failed));
-    expect_bytes(&rt, sink.bytes(), b"abc");
-    expect_equal(&rt, &sink.write(b"def"), &Err(Failed));
-    expect_bytes(&rt, sink.bytes(), b"abcde");
-    expect_equal(&rt, &sink.write(b""), &Ok(()));
-    Ok(())
+/// What four appends to a spill and four reads of it returned, and the bytes of each read.
+#[derive(Drop)]
+pub struct Uses {
+    pub appends: [Result<(), Failed>; 4],
+    pub counts: [Result<usize, Failed>; 4],
+    pub bufs: [[u8; 4]; 4],
 }
 
+impl Uses {
+    pub fn new() -> Uses {
+        Uses {
+            appends: [Err(Failed); 4],
+            counts: [Err(Failed); 4],
+            bufs: [[0; 4]; 4],
+        }
+    }
+
+    /// Appends three pieces, reads from an inner place, at the end and after it, appends another piece, and reads from an inner place.
+    pub fn make<P: Spill>(&mut self, spill: &mut P) {
+        self.appends[0] = spill.append(b"abc");
+        self.appends[1] = spill.append(b"de");
+        self.appends[2] = spill.append(b"f");
+        self.counts[0] = spill.read_at(1, &mut self.bufs[0]);
+        self.counts[1] = spill.read_at(6, &mut self.bufs[1]);
+        self.counts[2] = spill.read_at(9, &mut self.bufs[2]);
+        self.appends[3] = spill.append(b"gh");
+        self.counts[3] = spill.read_at(5, &mut self.bufs[3]);
+    }
+}
+
+/// The second append and the third read fail, and the room ends inside the last piece.
 #[test]
 fn a_spill_is_read_from_any_place(rt: HostRuntime) -> Result<(), Fail> {
     let alloc = rt.alloc();
     let mut spill = MemSpill::new(alloc, 5, [1].to_vec(alloc)?, [2].to_vec(alloc)?)?;
-    expect_equal(&rt, &spill.append(b"abc"), &Ok(()));
-    expect_equal(&rt, &spill.append(b"x"), &Err(Failed));
-    expect_equal(&rt, &spill.append(b"def"), &Err(Failed));
-    let mut buf = [0u8; 2];
-    expect_equal(&rt, &spill.read_at(3, &mut buf), &Ok(2));
-    expect_bytes(&rt, buf.as_slice(), b"de");
-    expect_equal(&rt, &spill.read_at(4, &mut buf), &Ok(1));
-    expect_bytes(&rt, buf.as_slice(), b"ee");
-    expect_equal(&rt, &spill.read_at(0, &mut buf), &Err(Failed));
-    expect_equal(&rt, &spill.read_at(5, &mut buf), &Ok(0));
-    expect_equal(&rt, &spill.read_at(u64::MAX, &mut buf), &Ok(0));
-    expect_equal(&rt, &spill.read_at(0, &mut []), &Ok(0));
-    let mut whole = [0u8; 6];
+    let mut uses = Uses::new();
+    uses.make(&mut spill);
+    expect_equal(
+        &rt,
+        &uses.appends,
+        &[Ok(()), Err(Failed), Ok(()), Err(Failed)],
+    );
+    expect_equal(&rt, &uses.counts, &[Ok(3), Ok(0), Err(Failed), Ok(0)]);
+    expect_equal(&rt, &uses.bufs, &[*b"bcf\0", [0; 4], [0; 4], [0; 4]]);
+    let mut whole = [0; 6];
     expect_equal(&rt, &spill.read_at(0, &mut whole), &Ok(5));
-    expect_bytes(&rt, &whole[..5], b"abcde");
+    expect_bytes(&rt, &whole, b"abcfg\0");
     Ok(())
 }
 
@@ -229,10 +160,7 @@ fn notes_end_with_the_first_that_failed(rt: HostRuntime) -> Result<(), Fail> {
 #[test]
 fn files_are_kept(rt: HostRuntime) -> Result<(), Fail> {
     let mut disk = MemDisk::new(rt.alloc(), 4);
-    disk.put("keys", b"a\nb\nc")?;
     disk.put("keys", b"a\nb\n")?;
-    expect_true(&rt, holds(&disk, "keys", b"a\nb\n"));
-    expect_true(&rt, disk.get("key").is_none());
     let mut buf = [0u8; 3];
     expect_equal(&rt, &first_bytes(&mut disk, "keys", &mut buf), &Ok(3));
     expect_bytes(&rt, buf.as_slice(), b"a\nb");
@@ -241,86 +169,12 @@ fn files_are_kept(rt: HostRuntime) -> Result<(), Fail> {
         &first_bytes(&mut disk, "key", &mut buf),
         &Err(DiskFault::Failed),
     );
-    expect_equal(&rt, &store(&mut disk, "out", b"1234"), &Ok(()));
     expect_equal(
         &rt,
-        &store(&mut disk, "out", b"56789"),
+        &store(&mut disk, "out", b"12345"),
         &Err(DiskFault::Failed),
     );
-    expect_true(&rt, holds(&disk, "out", b"5678"));
+    expect_true(&rt, holds(&disk, "out", b"1234"));
     expect_true(&rt, holds(&disk, "keys", b"a\nb\n"));
-    Ok(())
-}
-
-#[test]
-fn listed_calls_fail(rt: HostRuntime) -> Result<(), Fail> {
-    let alloc = rt.alloc();
-    // The kind whose second call fails, how often it does, and how often reading and writing fail.
-    let cases = [
-        (DiskCall::Open, 1, 1, 0),
-        (DiskCall::Create, 1, 0, 1),
-        (DiskCall::Close, 1, 0, 1),
-        (DiskCall::Spill, 1, 0, 1),
-        (DiskCall::Read, 3, 3, 0),
-        (DiskCall::Rewind, 3, 3, 0),
-        (DiskCall::Write, 3, 0, 3),
-        (DiskCall::Append, 3, 0, 3),
-        (DiskCall::ReadAt, 3, 0, 3),
-    ];
-    for (kind, times, read_faults, write_faults) in cases {
-        let mut disk = MemDisk::new(alloc, 9);
-        disk.put("keys", b"abc")?;
-        disk.fail(kind, 1)?;
-        let mut failed = FailedCalls {
-            calls: Vec::new(alloc),
-        };
-        for number in 0..3 {
-            failed.note_round(&mut disk, number)?;
-        }
-        expect_equal(&rt, &failed.calls.len(), &times);
-        expect_true(&rt, failed.calls.iter().all(|call| *call == (kind, 1)));
-        expect_equal(&rt, &disk.read_faults(), &read_faults);
-        expect_equal(&rt, &disk.write_faults(), &write_faults);
-    }
-    Ok(())
-}
-
-#[test]
-fn failed_calls_keep_the_files(rt: HostRuntime) -> Result<(), Fail> {
-    let mut disk = MemDisk::new(rt.alloc(), 4);
-    disk.fail(DiskCall::Close, 0)?;
-    disk.fail(DiskCall::Create, 1)?;
-    expect_equal(
-        &rt,
-        &store(&mut disk, "out", b"1234"),
-        &Err(DiskFault::Failed),
-    );
-    expect_true(&rt, holds(&disk, "out", b"1234"));
-    expect_equal(&rt, &store(&mut disk, "out", b"5"), &Err(DiskFault::Failed));
-    expect_true(&rt, holds(&disk, "out", b"1234"));
-    expect_equal(&rt, &store(&mut disk, "out", b"5"), &Ok(()));
-    expect_true(&rt, holds(&disk, "out", b"5"));
-    expect_equal(&rt, &disk.write_faults(), &2);
-    Ok(())
-}
-
-#[test]
-fn texts_and_limits(rt: HostRuntime) -> Result<(), Fail> {
-    let alloc = rt.alloc();
-    let text = format!(in alloc;
-        "{}; {}; {}",
-        KeyFault::Read,
-        KeyFault::TooLong { line: 2 },
-        KeyFault::TooMany
-    )?;
-    expect_text(
-        &rt,
-        text.as_str(),
-        "the keys cannot be read; line 2 is too long; there are too many keys",
-    );
-    expect_equal(&rt, &MAX_KEYS, &16_777_216);
-    expect_equal(&rt, &MAX_KEY_LEN, &65_535);
-    expect_equal(&rt, &KeyBuf::new().capacity(), &65_535);
-    expect_equal(&rt, &one_byte(alloc).map(|bytes| bytes.len()), &Ok(1));
     Ok(())
 }

@@ -112,49 +112,41 @@ fn gives<const K: usize>(
     peeled.order() == order && peeled.rest() == rest
 }
 
-fn peels_a_path<I: Incidence<2> + Drop>(rt: &impl Abort, alloc: Global) -> Result<(), AllocError> {
-    let mut edges = Edges::<2>::new(alloc, 4);
-    for v in 0..3u32 {
-        expect_true(rt, add(&mut edges, v, v + 1)?);
-    }
-    let path = pairs::<I>(alloc, &edges)?;
-    expect_true(
-        rt,
-        gives(
-            &path,
-            edges.len(),
-            &[(1, 0), (2, 0), (1, 1)],
-            &[0, 2, 1],
-            &[],
-        ),
-    );
-    Ok(())
-}
+/// Edges over four vertices, the level and pivot of each, the removed ones in order, and the residual graph: a path, a ring, and a ring
+/// with an edge that hangs on it.
+const GRAPHS: [(&[(u32, u32)], &[(u32, u32)], &[u32], &[u32]); 3] = [
+    (
+        &[(0, 1), (1, 2), (2, 3)],
+        &[(1, 0), (2, 0), (1, 1)],
+        &[0, 2, 1],
+        &[],
+    ),
+    (
+        &[(0, 1), (1, 2), (2, 0)],
+        &[(0, 0), (0, 0), (0, 0)],
+        &[],
+        &[0, 1, 2],
+    ),
+    (
+        &[(0, 1), (1, 2), (2, 0), (2, 3)],
+        &[(0, 0), (0, 0), (0, 0), (1, 1)],
+        &[3],
+        &[0, 1, 2],
+    ),
+];
 
-fn leaves_a_ring<I: Incidence<2> + Drop>(rt: &impl Abort, alloc: Global) -> Result<(), AllocError> {
-    let mut edges = Edges::<2>::new(alloc, 4);
-    for v in 0..3u32 {
-        expect_true(rt, add(&mut edges, v, (v + 1) % 3)?);
-    }
-    let bare = pairs::<I>(alloc, &edges)?;
-    expect_true(rt, gives(&bare, edges.len(), &[(0, 0); 3], &[], &[0, 1, 2]));
-    expect_true(rt, add(&mut edges, 2, 3)?);
-    let tailed = pairs::<I>(alloc, &edges)?;
-    let marks = [(0, 0), (0, 0), (0, 0), (1, 1)];
-    expect_true(rt, gives(&tailed, edges.len(), &marks, &[3], &[0, 1, 2]));
-    Ok(())
-}
-
-fn peels_a_triple<I: Incidence<3> + Drop>(
+fn peels_small_graphs<I: Incidence<2> + Drop>(
     rt: &impl Abort,
     alloc: Global,
 ) -> Result<(), AllocError> {
-    let mut edges = Edges::<3>::new(alloc, 9);
-    let none = triples::<I>(alloc, &edges)?;
-    expect_true(rt, gives(&none, edges.len(), &[], &[], &[]));
-    edges.push([0, 3, 6])?;
-    let one = triples::<I>(alloc, &edges)?;
-    expect_true(rt, gives(&one, edges.len(), &[(1, 0)], &[0], &[]));
+    for (ends, marks, order, rest) in &GRAPHS {
+        let mut edges = Edges::<2>::new(alloc, 4);
+        for (first, second) in *ends {
+            expect_true(rt, add(&mut edges, *first, *second)?);
+        }
+        let peeled = pairs::<I>(alloc, &edges)?;
+        expect_true(rt, gives(&peeled, edges.len(), *marks, *order, *rest));
+    }
     Ok(())
 }
 
@@ -176,13 +168,24 @@ fn peels_a_crown<I: Incidence<2> + Drop>(rt: &impl Abort, alloc: Global) -> Resu
     Ok(())
 }
 
+fn peels_a_triple<I: Incidence<3> + Drop>(
+    rt: &impl Abort,
+    alloc: Global,
+) -> Result<(), AllocError> {
+    let mut edges = Edges::<3>::new(alloc, 9);
+    let none = triples::<I>(alloc, &edges)?;
+    expect_true(rt, gives(&none, edges.len(), &[], &[], &[]));
+    edges.push([0, 3, 6])?;
+    let one = triples::<I>(alloc, &edges)?;
+    expect_true(rt, gives(&one, edges.len(), &[(1, 0)], &[0], &[]));
+    Ok(())
+}
+
 #[test]
 fn small_graphs(rt: HostRuntime) -> Result<(), Fail> {
     let alloc = rt.alloc();
-    peels_a_path::<Xored<2>>(&rt, alloc)?;
-    peels_a_path::<Linked<2>>(&rt, alloc)?;
-    leaves_a_ring::<Xored<2>>(&rt, alloc)?;
-    leaves_a_ring::<Linked<2>>(&rt, alloc)?;
+    peels_small_graphs::<Xored<2>>(&rt, alloc)?;
+    peels_small_graphs::<Linked<2>>(&rt, alloc)?;
     peels_a_crown::<Xored<2>>(&rt, alloc)?;
     peels_a_crown::<Linked<2>>(&rt, alloc)?;
     peels_a_triple::<Xored<3>>(&rt, alloc)?;
@@ -227,78 +230,6 @@ fn long_path(rt: HostRuntime) -> Result<(), Fail> {
     expect_true(&rt, is_path_peeled(&xored, m));
     let chained = pairs::<Linked<2>>(rt.alloc(), &edges)?;
     expect_true(&rt, is_path_peeled(&chained, m));
-    Ok(())
-}
-
-/// How many edges of its path come before and after an edge of a forest. Twenty paths have 21 edges and one has 721, and
-/// edges that follow each other in a path have numbers that lie far apart.
-fn around(e: u32) -> (u32, u32)
-    requires { e < 1141 }
-    ensures before { result.0 < 721 }
-    ensures after { result.1 < 721 }
-{
-    let place = e * 500 % 1141;
-    if place < 420 {
-        (place % 21, 20 - place % 21)
-    } else {
-        (place - 420, 1140 - place)
-    }
-}
-
-/// The first end of such an edge. The other one is the vertex after it.
-fn first_end(e: u32) -> u32
-    requires { e < 1141 }
-    ensures { result < 1161 }
-{
-    let place = e * 500 % 1141;
-    if place < 420 {
-        place / 21 * 22 + place % 21
-    } else {
-        place + 20
-    }
-}
-
-/// Whether that forest is peeled from the ends of its paths, in each round by rising number.
-fn is_forest_peeled(peeled: &Peeled<2>) -> bool
-    requires levels { length peeled.now.levels ≡ 1141 }
-    requires pivots { length peeled.now.pivots ≡ 1141 }
-{
-    for e in 0..1141u32 {
-        let (before, after) = around(e);
-        if peeled.level(e) != before.min(after) + 1 || peeled.pivot(e) != (before > after) as u32 {
-            return false;
-        }
-    }
-    let order = peeled.order();
-    if order.len() != 1141 || peeled.rest().len() != 0 {
-        return false;
-    }
-    for i in 1..1141usize {
-        let (d, e) = (order[i - 1], order[i]);
-        if d >= 1141 || e >= 1141 {
-            return false;
-        }
-        let (now, next) = (peeled.level(d), peeled.level(e));
-        if now > next || (now == next && d >= e) {
-            return false;
-        }
-    }
-    true
-}
-
-/// The first ten rounds have 42 edges each, which are marked, and the last ones two, which are sorted.
-#[test]
-fn forest(rt: HostRuntime) -> Result<(), Fail> {
-    let mut edges = Edges::<2>::new(rt.alloc(), 1162);
-    for e in 0..1141u32 {
-        let v = first_end(e);
-        expect_true(&rt, add(&mut edges, v, v + 1)?);
-    }
-    assert!(rt; edges.len() == 1141);
-    let xored = pairs::<Xored<2>>(rt.alloc(), &edges)?;
-    expect_true(&rt, is_forest_peeled(&xored));
-    let chained = pairs::<Linked<2>>(rt.alloc(), &edges)?;
-    expect_true(&rt, is_forest_peeled(&chained));
     Ok(())
 }
 

@@ -216,19 +216,6 @@ fn counts_by_words(rt: HostRuntime) -> Result<(), Fail> {
     Ok(())
 }
 
-#[test]
-fn counts_by_cells(rt: HostRuntime) -> Result<(), Fail> {
-    let crumbs: Crumbs = scattered(rt.alloc(), 140, 4, 3)?;
-    expect_true(&rt, counts_between(&crumbs, 0));
-    expect_true(&rt, counts_between(&crumbs, 2));
-    expect_true(&rt, counts_between(&crumbs, 7));
-    let bits: Bits = scattered(rt.alloc(), 140, 2, 1)?;
-    expect_true(&rt, counts_between(&bits, 1));
-    let plain: Plain = scattered(rt.alloc(), 140, 1000, 511)?;
-    expect_true(&rt, counts_between(&plain, 300));
-    Ok(())
-}
-
 /// A table that counts how often its cells are read.
 #[derive(Drop)]
 struct Watched<C: Cells + Drop> {
