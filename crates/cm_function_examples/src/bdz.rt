@@ -2,10 +2,11 @@ ghost use Rattle.std.specs.Prelude.{◌≡◌, ◌≤◌, length, IfOk};
 ghost use Rattle.cm_spec.specs.Bdz.{bdz_size};
 ghost use Rattle.cm_spec.specs.Rule.{IsRatio};
 
+use crate::answering::expect_answers;
 use crate::equal::{expect_equal, expect_true};
 use cm_bdz::{Bdz, BdzPh, PartsFault, answers_apart, chosen};
 use cm_bits::{Cells, Crumbs, Trits};
-use cm_scheme::{Answers, Built, answer};
+use cm_scheme::Built;
 use std::alloc::{AllocError, Global};
 use std::test::Fail;
 
@@ -32,37 +33,21 @@ fn function(alloc: Global, m: u32, zeros: &[u32]) -> Result<Result<Bdz, PartsFau
     Ok(Bdz::from_built(alloc, built, 7))
 }
 
-fn span<A: Answers>(function: &A) -> u32 {
-    function.span()
-}
-
 #[test]
 fn ranked_answers(rt: HostRuntime) -> Result<(), Fail> {
     answers_apart();
-    let two = function(rt.alloc(), 2, &[1, 2])?;
-    match two {
-        Ok(two) => {
-            expect_equal(&rt, &span(&two), &2);
-            expect_equal(&rt, &answer(&two, b""), &Some(0));
-            expect_equal(&rt, &answer(&two, b"a"), &Some(1));
-            expect_equal(
-                &rt,
-                &(two.keys(), two.c(), two.seed(), two.b()),
-                &(2, 1_230_000, 0, 7),
-            );
-            expect_equal(&rt, &two.ranks().entries(), &1);
-        }
-        Err(_) => panic!(rt; "refused"),
-    }
-    let one = function(rt.alloc(), 1, &[1])?;
-    match one {
-        Ok(one) => {
-            expect_equal(&rt, &answer(&one, b""), &Some(0));
-            // The vertex that is chosen for this key is idle.
-            expect_equal(&rt, &answer(&one, b"a"), &None);
-        }
-        Err(_) => panic!(rt; "refused"),
-    }
+    let Ok(two) = function(rt.alloc(), 2, &[1, 2])? else {
+        panic!(rt; "refused");
+    };
+    expect_answers(&rt, &two, &(2, Some(0), Some(1)));
+    let parts = (two.keys(), two.c(), two.seed(), two.b());
+    expect_equal(&rt, &parts, &(2, 1_230_000, 0, 7));
+    expect_equal(&rt, &two.ranks().entries(), &1);
+    let Ok(one) = function(rt.alloc(), 1, &[1])? else {
+        panic!(rt; "refused");
+    };
+    // The vertex that is chosen for `a` is idle.
+    expect_answers(&rt, &one, &(1, Some(0), None));
     let other = function(rt.alloc(), 1, &[0, 1])?;
     expect_true(&rt, matches!(other, Err(PartsFault::BadCount)));
     Ok(())
@@ -82,9 +67,7 @@ fn unranked(alloc: Global) -> Result<BdzPh, AllocError> {
 #[test]
 fn unranked_answers(rt: HostRuntime) -> Result<(), Fail> {
     let two = unranked(rt.alloc())?;
-    expect_equal(&rt, &span(&two), &9);
-    expect_equal(&rt, &answer(&two, b""), &Some(1));
-    expect_equal(&rt, &answer(&two, b"a"), &Some(2));
+    expect_answers(&rt, &two, &(9, Some(1), Some(2)));
     expect_equal(&rt, &chosen(two.cells(), b"a", 0), &2);
     expect_equal(&rt, &(two.keys(), two.c(), two.seed()), &(2, 1_230_000, 0));
     Ok(())

@@ -1,17 +1,16 @@
-//! Functions by BRZ: builds through a spill in memory, dumps, and reports of failed builds.
+//! Functions by BRZ: a build through a spill in memory, and dumps.
 ghost use Rattle.std.specs.Prelude.{◌≡◌, ◌<◌, ◌≤◌, [], length};
 ghost use Rattle.cm_spill.specs.declared.runs.TheConstants.{MAX_BYTES, MIN_BYTES};
 
-use crate::dumps::{changed, fault_of, is_saved_again};
-use crate::equal::{expect_bytes, expect_equal, expect_equal_at, expect_true};
+use crate::answering::expect_answers;
+use crate::dumps::{check_changes, is_saved_again};
+use crate::equal::{expect_bytes, expect_equal, expect_true};
 use crate::listed::Listed;
 use cm_brz::build::brz;
-use cm_brz::{BrzFault, MAX_WIDTH, MIN_BYTES, MIN_WIDTH, write_overfull};
+use cm_brz::{BrzFault, MAX_WIDTH, MIN_BYTES, MIN_WIDTH};
 use cm_dump::{Func, LoadFault, save};
 use cm_graph::Steps;
-use cm_lookup2::words;
 use cm_outer::{MemSink, MemSpill, Spill};
-use cm_scheme::answer;
 use std::alloc::{AllocError, Global};
 use std::marker::Brand;
 use std::sync::ledger::{Blank, Ledger};
@@ -48,9 +47,6 @@ const CHANGES: [(usize, usize, u8, LoadFault); 14] = [
 const _: () = prove!(cm_numbers::MIN_WIDTH == MIN_WIDTH as u32);
 
 const _: () = prove!(cm_numbers::MAX_WIDTH == MAX_WIDTH as u32);
-
-const EQUAL: &[u8] =
-    b"core brz split 0 bucket 0 seed 0 edges 2\nedge 1 1 4 7\nedge 2 1 4 7\nequal 1 2\n";
 
 /// The seeds of every build here.
 const SEEDS: [u32; 8] = [0, 1, 2, 3, 4, 5, 6, 7];
@@ -97,29 +93,6 @@ fn built(alloc: Global, keys: &[&[u8]], b: u8, buffer: u32) -> Result<Made, Allo
     Ok(build_by::<Brand>(alloc, keys, b, buffer, spill, Blank::new(1)))
 }
 
-/// The dump of the function of keys, and how many bytes are in the spill.
-fn dumped(
-    alloc: Global,
-    keys: &[&[u8]],
-    buffer: u32,
-) -> Result<Option<(Vec<u8>, usize)>, AllocError>
-    requires buffer { (MIN_BYTES ≤ buffer) × (buffer ≤ MAX_BYTES) }
-{
-    let (made, mut spill) = built(alloc, keys, 64, buffer)?;
-    let Ok(function) = made else {
-        return Ok(None);
-    };
-    let mut out = MemSink::new(alloc, 128, Vec::new(alloc))?;
-    if save(&Func::Brz(function), &mut out).is_err() {
-        return Ok(None);
-    }
-    let mut bytes = vec![in alloc; 0; ROOM]?;
-    let Ok(spilled) = spill.read_at(0, &mut bytes) else {
-        return Ok(None);
-    };
-    Ok(Some((out.bytes().to_vec(alloc)?, spilled)))
-}
-
 #[test]
 fn a_bucket_of_two(rt: HostRuntime) -> Result<(), Fail> {
     let alloc = rt.alloc();
@@ -138,8 +111,7 @@ fn a_bucket_of_two(rt: HostRuntime) -> Result<(), Fail> {
         ),
         &(2, 1_230_000, 128, 0, 1),
     );
-    expect_equal(&rt, &answer(&function, b""), &Some(0));
-    expect_equal(&rt, &answer(&function, b"a"), &Some(1));
+    expect_answers(&rt, &function, &(2, Some(0), Some(1)));
     let mut out = MemSink::new(alloc, 32, Vec::new(alloc))?;
     expect_true(&rt, save(&Func::Brz(function), &mut out).is_ok());
     expect_bytes(&rt, out.bytes(), &BRZ_TWO);
@@ -151,102 +123,10 @@ fn a_bucket_of_two(rt: HostRuntime) -> Result<(), Fail> {
     Ok(())
 }
 
-/// 66 keys of some 40,000 bytes, in two buckets: the smallest buffer has room for one of them, and that of a MiB for 26.
-#[test]
-fn any_buffer(rt: HostRuntime) -> Result<(), Fail> {
-    let alloc = rt.alloc();
-    let text = vec![in alloc; b'x'; 40_000]?;
-    let mut keys: Vec<&[u8]> = Vec::new(alloc);
-    for i in 0..66 {
-        keys.push(&text[i..])?;
-    }
-    let small = dumped(alloc, &keys, MIN_BYTES)?;
-    expect_true(&rt, small.is_some());
-    expect_equal(&rt, &dumped(alloc, &keys, 1_048_576)?, &small);
-    Ok(())
-}
-
 #[test]
 fn dumps_of_brz(rt: HostRuntime) -> Result<(), Fail> {
     let alloc = rt.alloc();
     expect_true(&rt, is_saved_again(alloc, &BRZ_TWO)?);
-    for (len, at, byte, fault) in &CHANGES {
-        let bytes = changed(alloc, &BRZ_TWO, *len, &[(*at, *byte)])?;
-        expect_equal_at(
-            &rt,
-            &(len, at, byte),
-            &fault_of(alloc, &bytes, &[])?,
-            &Some(*fault),
-        );
-    }
-    Ok(())
-}
-
-#[test]
-fn equal_keys_in_a_bucket(rt: HostRuntime) -> Result<(), Fail> {
-    let alloc = rt.alloc();
-    let (made, _) = built(alloc, &[b"", b""], 128, MIN_BYTES)?;
-    match made {
-        Err(BrzFault::Cored(certificate)) => {
-            let mut out = MemSink::new(alloc, 256, Vec::new(alloc))?;
-            expect_true(&rt, certificate.write(&mut out).is_ok());
-            expect_bytes(&rt, out.bytes(), EQUAL);
-        }
-        _ => panic!(rt; "another outcome"),
-    }
-    Ok(())
-}
-
-#[test]
-fn too_many_keys_in_a_bucket(rt: HostRuntime) -> Result<(), Fail> {
-    let alloc = rt.alloc();
-    let keys: [&[u8]; 256] = [b""; 256];
-    let (made, _) = built(alloc, &keys, 175, MIN_BYTES)?;
-    match made {
-        Err(
-            BrzFault::Overfull {
-                seed,
-                bucket,
-                count,
-                equal,
-            },
-        ) => {
-            // There are two buckets, and all keys are in one.
-            expect_equal(
-                &rt,
-                &(seed, bucket, count),
-                &(0, words(b"", u32::MAX)[2] % 2, 256),
-            );
-            expect_equal(&rt, &equal.len(), &255);
-            if let Some(pair) = equal.first() {
-                let mut out = MemSink::new(alloc, 8192, Vec::new(alloc))?;
-                expect_true(
-                    &rt,
-                    write_overfull(seed, 1, count, &[*pair], &mut out).is_ok(),
-                );
-                expect_bytes(
-                    &rt,
-                    out.bytes(),
-                    b"overfull brz seed 0 bucket 1 keys 256\nequal 1 2\n",
-                );
-            }
-            for (i, pair) in equal.iter().enumerate() {
-                expect_equal_at(
-                    &rt,
-                    &i,
-                    &(pair.first, pair.again as usize),
-                    &(1, i.saturating_add(2)),
-                );
-            }
-        }
-        _ => panic!(rt; "another outcome"),
-    }
-    Ok(())
-}
-
-#[test]
-fn no_keys(rt: HostRuntime) -> Result<(), Fail> {
-    let (made, _) = built(rt.alloc(), &[], 128, MIN_BYTES)?;
-    expect_true(&rt, matches!(made, Err(BrzFault::NoKeys)));
+    check_changes(&rt, alloc, &BRZ_TWO, &CHANGES)?;
     Ok(())
 }

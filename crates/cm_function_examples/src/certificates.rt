@@ -30,21 +30,6 @@ fn edge(line: u32, third: Option<u32>) -> CoreEdge
     }
 }
 
-/// A certificate of the algorithm without edges.
-fn empty(alloc: Global, algorithm: Algorithm, seed: u32) -> Certificate
-    ensures algorithm { result.algorithm ≡ algorithm }
-    ensures place { result.place ≡ None }
-    ensures edges { result.edges.items ≡ [] }
-{
-    Certificate {
-        algorithm,
-        seed,
-        place: None,
-        edges: Vec::new(alloc),
-        equal: Vec::new(alloc),
-    }
-}
-
 /// Checks what a sink with this much room holds of a certificate: its text, or the prefix for which there is room.
 fn check(
     rt: &impl Abort,
@@ -136,38 +121,14 @@ fn greatest_numbers(rt: HostRuntime) -> Result<(), Fail> {
 #[test]
 fn no_edges(rt: HostRuntime) -> Result<(), Fail> {
     let alloc = rt.alloc();
-    let graph = empty(alloc, Algorithm::Chm, 1);
-    check(&rt, alloc, &graph, 100, "core chm seed 1 edges 0\n")?;
-    let ranked = empty(alloc, Algorithm::Bdz, 23);
-    check(&rt, alloc, &ranked, 100, "core bdz seed 23 edges 0\n")?;
-    let unranked = empty(alloc, Algorithm::BdzPh, MOST);
-    let text = "core bdz_ph seed 4294967295 edges 0\n";
-    check(&rt, alloc, &unranked, text.len(), text)?;
-    Ok(())
-}
-
-#[test]
-fn a_failed_line_is_the_last(rt: HostRuntime) -> Result<(), Fail> {
-    let alloc = rt.alloc();
     let shown = Certificate {
         algorithm: Algorithm::BdzPh,
-        seed: 3,
+        seed: MOST,
         place: None,
-        edges: Vec::from_slice(alloc, &[edge(1, Some(8)), edge(2, Some(8))])?,
-        equal: Vec::from_slice(alloc, &[Pair { first: 1, again: 2 }])?,
+        edges: Vec::new(alloc),
+        equal: Vec::new(alloc),
     };
-    for (call, text) in [
-        (0, ""),
-        (1, "core bdz_ph seed 3 edges 2\n"),
-        (2, "core bdz_ph seed 3 edges 2\nedge 1 2 5 8\n"),
-        (
-            3,
-            "core bdz_ph seed 3 edges 2\nedge 1 2 5 8\nedge 2 2 5 8\n",
-        ),
-    ] {
-        let mut out = MemSink::new(alloc, 1000, Vec::from_slice(alloc, &[call])?)?;
-        expect_equal(&rt, &shown.write(&mut out), &Err(Failed));
-        expect_bytes(&rt, out.bytes(), text.as_bytes());
-    }
+    let text = "core bdz_ph seed 4294967295 edges 0\n";
+    check(&rt, alloc, &shown, text.len(), text)?;
     Ok(())
 }

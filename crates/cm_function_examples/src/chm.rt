@@ -3,10 +3,11 @@ ghost use Rattle.std.specs.Option.{ForSome};
 ghost use Rattle.cm_spec.specs.Chm.{chm_size};
 ghost use Rattle.cm_spec.specs.Rule.{IsRatio};
 
+use crate::answering::expect_answers;
 use crate::equal::expect_equal;
 use cm_bits::{Cells, Fields};
 use cm_chm::{Chm, answers_numbers};
-use cm_scheme::{Answers, Built, answer};
+use cm_scheme::{Built, answer};
 use std::alloc::{AllocError, Global};
 use std::test::Fail;
 
@@ -32,24 +33,16 @@ fn function(
     Ok(Chm::from_built(Built { m, c, seed, cells }))
 }
 
-fn span<A: Answers>(function: &A) -> u32 {
-    function.span()
-}
-
 #[test]
 fn worked_functions(rt: HostRuntime) -> Result<(), Fail> {
     let alloc = rt.alloc();
     answers_numbers();
     let one_key = function(alloc, 1, 2_090_000, 0, 3, None)?;
-    expect_equal(&rt, &span(&one_key), &1);
-    expect_equal(&rt, &answer(&one_key, b""), &Some(0));
-    expect_equal(&rt, &answer(&one_key, b"no key"), &Some(0));
+    expect_answers(&rt, &one_key, &(1, Some(0), Some(0)));
     let empty_and_a = function(alloc, 2, 2_090_000, 0, 5, Some(2))?;
-    expect_equal(&rt, &span(&empty_and_a), &2);
-    expect_equal(&rt, &answer(&empty_and_a, b""), &Some(0));
-    expect_equal(&rt, &answer(&empty_and_a, b"a"), &Some(1));
+    expect_answers(&rt, &empty_and_a, &(2, Some(0), Some(1)));
     let a_and_b = function(alloc, 2, 1_500_000, 1, 3, Some(0))?;
-    expect_equal(&rt, &answer(&a_and_b, b"a"), &Some(0));
-    expect_equal(&rt, &answer(&a_and_b, b"b"), &Some(1));
+    let found = (answer(&a_and_b, b"a"), answer(&a_and_b, b"b"));
+    expect_equal(&rt, &found, &(Some(0), Some(1)));
     Ok(())
 }

@@ -1,10 +1,11 @@
 ghost use Rattle.std.specs.Prelude.{◌≡◌, IfOk};
 
+use crate::answering::expect_answers;
 use crate::equal::{expect_equal, expect_equal_at, expect_text, expect_true};
 use cm_bits::Cells;
+use cm_chm::Chm;
 use cm_dump::{Func, LoadFault, load, save, saved_len};
 use cm_outer::{MemSink, MemSource};
-use cm_scheme::{Answers, answer};
 use std::alloc::{AllocError, Global};
 use std::process::Abort;
 use std::test::Fail;
@@ -163,90 +164,91 @@ pub(crate) fn is_saved_again(alloc: Global, bytes: &[u8]) -> Result<bool, AllocE
     Ok(is_saved && out.bytes() == bytes && saved_len(&function) == bytes.len() as u64)
 }
 
-/// Compares the faults of a dump that is cut or extended to this length, with one byte changed: the length, the place, the byte and the
-/// fault of each row.
-fn check_changes(
+/// Compares the fault of a dump that is cut or extended to this length, with some bytes changed.
+pub(crate) fn check_change(
+    rt: &impl Abort,
+    alloc: Global,
+    dump: &[u8],
+    len: usize,
+    changes: &[(usize, u8)],
+    fault: LoadFault,
+) -> Result<(), AllocError> {
+    let bytes = changed(alloc, dump, len, changes)?;
+    let found = fault_of(alloc, &bytes, &[])?;
+    expect_equal_at(rt, &(len, changes), &found, &Some(fault));
+    Ok(())
+}
+
+/// Compares the faults of a dump with one byte changed: the length, the place, the byte and the fault of each row.
+pub(crate) fn check_changes(
     rt: &impl Abort,
     alloc: Global,
     dump: &[u8],
     rows: &[(usize, usize, u8, LoadFault)],
 ) -> Result<(), AllocError> {
     for (len, at, byte, fault) in rows {
-        let bytes = changed(alloc, dump, *len, &[(*at, *byte)])?;
-        expect_equal_at(
-            rt,
-            &(byte, at),
-            &fault_of(alloc, &bytes, &[])?,
-            &Some(*fault),
-        );
+        check_change(rt, alloc, dump, *len, &[(*at, *byte)], *fault)?;
     }
     Ok(())
 }
 
-/// The span of a function.
-fn span<A: Answers>(function: &A) -> u32 {
-    function.span()
+/// The function by CHM that is loaded from these bytes, if there is one.
+fn chm_of(alloc: Global, bytes: &[u8]) -> Result<Option<Chm>, AllocError> {
+    let mut source = source_of(alloc, bytes, &[])?;
+    match load(alloc, &mut source) {
+        Ok(Func::Chm(chm)) => Ok(Some(chm)),
+        _ => Ok(None),
+    }
 }
 
 #[test]
-fn functions(rt: HostRuntime) -> Result<(), Fail> {
-    let alloc = rt.alloc();
-    let mut source = source_of(alloc, &CHM_TWO, &[])?;
-    match load(alloc, &mut source) {
-        Ok(Func::Chm(chm)) => {
-            expect_equal(&rt, &(chm.keys(), chm.c(), chm.seed()), &(2, 2_090_000, 0));
-            let cells = chm.cells();
-            expect_equal(&rt, &cells.len(), &5);
-            for i in 0..cells.len() {
-                expect_equal(&rt, &cells.get(i), &((i == 2) as u32));
-            }
-        }
-        Ok(_other) => panic!(rt; "another algorithm"),
-        Err(fault) => panic!(rt; "{fault}"),
+fn parts_of_chm(rt: HostRuntime) -> Result<(), Fail> {
+    let Some(chm) = chm_of(rt.alloc(), &CHM_TWO)? else {
+        panic!(rt; "no function");
+    };
+    expect_equal(&rt, &(chm.keys(), chm.c(), chm.seed()), &(2, 2_090_000, 0));
+    let cells = chm.cells();
+    expect_equal(&rt, &cells.len(), &5);
+    for i in 0..cells.len() {
+        expect_equal(&rt, &cells.get(i), &((i == 2) as u32));
     }
-    let mut source = source_of(alloc, &CHM_FIVE, &[])?;
-    match load(alloc, &mut source) {
-        Ok(Func::Chm(chm)) => expect_equal(&rt, &chm.seed(), &0x0102_0304),
-        Ok(_other) => panic!(rt; "another algorithm"),
-        Err(fault) => panic!(rt; "{fault}"),
-    }
+    let Some(chm) = chm_of(rt.alloc(), &CHM_FIVE)? else {
+        panic!(rt; "no function");
+    };
+    expect_equal(&rt, &chm.seed(), &0x0102_0304);
     Ok(())
 }
+
+const DUMPS: [&[u8]; 6] = [&CHM_ONE, &CHM_TWO, &CHM_FIVE, &BDZ_ONE, &BDZ_TWO, &PH_TWO];
 
 #[test]
 fn saved_again(rt: HostRuntime) -> Result<(), Fail> {
-    let dumps = [
-        CHM_ONE.as_slice(),
-        CHM_TWO.as_slice(),
-        CHM_FIVE.as_slice(),
-        BDZ_ONE.as_slice(),
-        BDZ_TWO.as_slice(),
-        PH_TWO.as_slice(),
-    ];
-    for dump in dumps {
-        expect_true(&rt, is_saved_again(rt.alloc(), dump)?);
+    for dump in &DUMPS {
+        expect_true(&rt, is_saved_again(rt.alloc(), *dump)?);
+    }
+    Ok(())
+}
+
+/// The answers of the function that is loaded from these bytes.
+fn check_answers(
+    rt: &impl Abort,
+    alloc: Global,
+    bytes: &[u8],
+    expected: &(u32, Option<u32>, Option<u32>),
+) -> Result<(), AllocError> {
+    let mut source = source_of(alloc, bytes, &[])?;
+    match load(alloc, &mut source) {
+        Ok(function) => expect_answers(rt, &function, expected),
+        Err(fault) => panic!(rt; "{fault}"),
     }
     Ok(())
 }
 
 #[test]
 fn answers(rt: HostRuntime) -> Result<(), Fail> {
-    let rows = [
-        (CHM_TWO.as_slice(), 2, 0, 1),
-        (BDZ_TWO.as_slice(), 2, 0, 1),
-        (PH_TWO.as_slice(), 9, 1, 2),
-    ];
-    for (dump, below, first, second) in rows {
-        let mut source = source_of(rt.alloc(), dump, &[])?;
-        match load(rt.alloc(), &mut source) {
-            Ok(function) => {
-                expect_equal(&rt, &span(&function), &below);
-                expect_equal(&rt, &answer(&function, b""), &Some(first));
-                expect_equal(&rt, &answer(&function, b"a"), &Some(second));
-            }
-            Err(fault) => panic!(rt; "{fault}"),
-        }
-    }
+    check_answers(&rt, rt.alloc(), &CHM_TWO, &(2, Some(0), Some(1)))?;
+    check_answers(&rt, rt.alloc(), &BDZ_TWO, &(2, Some(0), Some(1)))?;
+    check_answers(&rt, rt.alloc(), &PH_TWO, &(9, Some(1), Some(2)))?;
     Ok(())
 }
 
@@ -261,107 +263,99 @@ fn changed_bytes(rt: HostRuntime) -> Result<(), Fail> {
     Ok(())
 }
 
+/// What two changes of `CHM_FIVE` cause: the length, the changes and the fault.
+const PAIRS: [(usize, [(usize, u8); 2], LoadFault); 7] = [
+    // Cell 5 has the bits 15 to 17 of the image, and cell 6 the next three.
+    (29, [(25, 0x80), (26, 0x1f)], LoadFault::BadCell { at: 25 }),
+    (29, [(25, 0), (26, 0x1c)], LoadFault::BadCell { at: 26 }),
+    (29, [(25, 0), (28, 2)], LoadFault::BadPadding { at: 28 }),
+    // A bad cell comes before padding, wherever they stand, and before a byte that follows.
+    (30, [(26, 0x1c), (28, 2)], LoadFault::BadCell { at: 26 }),
+    (30, [(25, 0), (28, 2)], LoadFault::BadPadding { at: 28 }),
+    // An image that is cut off is not checked.
+    (
+        28,
+        [(25, 0x80), (26, 0x1f)],
+        LoadFault::Truncated { at: 28 },
+    ),
+    (30, [(25, 0), (26, 0)], LoadFault::Trailing),
+];
+
+/// Headers that claim images of half a gigabyte and of 16,777,216 keys, of which a few bytes are there: the dump, the length and the
+/// changes.
+const CLAIMS: [(&[u8], usize, [(usize, u8); 2]); 3] = [
+    (&CHM_ONE, 25, [(14, 255), (18, 0x97)]),
+    (&BDZ_ONE, 30, [(12, 0), (15, 1)]),
+    (&PH_TWO, 30, [(12, 0), (15, 1)]),
+];
+
 #[test]
-fn images(rt: HostRuntime) -> Result<(), Fail> {
-    let alloc = rt.alloc();
-    let changes = [
-        // Cell 5 has the bits 15 to 17 of the image, and cell 6 the next three.
-        (29, [(25, 0x80), (26, 0x1f)], LoadFault::BadCell { at: 25 }),
-        (29, [(25, 0), (26, 0x1c)], LoadFault::BadCell { at: 26 }),
-        (29, [(25, 0), (28, 2)], LoadFault::BadPadding { at: 28 }),
-        // A bad cell comes before padding, wherever they stand, and before a byte that follows.
-        (30, [(26, 0x1c), (28, 2)], LoadFault::BadCell { at: 26 }),
-        (30, [(25, 0), (28, 2)], LoadFault::BadPadding { at: 28 }),
-        // An image that is cut off is not checked.
-        (
-            28,
-            [(25, 0x80), (26, 0x1f)],
-            LoadFault::Truncated { at: 28 },
-        ),
-        (30, [(25, 0), (26, 0)], LoadFault::Trailing),
-    ];
-    for (len, two, fault) in changes {
-        let bytes = changed(alloc, &CHM_FIVE, len, &two)?;
-        expect_equal(&rt, &fault_of(alloc, &bytes, &[])?, &Some(fault));
+fn changed_images(rt: HostRuntime) -> Result<(), Fail> {
+    for (len, changes, fault) in &PAIRS {
+        check_change(&rt, rt.alloc(), &CHM_FIVE, *len, changes, *fault)?;
+    }
+    for (dump, len, changes) in &CLAIMS {
+        let fault = LoadFault::Truncated { at: *len as u64 };
+        check_change(&rt, rt.alloc(), *dump, *len, changes, fault)?;
     }
     Ok(())
+}
+
+/// Each proper prefix of a dump is cut off at its end, and a byte after the dump is trailing.
+fn check_lengths(rt: &impl Abort, alloc: Global, dump: &[u8]) -> Result<(), AllocError> {
+    for n in 0..dump.len() {
+        let fault = LoadFault::Truncated { at: n as u64 };
+        check_change(rt, alloc, dump, n, &[], fault)?;
+    }
+    check_change(rt, alloc, dump, dump.len() + 1, &[], LoadFault::Trailing)
 }
 
 #[test]
 fn lengths(rt: HostRuntime) -> Result<(), Fail> {
-    let alloc = rt.alloc();
-    for dump in [CHM_ONE.as_slice(), BDZ_ONE.as_slice(), PH_TWO.as_slice()] {
-        for n in 0..dump.len() {
-            let fault = fault_of(alloc, &dump[..n], &[])?;
-            expect_equal(&rt, &fault, &Some(LoadFault::Truncated { at: n as u64 }));
-        }
-        let longer = changed(alloc, dump, dump.len() + 1, &[])?;
-        expect_equal(
-            &rt,
-            &fault_of(alloc, &longer, &[])?,
-            &Some(LoadFault::Trailing),
-        );
-    }
-    // Headers that claim images of half a gigabyte and of 16,777,216 keys, of which a few bytes are there.
-    let claims = [
-        (CHM_ONE.as_slice(), 25, [(14, 255), (18, 0x97)]),
-        (BDZ_ONE.as_slice(), 30, [(12, 0), (15, 1)]),
-        (PH_TWO.as_slice(), 30, [(12, 0), (15, 1)]),
-    ];
-    for (dump, len, changes) in claims {
-        let claim = changed(alloc, dump, len, &changes)?;
-        let fault = Some(LoadFault::Truncated { at: len as u64 });
-        expect_equal(&rt, &fault_of(alloc, &claim, &[])?, &fault);
-    }
+    check_lengths(&rt, rt.alloc(), &CHM_ONE)?;
+    check_lengths(&rt, rt.alloc(), &BDZ_ONE)?;
+    check_lengths(&rt, rt.alloc(), &PH_TWO)?;
     Ok(())
 }
 
+/// Each of the first `reads` reads fails, and the one after them is not made.
+fn check_reads(rt: &impl Abort, alloc: Global, dump: &[u8], reads: u64) -> Result<(), AllocError> {
+    for read in 0..reads {
+        let fault = fault_of(alloc, dump, &[read])?;
+        expect_equal_at(rt, &read, &fault, &Some(LoadFault::Read));
+    }
+    expect_equal(rt, &fault_of(alloc, dump, &[reads])?, &None);
+    Ok(())
+}
+
+// Each item is one read here: eight of the header, the image, the ranks of BDZ, and the end.
 #[test]
 fn failing_reads(rt: HostRuntime) -> Result<(), Fail> {
-    let alloc = rt.alloc();
-    // Each item is one read here: eight of the header, the image, the ranks of BDZ, and the end.
-    let rows = [
-        (CHM_ONE.as_slice(), 10),
-        (BDZ_ONE.as_slice(), 11),
-        (PH_TWO.as_slice(), 10),
-    ];
-    for (dump, reads) in rows {
-        for read in 0..reads {
-            let fault = fault_of(alloc, dump, &[read])?;
-            expect_equal_at(&rt, &read, &fault, &Some(LoadFault::Read));
-        }
-        expect_equal(&rt, &fault_of(alloc, dump, &[reads])?, &None);
-    }
+    check_reads(&rt, rt.alloc(), &CHM_ONE, 10)?;
+    check_reads(&rt, rt.alloc(), &BDZ_ONE, 11)?;
+    check_reads(&rt, rt.alloc(), &PH_TWO, 10)?;
     Ok(())
+}
+
+/// The dump of a function by CHM of 65,536 keys: 136,971 cells of sixteen bits.
+fn long_dump(alloc: Global) -> Result<Vec<u8>, AllocError> {
+    let mut bytes = changed(alloc, &CHM_ONE, 24, &[(12, 0), (14, 1)])?;
+    for i in 0..273_942u32 {
+        bytes.push((i % 251) as u8)?;
+    }
+    Ok(bytes)
 }
 
 #[test]
 fn long_images(rt: HostRuntime) -> Result<(), Fail> {
     let alloc = rt.alloc();
-    // 65,536 keys, and so 136,971 cells of sixteen bits.
-    let mut bytes = changed(alloc, &CHM_ONE, 24, &[(12, 0), (14, 1)])?;
-    for i in 0..273_942u32 {
-        bytes.push((i % 251) as u8)?;
-    }
+    let bytes = long_dump(alloc)?;
     expect_true(&rt, is_saved_again(alloc, &bytes)?);
     // Eight reads of the header here, five of the image, and one of the end.
-    for read in [8, 12, 13u64] {
-        let fault = fault_of(alloc, &bytes, &[read])?;
-        expect_equal_at(&rt, &read, &fault, &Some(LoadFault::Read));
-    }
-    expect_equal(&rt, &fault_of(alloc, &bytes, &[14])?, &None);
-    let cut = changed(alloc, &bytes, 100_000, &[])?;
-    expect_equal(
-        &rt,
-        &fault_of(alloc, &cut, &[])?,
-        &Some(LoadFault::Truncated { at: 100_000 }),
-    );
-    bytes.push(0)?;
-    expect_equal(
-        &rt,
-        &fault_of(alloc, &bytes, &[])?,
-        &Some(LoadFault::Trailing),
-    );
+    check_reads(&rt, alloc, &bytes, 14)?;
+    let fault = LoadFault::Truncated { at: 100_000 };
+    check_change(&rt, alloc, &bytes, 100_000, &[], fault)?;
+    check_change(&rt, alloc, &bytes, 273_967, &[], LoadFault::Trailing)?;
     Ok(())
 }
 
@@ -369,24 +363,25 @@ fn text_of(alloc: Global, fault: LoadFault) -> Result<String, AllocError> {
     format!(in alloc; "{fault}")
 }
 
+/// Faults and their texts.
+const TEXTS: [(LoadFault, &str); 11] = [
+    (LoadFault::Memory, "out of memory"),
+    (LoadFault::Read, "cannot read"),
+    (LoadFault::Truncated { at: 30 }, "truncated at 30"),
+    (LoadFault::BadMagic, "bad magic"),
+    (LoadFault::BadAlgorithm, "bad algorithm"),
+    (LoadFault::BadField { at: 9 }, "bad field at 9"),
+    (LoadFault::BadPadding { at: 26 }, "bad padding at 26"),
+    (LoadFault::BadCell { at: 24 }, "bad cell at 24"),
+    (LoadFault::BadCount { at: 24 }, "bad count at 24"),
+    (LoadFault::BadRank { at: 27 }, "bad rank at 27"),
+    (LoadFault::Trailing, "trailing bytes"),
+];
+
 #[test]
 fn texts(rt: HostRuntime) -> Result<(), Fail> {
-    let alloc = rt.alloc();
-    let texts = [
-        (LoadFault::Memory, "out of memory"),
-        (LoadFault::Read, "cannot read"),
-        (LoadFault::Truncated { at: 30 }, "truncated at 30"),
-        (LoadFault::BadMagic, "bad magic"),
-        (LoadFault::BadAlgorithm, "bad algorithm"),
-        (LoadFault::BadField { at: 9 }, "bad field at 9"),
-        (LoadFault::BadPadding { at: 26 }, "bad padding at 26"),
-        (LoadFault::BadCell { at: 24 }, "bad cell at 24"),
-        (LoadFault::BadCount { at: 24 }, "bad count at 24"),
-        (LoadFault::BadRank { at: 27 }, "bad rank at 27"),
-        (LoadFault::Trailing, "trailing bytes"),
-    ];
-    for (fault, text) in texts {
-        expect_text(&rt, text_of(alloc, fault)?.as_str(), text);
+    for (fault, text) in &TEXTS {
+        expect_text(&rt, text_of(rt.alloc(), *fault)?.as_str(), *text);
     }
     Ok(())
 }

@@ -1,5 +1,5 @@
-use crate::dumps::{BDZ_ONE, BDZ_TWO, changed, fault_of, is_saved_again, source_of};
-use crate::equal::{expect_equal, expect_equal_at, expect_true};
+use crate::dumps::{BDZ_ONE, BDZ_TWO, changed, check_change, is_saved_again, source_of};
+use crate::equal::{expect_equal, expect_true};
 use cm_bits::Cells;
 use cm_dump::{Func, LoadFault, load};
 use std::alloc::{AllocError, Global};
@@ -44,57 +44,20 @@ fn parts_of_bdz(rt: HostRuntime) -> Result<(), Fail> {
 }
 
 #[test]
-fn two_ranks(rt: HostRuntime) -> Result<(), Fail> {
-    let alloc = rt.alloc();
-    // With b = 3 there are two ranks, of which the second is 1.
-    let mut two = changed(alloc, &BDZ_ONE, 35, &[(9, 3), (31, 1)])?;
-    expect_true(&rt, is_saved_again(alloc, &two)?);
-    two = changed(alloc, &BDZ_ONE, 35, &[(9, 3), (31, 0)])?;
-    expect_equal(
-        &rt,
-        &fault_of(alloc, &two, &[])?,
-        &Some(LoadFault::BadRank { at: 31 }),
-    );
-    Ok(())
-}
-
-#[test]
-fn failing_reads_of_ranks(rt: HostRuntime) -> Result<(), Fail> {
-    let alloc = rt.alloc();
-    // Eight reads of the header here, one of the image, three of the ranks, and one of the end.
-    let long = long_dump(alloc)?;
-    for read in [8, 9, 10, 11, 12u64] {
-        let fault = fault_of(alloc, &long, &[read])?;
-        expect_equal_at(&rt, &read, &fault, &Some(LoadFault::Read));
-    }
-    expect_equal(&rt, &fault_of(alloc, &long, &[13])?, &None);
-    Ok(())
-}
-
-#[test]
 fn many_ranks(rt: HostRuntime) -> Result<(), Fail> {
     let alloc = rt.alloc();
     let long = long_dump(alloc)?;
     expect_equal(&rt, &long.len(), &LONG_LEN);
     expect_true(&rt, is_saved_again(alloc, &long)?);
-    let first = 24 + 20_154;
-    for rank in [0, 1023, 1024, 5000, 10_076usize] {
-        let at = first + 4 * rank;
-        let wrong = changed(alloc, &long, LONG_LEN, &[(at + 3, 1)])?;
-        let fault = Some(LoadFault::BadRank { at: at as u64 });
-        expect_equal_at(&rt, &rank, &fault_of(alloc, &wrong, &[])?, &fault);
+    for rank in [0, 1023, 1024, 10_076usize] {
+        let at = 24 + 20_154 + 4 * rank;
+        let fault = LoadFault::BadRank { at: at as u64 };
+        check_change(&rt, alloc, &long, LONG_LEN, &[(at + 3, 1)], fault)?;
         // A wrong rank that is whole comes before what follows.
-        let cut = changed(alloc, &wrong, at + 5, &[])?;
-        expect_equal_at(&rt, &rank, &fault_of(alloc, &cut, &[])?, &fault);
-        let short = changed(alloc, &long, at + 3, &[])?;
-        let fault = Some(LoadFault::Truncated { at: at as u64 + 3 });
-        expect_equal_at(&rt, &rank, &fault_of(alloc, &short, &[])?, &fault);
+        check_change(&rt, alloc, &long, at + 5, &[(at + 3, 1)], fault)?;
+        let fault = LoadFault::Truncated { at: at as u64 + 3 };
+        check_change(&rt, alloc, &long, at + 3, &[], fault)?;
     }
-    let longer = changed(alloc, &long, LONG_LEN + 1, &[])?;
-    expect_equal(
-        &rt,
-        &fault_of(alloc, &longer, &[])?,
-        &Some(LoadFault::Trailing),
-    );
+    check_change(&rt, alloc, &long, LONG_LEN + 1, &[], LoadFault::Trailing)?;
     Ok(())
 }

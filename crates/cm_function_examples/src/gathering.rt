@@ -1,59 +1,16 @@
-//! Equal keys, and what is gathered of a 2-core.
+//! What is gathered of a 2-core.
 
 use crate::equal::{expect_equal, expect_true};
 use crate::listed::Listed;
 use cm_graph::Edges;
 use cm_outer::KeyFault;
-use cm_witness::{Algorithm, CoreEdge, GatherFault, Pair, count_candidates, equal_pairs, gather};
+use cm_witness::{Algorithm, CoreEdge, GatherFault, Pair, count_candidates, gather};
 use std::alloc::{AllocError, Global};
 use std::process::Abort;
 use std::test::Fail;
 
-/// Checks the pairs of keys that stand in the lines 1, 2 and so on.
-fn check_pairs(
-    rt: &impl Abort,
-    alloc: Global,
-    keys: &[&[u8]],
-    pairs: &[Pair],
-) -> Result<(), AllocError> {
-    let mut lines = Vec::new(alloc);
-    let mut copies = Vec::new(alloc);
-    let mut line = 0u32;
-    for key in keys {
-        line = line.saturating_add(1);
-        lines.push(line)?;
-        copies.push(Vec::from_slice(alloc, key)?)?;
-    }
-    if lines.len() == copies.len() {
-        let found = equal_pairs(alloc, &lines, &copies)?;
-        expect_equal(rt, &found.as_slice(), &pairs);
-    }
-    Ok(())
-}
-
 fn pair(first: u32, again: u32) -> Pair {
     Pair { first, again }
-}
-
-#[test]
-fn equal_keys(rt: HostRuntime) -> Result<(), Fail> {
-    let alloc = rt.alloc();
-    check_pairs(&rt, alloc, &[], &[])?;
-    check_pairs(&rt, alloc, &[b"a", b"b", b"ab"], &[])?;
-    // The first line that has the key, and not the nearest.
-    check_pairs(
-        &rt,
-        alloc,
-        &[b"key", b"key", b"key"],
-        &[pair(1, 2), pair(1, 3)],
-    )?;
-    check_pairs(
-        &rt,
-        alloc,
-        &[b"b", b"", b"a", b"", b"b"],
-        &[pair(2, 4), pair(1, 5)],
-    )?;
-    Ok(())
 }
 
 /// Adds an edge, unless it isn't one over the vertices.

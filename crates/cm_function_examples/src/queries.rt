@@ -1,7 +1,7 @@
-use crate::equal::{expect_bytes, expect_equal};
+use crate::equal::expect_equal;
 use crate::listed::Listed;
 use cm_outer::{KeyFault, MAX_KEY_LEN, MemSink, Notes};
-use cm_query::{QueryFault, Tally, front_of_text, noted_exactly, query, worked_rows};
+use cm_query::{QueryFault, front_of_text, noted_exactly, query, worked_rows};
 use cm_scheme::{Answers, Place};
 use std::alloc::{AllocError, Global};
 use std::process::Abort;
@@ -36,37 +36,16 @@ impl Answers for Lengths {
     }
 }
 
-/// The input of a query over memory with this much room, and what it has to return and to write.
+/// The input of a query over memory with this much room for out and for err, and what it has to return (the numbers of its tally) and to
+/// write.
 #[derive(Drop)]
 struct Case<'a> {
     keys: &'a [&'a [u8]],
     fault: Option<KeyFault>,
-    out_room: usize,
-    err_room: usize,
-    answer: Result<Tally, QueryFault>,
+    rooms: (usize, usize),
+    answer: Result<(u32, u32, u32), QueryFault>,
     out: &'a [u8],
     err: &'a [u8],
-}
-
-impl<'a> Case<'a> {
-    /// Keys that end with this fault, or with none, over sinks with ample room.
-    fn new(
-        keys: &'a [&'a [u8]],
-        fault: Option<KeyFault>,
-        answer: Result<Tally, QueryFault>,
-        out: &'a [u8],
-        err: &'a [u8],
-    ) -> Case<'a> {
-        Case {
-            keys,
-            fault,
-            out_room: 1000,
-            err_room: 1000,
-            answer,
-            out,
-            err,
-        }
-    }
 }
 
 /// Checks a case with none, some and all of the next keys buffered.
@@ -84,8 +63,8 @@ fn check_at_hand(
     at_hand: usize,
 ) -> Result<(), AllocError> {
     let mut pass = Listed::new(case.keys, case.fault, at_hand);
-    let mut out = MemSink::new(alloc, case.out_room, Vec::new(alloc))?;
-    let mut err = MemSink::new(alloc, case.err_room, Vec::new(alloc))?;
+    let mut out = MemSink::new(alloc, case.rooms.0, Vec::new(alloc))?;
+    let mut err = MemSink::new(alloc, case.rooms.1, Vec::new(alloc))?;
     let mut notes = Notes::new();
     let answer = query(
         alloc,
@@ -95,138 +74,146 @@ fn check_at_hand(
         &mut err,
         &mut notes,
     );
-    expect_equal(rt, &answer, &case.answer);
-    expect_bytes(rt, out.bytes(), case.out);
-    expect_bytes(rt, err.bytes(), case.err);
+    let found = match answer {
+        Ok(tally) => Ok((tally.lines, tally.repeated, tally.unknown)),
+        Err(fault) => Err(fault),
+    };
+    let left = (found, out.bytes(), err.bytes());
+    expect_equal(rt, &left, &(case.answer, case.out, case.err));
     Ok(())
 }
 
-fn answered(lines: u32, repeated: u32, unknown: u32) -> Result<Tally, QueryFault> {
-    Ok(Tally {
-        lines,
-        repeated,
-        unknown,
-    })
-}
+const AMPLE: (usize, usize) = (1000, 1000);
+
+const LONG: KeyFault = KeyFault::TooLong { line: 3 };
+
+const CASES: [Case; 8] = [
+    // No keys need no room.
+    Case {
+        keys: &[],
+        fault: None,
+        rooms: (0, 0),
+        answer: Ok((0, 0, 0)),
+        out: b"",
+        err: b"",
+    },
+    Case {
+        keys: &[b"", b"a"],
+        fault: None,
+        rooms: AMPLE,
+        answer: Ok((2, 0, 0)),
+        out: b" -> 0\na -> 1\n",
+        err: b"",
+    },
+    Case {
+        keys: &[b"", b""],
+        fault: None,
+        rooms: AMPLE,
+        answer: Ok((2, 1, 0)),
+        out: b" -> 0\n -> 0\n",
+        err: b"cmph: line 2: value 0 is repeated\n",
+    },
+    Case {
+        keys: &[b"ab", b"c", b"none", b"de", b"fgh"],
+        fault: None,
+        rooms: AMPLE,
+        answer: Ok((5, 1, 1)),
+        out: b"ab -> 2\nc -> 1\nde -> 2\nfgh -> 3\n",
+        err: b"cmph: line 3: key is unknown\ncmph: line 4: value 2 is repeated\n",
+    },
+    Case {
+        keys: &[b"ab", b"none"],
+        fault: Some(LONG),
+        rooms: AMPLE,
+        answer: Err(QueryFault::Key(LONG)),
+        out: b"ab -> 2\n",
+        err: b"cmph: line 2: key is unknown\n",
+    },
+    Case {
+        keys: &[b"ab"],
+        fault: Some(KeyFault::Read),
+        rooms: AMPLE,
+        answer: Err(QueryFault::Key(KeyFault::Read)),
+        out: b"ab -> 2\n",
+        err: b"",
+    },
+    // The room for out ends inside the line of a repeated key.
+    Case {
+        keys: &[b"", b"", b"none"],
+        fault: None,
+        rooms: (9, 1000),
+        answer: Err(QueryFault::Write),
+        out: b" -> 0\n ->",
+        err: b"",
+    },
+    // A note that fails stops no answer.
+    Case {
+        keys: &[b"none", b"", b""],
+        fault: None,
+        rooms: (1000, 11),
+        answer: Ok((3, 1, 1)),
+        out: b" -> 0\n -> 0\n",
+        err: b"cmph: line ",
+    },
+];
 
 #[test]
 fn worked_queries(rt: HostRuntime) -> Result<(), Fail> {
     worked_rows();
     noted_exactly();
     front_of_text();
-    let repeated = b"cmph: line 2: value 0 is repeated\n".as_slice();
-    let notes = b"cmph: line 3: key is unknown\ncmph: line 4: value 2 is repeated\n".as_slice();
-    let mut nothing = Case::new(&[], None, answered(0, 0, 0), b"", b"");
-    nothing.out_room = 0;
-    nothing.err_room = 0;
-    let cases = [
-        Case::new(
-            &[b"", b"a"],
-            None,
-            answered(2, 0, 0),
-            b" -> 0\na -> 1\n",
-            b"",
-        ),
-        Case::new(
-            &[b"", b""],
-            None,
-            answered(2, 1, 0),
-            b" -> 0\n -> 0\n",
-            repeated,
-        ),
-        Case::new(
-            &[b"ab", b"c", b"none", b"de", b"fgh"],
-            None,
-            answered(5, 1, 1),
-            b"ab -> 2\nc -> 1\nde -> 2\nfgh -> 3\n",
-            notes,
-        ),
-        nothing,
-    ];
-    for case in &cases {
+    for case in &CASES {
         check(&rt, rt.alloc(), case)?;
     }
     Ok(())
 }
 
-#[test]
-fn refusals_in_mid_stream(rt: HostRuntime) -> Result<(), Fail> {
-    let long = KeyFault::TooLong { line: 3 };
-    let unknown = b"cmph: line 2: key is unknown\n".as_slice();
-    // The room for out ends inside the line of a repeated key.
-    let mut out_full = Case::new(
-        &[b"", b"", b"none"],
-        None,
-        Err(QueryFault::Write),
-        b" -> 0\n ->",
-        b"",
-    );
-    out_full.out_room = 9;
-    // A note that fails stops no answer.
-    let mut err_full = Case::new(
-        &[b"none", b"", b""],
-        None,
-        answered(3, 1, 1),
-        b" -> 0\n -> 0\n",
-        b"cmph: line ",
-    );
-    err_full.err_room = 11;
-    let cases = [
-        Case::new(
-            &[b"ab", b"none"],
-            Some(long),
-            Err(QueryFault::Key(long)),
-            b"ab -> 2\n",
-            unknown,
-        ),
-        Case::new(
-            &[b"ab"],
-            Some(KeyFault::Read),
-            Err(QueryFault::Key(KeyFault::Read)),
-            b"ab -> 2\n",
-            b"",
-        ),
-        out_full,
-        err_full,
-    ];
-    for case in &cases {
-        check(&rt, rt.alloc(), case)?;
-    }
-    Ok(())
-}
+const ROOMS: [usize; 7] = [0, 3, 7, 8, 12, 14, 20];
 
 #[test]
 fn writes_that_fail_anywhere(rt: HostRuntime) -> Result<(), Fail> {
     let text = b"ab -> 2\n -> 0\nc -> 1\n".as_slice();
-    let rooms = [0, 3, 7, 8, 12, 14, 20];
-    for room in rooms {
-        let mut case = Case::new(
-            &[b"ab", b"", b"c"],
-            Some(KeyFault::TooMany),
-            Err(QueryFault::Write),
-            &text[..room],
-            b"",
-        );
-        case.out_room = room;
+    for room in &ROOMS {
+        let case = Case {
+            keys: &[b"ab", b"", b"c"],
+            fault: Some(KeyFault::TooMany),
+            rooms: (*room, 1000),
+            answer: Err(QueryFault::Write),
+            out: text.get(..*room).unwrap_or(text),
+            err: b"",
+        };
         check(&rt, rt.alloc(), &case)?;
     }
     Ok(())
 }
 
-#[test]
-fn more_keys_than_are_taken_together(rt: HostRuntime) -> Result<(), Fail> {
-    let alloc = rt.alloc();
-    let keys = [b"ab".as_slice(); 70];
+/// Each of 70 equal keys, with this fault after them, and no room for err.
+fn check_seventy(
+    rt: &impl Abort,
+    alloc: Global,
+    fault: Option<KeyFault>,
+    answer: Result<(u32, u32, u32), QueryFault>,
+) -> Result<(), AllocError> {
     let mut text = Vec::new(alloc);
     for _ in 0..70 {
         text.extend_from_slice(b"ab -> 2\n")?;
     }
-    let mut case = Case::new(&keys, None, answered(70, 69, 0), &text, b"");
-    case.err_room = 0;
-    check(&rt, alloc, &case)?;
-    case.fault = Some(KeyFault::Read);
-    case.answer = Err(QueryFault::Key(KeyFault::Read));
-    check(&rt, alloc, &case)?;
+    let case = Case {
+        keys: &[b"ab".as_slice(); 70],
+        fault,
+        rooms: (1000, 0),
+        answer,
+        out: &text,
+        err: b"",
+    };
+    check(rt, alloc, &case)
+}
+
+#[test]
+fn more_keys_than_are_taken_together(rt: HostRuntime) -> Result<(), Fail> {
+    check_seventy(&rt, rt.alloc(), None, Ok((70, 69, 0)))?;
+    let fault = Some(KeyFault::Read);
+    check_seventy(&rt, rt.alloc(), fault, Err(QueryFault::Key(KeyFault::Read)))?;
     Ok(())
 }
 
@@ -234,22 +221,14 @@ fn more_keys_than_are_taken_together(rt: HostRuntime) -> Result<(), Fail> {
 fn long_keys_between_short_ones(rt: HostRuntime) -> Result<(), Fail> {
     let alloc = rt.alloc();
     let long = vec![in alloc; b'x'; MAX_KEY_LEN]?;
-    let keys = [
-        b"a".as_slice(),
-        &long,
-        b"bc".as_slice(),
-        &long,
-        &long,
-        b"d".as_slice(),
-        b"".as_slice(),
-    ];
-    let case = Case::new(
-        &keys,
-        None,
-        answered(7, 1, 3),
-        b"a -> 1\nbc -> 2\nd -> 1\n -> 0\n",
-        b"cmph: line 2: key is unknown\ncmph: line 4: key is unknown\ncmph: line 5: key is unknown\ncmph: line 6: value 1 is repeated\n",
-    );
+    let case = Case {
+        keys: &[b"a", &long, b"bc", &long, &long, b"d", b""],
+        fault: None,
+        rooms: AMPLE,
+        answer: Ok((7, 1, 3)),
+        out: b"a -> 1\nbc -> 2\nd -> 1\n -> 0\n",
+        err: b"cmph: line 2: key is unknown\ncmph: line 4: key is unknown\ncmph: line 5: key is unknown\ncmph: line 6: value 1 is repeated\n",
+    };
     check(&rt, alloc, &case)?;
     Ok(())
 }

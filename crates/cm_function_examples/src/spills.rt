@@ -159,34 +159,33 @@ fn give_damaged(alloc: Global, offset: u64, byte: u8) -> Result<String, AllocErr
     Ok(text)
 }
 
+/// The place of a wrong byte, the byte, and what is read.
+const DAMAGES: [(u64, u8, &str); 4] = [
+    (
+        19,
+        2,
+        "2 y 11;the spill is damaged at 11: 23 in place of 22;",
+    ),
+    (
+        15,
+        0,
+        "2 y 11;none;the spill is damaged at 11: 0 in place of 1;",
+    ),
+    (11, 0, "2 y 11;the spill is damaged at 11: 1 in place of 3;"),
+    (
+        8,
+        2,
+        "2 y 12;the spill is damaged at 12: 30742 in place of 22;",
+    ),
+];
+
 /// A key that is too long for its run, line 0, a line below the one before, and a first key that is too long.
 #[test]
 fn damaged_records(rt: HostRuntime) -> Result<(), Fail> {
     let alloc = rt.alloc();
-    let text = give_damaged(alloc, 19, 2)?;
-    expect_text(
-        &rt,
-        text.as_str(),
-        "2 y 11;the spill is damaged at 11: 23 in place of 22;",
-    );
-    let text = give_damaged(alloc, 15, 0)?;
-    expect_text(
-        &rt,
-        text.as_str(),
-        "2 y 11;none;the spill is damaged at 11: 0 in place of 1;",
-    );
-    let text = give_damaged(alloc, 11, 0)?;
-    expect_text(
-        &rt,
-        text.as_str(),
-        "2 y 11;the spill is damaged at 11: 1 in place of 3;",
-    );
-    let text = give_damaged(alloc, 8, 2)?;
-    expect_text(
-        &rt,
-        text.as_str(),
-        "2 y 12;the spill is damaged at 12: 30742 in place of 22;",
-    );
+    for (offset, byte, text) in &DAMAGES {
+        expect_text(&rt, give_damaged(alloc, *offset, *byte)?.as_str(), *text);
+    }
     Ok(())
 }
 
@@ -232,22 +231,16 @@ fn give_long(alloc: Global, bytes: u32) -> Result<String, AllocError>
 #[test]
 fn long_records(rt: HostRuntime) -> Result<(), Fail> {
     let alloc = rt.alloc();
-    let text = give_long(alloc, 65_545)?;
+    let small = give_long(alloc, 65_545)?;
     expect_text(
         &rt,
-        text.as_str(),
+        small.as_str(),
         "2 b 80020;none;1 a 40010;3 c 120030;none;123",
     );
-    let text = give_long(alloc, 1_048_576)?;
+    let large = give_long(alloc, 4_194_304)?;
     expect_text(
         &rt,
-        text.as_str(),
-        "2 b 40010;none;1 a 80020;3 c 120030;none;213",
-    );
-    let text = give_long(alloc, 4_194_304)?;
-    expect_text(
-        &rt,
-        text.as_str(),
+        large.as_str(),
         "2 b 40010;none;1 a 80020;3 c 120030;none;213",
     );
     Ok(())
