@@ -1,5 +1,5 @@
 -- How cells of w bits are written and read.
-use Rattle.std.specs.Prelude.{◌≡◌, ℕ, suc, ◌+◌, ◌-◌, ◌*◌, ◌/◌, ◌%◌, ◌^◌, ◌<◌, ◌≤◌, Bool, List, length, slice_index, replicate, set, get_or, nat_le, bit_and}
+use Rattle.std.specs.Prelude.{◌≡◌, ℕ, suc, ◌+◌, ◌-◌, ◌*◌, ◌/◌, ◌%◌, ◌^◌, ◌<◌, ◌≤◌, Bool, List, length, slice_index, replicate, set, get_or, nat_le, bit_and, ◌↔◌}
 use Rattle.std.specs.List.{position_or_len, range_with_len}
 use Rattle.std.proofs.Common.{arith, ap, sym, ◌∙◌, lit<, inl, inr}
 use Rattle.std.proofs.Math.Nat.{zero-div, mul_comm, mul-sub, pow-le-pow_right, div-div-eq-div-mul, mod-eq_of_lt, one-le-pow, div-add-mod, mul-le-mul_left, zero-mod}
@@ -226,6 +226,18 @@ shifted_is v s w low short h =
     let wide : 2 ^ (w + s) ≤ 2 ^ 60 = pow-le-pow_right (lit< tt) (let e : w + s ≤ 60 = omega arith in e) in
     let small : 2 ^ s * v ≤ 2 ^ s * 2 ^ w = mul-le-mul_left (2 ^ s) h in
     mod-eq_of_lt (omega arith)
+
+-- a part is below a bound exactly if it is with both shifted up
+pub part_below : (x s w m b : ℕ) → s < 34 → w ≤ 26 → m + 1 ≡ 2 ^ w → b ≤ 2 ^ w → (bit_and x (m * 2 ^ s % 2 ^ 64) < b * 2 ^ s % 2 ^ 64) ↔ (x / 2 ^ s % (m + 1) < b)
+part_below x s w m b low short e h =
+    let p : ℕ = x / 2 ^ s % 2 ^ w in
+    let some : 1 ≤ 2 ^ s = pow_pos s in
+    let up : p < b → p * 2 ^ s < b * 2 ^ s = λ l. (let more : 2 ^ s * (p + 1) ≤ 2 ^ s * b = mul-le-mul_left (2 ^ s) (let n : p + 1 ≤ b = omega (arith, l) in n) in omega (arith, more, some)) in
+    let down : p * 2 ^ s < b * 2 ^ s → p < b = λ l. elim (cases_lt p b) [
+      | inl n ↦ n
+      | inr n ↦ let less : 2 ^ s * b ≤ 2 ^ s * p = mul-le-mul_left (2 ^ s) n in absurd (omega (arith, less, l))
+    ] in
+    rw (e, mask_is x s w m low short e, shifted_is b s w low short h) (down, up)
 
 -- a byte of the image is one of the bytes, and no spare one
 pub byte_inside : (b w n q : ℕ) (bytes : List ℕ) → w ≡ width_of b → q < fields_len (width_of b) (length (field_cells w n (bytes_number bytes))) → q < fields_len w n

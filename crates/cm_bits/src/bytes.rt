@@ -72,11 +72,22 @@ pub fn ones(width: u32) -> u32
 // The bits of a number from bit `shift` on that a mask of the lowest bits selects.
 #[inline]
 pub fn part(number: u64, shift: u64, mask: u32) -> u32
-    requires shift { shift < 34 }
+    requires shift { shift < 8 }
     requires ones { IsMask mask }
     ensures { result ≡ number / 2 ^ shift % (mask + 1) }
 {
     ((number >> shift) & mask as u64) as u32
+}
+
+// Whether such a part is below the bound. The mask and the bound are shifted instead of the number: a loop does that once.
+#[inline]
+pub fn is_part_below(number: u64, shift: u64, mask: u32, bound: u32) -> bool
+    requires shift { shift < 34 }
+    requires ones { IsMask mask }
+    requires bound { bound ≤ mask + 1 }
+    ensures { IsTrue result ↔ (number / 2 ^ shift % (mask + 1) < bound) }
+{
+    number & ((mask as u64) << shift) < (bound as u64) << shift
 }
 
 // The number with such a part replaced.

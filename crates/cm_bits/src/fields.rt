@@ -7,12 +7,9 @@ ghost use Rattle.cm_bits.specs.Held.{IsFields, window_at};
 ghost use Rattle.cm_spec.specs.Image.{width_of, fields_byte, fields_len};
 ghost use Rattle.cm_bits.specs.declared.TheConstants.{MAX_CELLS, MAX_FIELD_BOUND};
 
-use crate::bytes::{first_byte_from, ones, part, put_window, window, with_part};
+use crate::bytes::{first_byte_from, is_part_below, ones, part, put_window, window, with_part};
 use crate::{Cells, ImageFault, SPARE};
 use std::alloc::{AllocError, Global};
-
-// How many groups of eight cells are compared with a bound together.
-const BLOCK: u32 = 64;
 
 /// A table of numbers of as many bits as its bound needs, from 1 to 26.
 #[derive(Drop)]
@@ -185,46 +182,25 @@ fn clear_cells(bytes: &[u8], width: u32) -> u64
     8 * zeros as u64 / width as u64
 }
 
-// The larger of two adjacent cells. The first begins at this bit of the bytes from `at` on.
+// Whether two adjacent cells are below the bound. The first begins at this bit of the bytes from `at` on.
 #[inline]
-fn larger_of_pair(held: &[u8], at: usize, bit: u64, width: u32, mask: u32) -> u32
+fn is_pair_below(held: &[u8], at: usize, bit: u64, width: u32, mask: u32, bound: u32) -> bool
     requires width { width ≤ 26 }
     requires mask { mask + 1 ≡ 2 ^ width }
+    requires bound { bound ≤ 2 ^ width }
     requires room { at + bit / 8 + 8 ≤ length held.now }
-    ensures { (bound : ℕ) → result < bound → (window_at held.now (at + bit / 8) / 2 ^ (bit % 8) % 2 ^ width < bound) × (window_at held.now (at + bit / 8) / 2 ^ (bit % 8 + width) % 2 ^ width < bound) }
+    ensures { IsTrue result ↔ ((window_at held.now (at + bit / 8) / 2 ^ (bit % 8) % 2 ^ width < bound) × (window_at held.now (at + bit / 8) / 2 ^ (bit % 8 + width) % 2 ^ width < bound)) }
 {
     let both = window(held, at + (bit / 8) as usize);
     let shift = bit % 8;
-    part(both, shift, mask).max(part(both, shift + width as u64, mask))
+    part(both, shift, mask) < bound && is_part_below(both, shift + width as u64, mask, bound)
 }
 
-// The largest cell of the groups of eight cells from number `from` on and before `until`, or 0. A group begins with a byte. No branch
-// depends on a cell.
-fn largest_of_groups(held: &[u8], from: u32, until: u32, n: u32, width: u32) -> u32
-    requires width { width ≤ 26 }
-    requires inside { 8 * until ≤ n }
-    requires whole { length held.now ≡ fields_len width n + 8 }
-    requires fit { (k : ℕ) → slice_index held.now k < 256 }
-    ensures { (bound : ℕ) → result < bound → ((k : ℕ) → k < 8 * from → bytes_number held.now / (2 ^ width) ^ k % 2 ^ width < bound) → (k : ℕ) → k < 8 * until → bytes_number held.now / (2 ^ width) ^ k % 2 ^ width < bound }
-{
-    let mask = ones(width);
-    let w = width as u64;
-    let mut most = 0u32;
-    for g in from..until {
-        let at = (g as u64 * w) as usize;
-        let first = larger_of_pair(held, at, 0, width, mask);
-        let second = larger_of_pair(held, at, 2 * w, width, mask);
-        let third = larger_of_pair(held, at, 4 * w, width, mask);
-        let fourth = larger_of_pair(held, at, 6 * w, width, mask);
-        most = most.max(first.max(second)).max(third.max(fourth));
-    }
-    most
-}
-
-// How many of the leading groups of eight cells have only cells below the bound, as far as blocks of groups show. All groups before
-// `first` do.
+// How many of the leading groups of eight cells, which begin with a byte, have only cells below the bound. All groups before `first`
+// do.
 fn groups_below(held: &[u8], first: u32, n: u32, width: u32, bound: u32) -> u32
     requires width { width ≤ 26 }
+    requires bound { bound ≤ 2 ^ width }
     requires order { 8 * first ≤ n }
     requires whole { length held.now ≡ fields_len width n + 8 }
     requires fit { (k : ℕ) → slice_index held.now k < 256 }
@@ -232,15 +208,24 @@ fn groups_below(held: &[u8], first: u32, n: u32, width: u32, bound: u32) -> u32
     ensures some { 8 * result ≤ n }
     ensures below { (k : ℕ) → k < 8 * result → bytes_number held.now / (2 ^ width) ^ k % 2 ^ width < bound }
 {
-    let mut done = first;
-    'chunks: while done < n / 8 {
-        let until = done + BLOCK.min(n / 8 - done);
-        if largest_of_groups(held, done, until, n, width) >= bound {
-            return done;
+    let mask = ones(width);
+    let w = width as u64;
+    for g in first..n / 8 {
+        let at = (g as u64 * w) as usize;
+        if !is_pair_below(held, at, 0, width, mask, bound) {
+            return g;
         }
-        done = until;
+        if !is_pair_below(held, at, 2 * w, width, mask, bound) {
+            return g;
+        }
+        if !is_pair_below(held, at, 4 * w, width, mask, bound) {
+            return g;
+        }
+        if !is_pair_below(held, at, 6 * w, width, mask, bound) {
+            return g;
+        }
     }
-    done
+    n / 8
 }
 
 // The lowest of n cells that is not below the bound.
