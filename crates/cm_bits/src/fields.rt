@@ -193,7 +193,8 @@ fn is_pair_below(held: &[u8], at: usize, bit: u64, width: u32, mask: u32, bound:
 {
     let both = window(held, at + (bit / 8) as usize);
     let shift = bit % 8;
-    part(both, shift, mask) < bound && is_part_below(both, shift + width as u64, mask, bound)
+    is_part_below(both, shift, mask, bound)
+        && is_part_below(both, shift + width as u64, mask, bound)
 }
 
 // How many of the leading groups of eight cells, which begin with a byte, have only cells below the bound. All groups before `first`
