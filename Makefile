@@ -8,11 +8,14 @@
 #                 results of another name than `latest`
 # make bench-bits, make bench-peel, make bench-spill, make bench-bbhash
 #                 the same for packed tables, for peeling, for the buffer of brz, and beside bbhash
+# make bench-versions BEFORE=PROGRAM
+#                 the same beside the program of an earlier version
 # make drawings   draws docs/chm.svg from a real run
 PREFIX ?= /usr/local
 SETS ?=
 NAME ?= latest
 ROUNDS ?= 7
+BEFORE ?=
 SOURCES := crates.txt $(wildcard crates/*/src/*.rt crates/*/specs/*.antt) $(shell find crates -path '*/out' -prune -o -name '*.antt' -print)
 
 all: bin/cmph
@@ -60,10 +63,13 @@ bench-spill: bin/cmph
 bench-bbhash: bin/cmph
 	python3 bench/tables.py --record bbhash python3 bench/bbhash.py
 
+bench-versions: bin/cmph
+	python3 bench/tables.py --record versions python3 bench/versions.py $(BEFORE)
+
 drawings: bin/cmph
 	python3 docs/draw.py
 
 clean:
 	rm -rf bin out crates/*/out
 
-.PHONY: all demo check install uninstall bench bench-bits bench-peel bench-spill bench-bbhash drawings clean
+.PHONY: all demo check install uninstall bench bench-bits bench-peel bench-spill bench-bbhash bench-versions drawings clean
