@@ -1,9 +1,12 @@
-use Rattle.std.proofs.Common.{◌∙◌, ◌<◌, arith, length}
+use Rattle.std.proofs.Common.{◌∙◌, ◌<◌, arith, length, rules}
 use Rattle.cm_bits.specs.Held.{packed_cells}
 use Rattle.cm_buckets.specs.Kept.{cells_in}
 use Rattle.cm_buckets.proofs.Ranking.{rank_below}
 use Rattle.cm_buckets.proofs.TableLemmas.{length-cells_in}
 use Rattle.cm_buckets.proofs.held.Held.answer_at.Goals as goal
+
+pub returns-then-get-eq3-clause-answer : goal.returns-then-get-eq3-clause-answer
+returns-then-get-eq3-clause-answer c = search rules
 
 pub returns-else-get-eq3-clause-inside : goal.returns-else-get-eq3-clause-inside
 returns-else-get-eq3-clause-inside c =
