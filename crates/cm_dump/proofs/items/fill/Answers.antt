@@ -1,4 +1,4 @@
-use Rattle.std.proofs.Common.{◌≡◌, ◌∙◌, ◌+◌, ◌-◌, ◌++◌, length, drop, take, sym, arith, refl, length-take, length-drop}
+use Rattle.std.proofs.Common.{◌≡◌, ◌∙◌, ◌+◌, ◌-◌, ◌++◌, length, drop, take, sym, arith, refl, length-take, length-drop, rules}
 use Rattle.cm_dump.proofs.ItemLemmas.{item_room, fill_ends, item_more}
 use Rattle.cm_dump.proofs.items.fill.Goals as goal
 
@@ -35,6 +35,15 @@ returns-in-Ok-eq0-clause-fills g c = λ x is.
       given = rw (zero, none) at more;
       end = λ l. fill_ends x c.loop-got.buf _ c.args.at got _ _ _ gives zero (inv.at x is_now).0 c.loop-got-test.true;
     }
+
+pub returns-in-Err-clause-at : goal.returns-in-Err-clause-at
+returns-in-Err-clause-at g c = tt
+
+pub returns-in-Err-clause-fills : goal.returns-in-Err-clause-fills
+returns-in-Err-clause-fills g c = tt
+
+pub returns-in-Err-clause-cause : goal.returns-in-Err-clause-cause
+returns-in-Err-clause-cause g c = search rules
 
 pub loop-got-preserved : goal.loop-got-preserved
 loop-got-preserved g c =
