@@ -1,7 +1,7 @@
 -- The result of a build over numbered keys.
 use Rattle.std.specs.Prelude.{◌≡◌, ◌≢◌, ℕ, ◌+◌, ◌*◌, ◌≤◌, List, [], Contains, count_by, length, None, Some}
 use Rattle.cm_outer.specs.Passes.{Told}
-use Rattle.cm_spec.specs.Cells.{is_busy}
+use Rattle.cm_spec.specs.Cells.{AreSolved, cells_of, is_busy, plan_of}
 use Rattle.cm_spec.specs.Rounds.{rest_of}
 use Rattle.cm_spec.specs.Rule.{Rule}
 use Rattle.cm_spec.specs.Built.{graph_of, cells_under, first_seed, IsFirst}
@@ -9,6 +9,13 @@ use Rattle.cm_spec.specs.Built.{graph_of, cells_under, first_seed, IsFirst}
 -- one seed: peeling removes every edge, and these are the cells
 abbrev pub IsGiven : Rule → List (ℕ × List ℕ) → ℕ → ℕ → List ℕ → Type 0
 IsGiven r keys c seed cells = (rest_of (graph_of r keys c seed) ≡ []) × (cells ≡ cells_under r keys c seed)
+
+-- the bound and the cells of a table over n vertices, for a graph that peeling leaves no edge of
+pub record IsSolution (r : Rule) (n : ℕ) (edges : List (List ℕ)) (tags : List ℕ) (bound : ℕ) (cells : List ℕ) : Type 0 where
+  pub empty : rest_of edges ≡ []
+  pub bound_is : bound ≡ r.bound (length edges)
+  pub cells_are : cells ≡ cells_of (plan_of r n edges tags)
+  pub solved : AreSolved (plan_of r n edges tags) cells
 
 -- a build took the first seed of a list with an empty 2-core and returned its cells, in at most 8 steps for each of an edge's k ends
 -- and each seed that it tried

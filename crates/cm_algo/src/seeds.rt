@@ -8,7 +8,7 @@ ghost use Rattle.cm_spec.specs.Rounds.{rest_of};
 ghost use Rattle.cm_spec.specs.Rule.{IsCount, IsRatio, IsSize};
 ghost use Rattle.cm_witness.specs.Cores.{EqualKeysMeet};
 ghost use Rattle.cm_witness.specs.Gathers.{FailsGather, HasGatherCause, HasOther};
-ghost use Rattle.cm_algo.specs.Builds.{IsGiven, IsBuilt, IsLeft, IsMade};
+ghost use Rattle.cm_algo.specs.Builds.{IsGiven, IsBuilt, IsLeft, IsMade, IsSolution};
 ghost use Rattle.cm_algo.specs.Fails.{FailsBuild, FoundEqual, HasBuildCause, HasForm, HasNumbers, ShowsCore};
 ghost use Rattle.cm_algo.specs.declared.fault.BuildFault.TheVariants as build_fault;
 
@@ -19,7 +19,7 @@ use cm_outer::{KeyBuf, KeyPass};
 use cm_peel::{Peeled, peel_without_levels};
 use cm_scheme::{Built, Scheme, assign};
 use cm_witness::{Certificate, GatherFault, gather_with};
-use std::alloc::Global;
+use std::alloc::{AllocError, Global};
 use std::sync::ledger::Ledger;
 
 /// A graph with a 2-core, and its residual graph.
@@ -27,6 +27,31 @@ use std::sync::ledger::Ledger;
 struct Left<const K: usize> {
     edges: Edges<K>,
     peeled: Peeled<K>,
+}
+
+/// The cells of a graph, or the graph if it has a 2-core. The tags are those of the edges, in order; an edge past the last of them has
+/// tag 0.
+fn solve<S: Scheme<K>, I: Incidence<K> + Drop, const K: usize, L: Ledger>(
+    alloc: Global,
+    scheme: &S,
+    edges: Edges<K>,
+    tags: &[u32],
+    steps: &mut Steps<L>,
+) -> Result<Result<S::Table, Left<K>>, AllocError>
+    requires many { IsCount (length edges.edges) }
+    ensures solved { IfOk result (λ o. IfOk o (λ t. IsSolution (S.rule scheme.now) edges.entry.vertices edges.entry.edges tags.now (S.Table.bound_of t) (S.Table.cells t))) }
+    ensures peeled { IfOk result (λ o. IfErr o (λ left. left.peeled.rest ≡ rest_of left.edges.edges)) }
+    ensures some { IfOk result (λ o. IfErr o (λ left. left.peeled.rest ≢ [])) }
+    ensures left { IfOk result (λ o. IfErr o (λ left. left.edges.edges ≡ edges.entry.edges)) }
+    ensures steps { steps.new ≤ steps.old + 8 * (K * length edges.entry.edges) }
+{
+    let peeled = peel_without_levels::<K, I, L>(alloc, &edges, steps)?;
+    if peeled.rest().is_empty() {
+        let table = assign(alloc, scheme, &edges, &peeled, tags)?;
+        Ok(Ok(table))
+    } else {
+        Ok(Err(Left { edges, peeled }))
+    }
 }
 
 /// One seed: the cells, or the graph if it has a 2-core. The buffer is scratch space.
@@ -62,13 +87,8 @@ fn attempt<S: Scheme<K>, I: Incidence<K> + Drop, P: KeyPass, const K: usize, L: 
         Vec::new(alloc)
     };
     hash_all(scheme, keys, key, m, seed, &mut edges, &mut tags)?;
-    let peeled = peel_without_levels::<K, I, L>(alloc, &edges, steps)?;
-    if peeled.rest().is_empty() {
-        let table = assign(alloc, scheme, &edges, &peeled, &tags)?;
-        Ok(Ok(table))
-    } else {
-        Ok(Err(Left { edges, peeled }))
-    }
+    let solved = solve::<S, I, K, L>(alloc, scheme, edges, &tags, steps)?;
+    Ok(solved)
 }
 
 /// The certificate of the residual graph under a seed. The keys are passed once. The buffer is scratch space.
@@ -132,9 +152,19 @@ pub fn build<S: Scheme<K>, I: Incidence<K> + Drop, P: KeyPass, const K: usize, L
     let mut key = KeyBuf::new();
     match build_first::<S, I, P, K, L>(alloc, scheme, keys, &mut key, c, seeds, steps)? {
         Ok(built) => Ok(built),
-        Err(left) => certify_first::<S, I, P, K, L>(
-            alloc, scheme, keys, &mut key, c, seeds, left, steps,
-        ),
+        Err(left) => {
+            let m = left.edges.len();
+            let certificate = certify::<S, P, K>(alloc, scheme, keys, &mut key, seeds[0], &left)?;
+            drop(left);
+            // Equal keys have equal edges, so that no other seed works.
+            if !certificate.equal.is_empty() {
+                return Err(BuildFault::Cored(certificate));
+            }
+            match build_later::<S, I, P, K, L>(alloc, scheme, keys, &mut key, m, c, seeds, steps)? {
+                Some(later) => Ok(later),
+                None => Err(BuildFault::Cored(certificate)),
+            }
+        }
     }
 }
 
@@ -167,7 +197,16 @@ pub fn build_with<S: Scheme<K>, I: Incidence<K> + Drop, P: KeyPass, const K: usi
     match build_first::<S, I, P, K, L>(alloc, scheme, keys, key, c, seeds, steps)? {
         Ok(built) => Ok(built),
         Err(left) => {
-            certify_last::<S, I, P, K, L>(alloc, scheme, keys, key, c, seeds, left, steps)
+            let m = left.edges.len();
+            match build_later::<S, I, P, K, L>(alloc, scheme, keys, key, m, c, seeds, steps)? {
+                Some(later) => Ok(later),
+                None => {
+                    let certificate = certify::<S, P, K>(
+                        alloc, scheme, keys, key, seeds[0], &left,
+                    )?;
+                    Err(BuildFault::Cored(certificate))
+                }
+            }
         }
     }
 }
@@ -242,82 +281,4 @@ fn build_later<S: Scheme<K>, I: Incidence<K> + Drop, P: KeyPass, const K: usize,
         }
     }
     Ok(None)
-}
-
-/// The end of `build`, after the first seed left a 2-core: gathers its certificate, and then tries the other seeds if no two of its keys
-/// are equal. `steps` has counted those of the first seed. The buffer is scratch space.
-fn certify_first<S: Scheme<K>, I: Incidence<K> + Drop, P: KeyPass, const K: usize, L: Ledger>(
-    alloc: Global,
-    scheme: &S,
-    keys: &mut P,
-    key: &mut KeyBuf,
-    c: u32,
-    seeds: &[u32],
-    left: Left<K>,
-    steps: &mut Steps<L>,
-) -> Result<Built<S::Table>, BuildFault>
-    requires ratio { IsRatio c }
-    requires some { 0 < length seeds.now }
-    requires many { (1 ≤ length left.edges.edges) × (length left.edges.edges ≤ 16777216) }
-    requires peeled { left.peeled.rest ≡ rest_of left.edges.edges }
-    requires left { ForSome (P.told keys.old) (λ told. IsLeft (S.rule scheme.now) told c (slice_index seeds.now 0) left.edges.edges) }
-    ensures told { P.told keys.new ≡ P.told keys.old }
-    ensures cause { HasBuildCause (P.faults keys.old) (P.faults keys.new) result }
-    ensures made { IfOk result (λ b. IsMade (S.rule scheme.now) c seeds.now b.m b.c b.seed (S.Table.bound_of b.cells) (S.Table.cells b.cells)) }
-    ensures first { IfOk result (λ b. ForSome (P.told keys.old) (λ told. (before : ℕ) → steps.old ≤ before + 8 * (K * length told.keys) →
-        (told.fault ≡ None) × IsBuilt (S.rule scheme.now) told.keys c seeds.now b.m b.seed (S.Table.cells b.cells) K before steps.new)) }
-    ensures fault { IfErr result (λ e. ForSome (P.told keys.old) (λ told. FailsBuild (S.rule scheme.now) told c seeds.now e)) }
-    ensures numbers { IfErr result (HasNumbers (P.place keys.new)) }
-    ensures certificate { IfErr result (HasForm (S.algorithm_of scheme.now) (slice_index seeds.now 0)) }
-    ensures steps { ForSome (P.told keys.old) (λ told. (before : ℕ) → steps.old ≤ before + 8 * (K * length told.keys) → steps.new ≤ before + 8 * (K * length told.keys) * length seeds.now) }
-    ensures early { IfErr result (λ e. FoundEqual e → steps.new ≡ steps.old) }
-{
-    let m = left.edges.len();
-    let certificate = certify::<S, P, K>(alloc, scheme, keys, key, seeds[0], &left)?;
-    drop(left);
-    // Equal keys have equal edges, so that no other seed works.
-    if !certificate.equal.is_empty() {
-        return Err(BuildFault::Cored(certificate));
-    }
-    match build_later::<S, I, P, K, L>(alloc, scheme, keys, key, m, c, seeds, steps)? {
-        Some(built) => Ok(built),
-        None => Err(BuildFault::Cored(certificate)),
-    }
-}
-
-/// The end of `build_with`, after the first seed left a 2-core: tries the other seeds, and gathers its certificate if none works. `steps`
-/// has counted those of the first seed. The buffer is scratch space.
-fn certify_last<S: Scheme<K>, I: Incidence<K> + Drop, P: KeyPass, const K: usize, L: Ledger>(
-    alloc: Global,
-    scheme: &S,
-    keys: &mut P,
-    key: &mut KeyBuf,
-    c: u32,
-    seeds: &[u32],
-    left: Left<K>,
-    steps: &mut Steps<L>,
-) -> Result<Built<S::Table>, BuildFault>
-    requires ratio { IsRatio c }
-    requires some { 0 < length seeds.now }
-    requires many { (1 ≤ length left.edges.edges) × (length left.edges.edges ≤ 16777216) }
-    requires peeled { left.peeled.rest ≡ rest_of left.edges.edges }
-    requires left { ForSome (P.told keys.old) (λ told. IsLeft (S.rule scheme.now) told c (slice_index seeds.now 0) left.edges.edges) }
-    ensures told { P.told keys.new ≡ P.told keys.old }
-    ensures cause { HasBuildCause (P.faults keys.old) (P.faults keys.new) result }
-    ensures made { IfOk result (λ b. IsMade (S.rule scheme.now) c seeds.now b.m b.c b.seed (S.Table.bound_of b.cells) (S.Table.cells b.cells)) }
-    ensures first { IfOk result (λ b. ForSome (P.told keys.old) (λ told. (before : ℕ) → steps.old ≤ before + 8 * (K * length told.keys) →
-        (told.fault ≡ None) × IsBuilt (S.rule scheme.now) told.keys c seeds.now b.m b.seed (S.Table.cells b.cells) K before steps.new)) }
-    ensures fault { IfErr result (λ e. ForSome (P.told keys.old) (λ told. FailsBuild (S.rule scheme.now) told c seeds.now e)) }
-    ensures numbers { IfErr result (HasNumbers (P.place keys.new)) }
-    ensures certificate { IfErr result (HasForm (S.algorithm_of scheme.now) (slice_index seeds.now 0)) }
-    ensures steps { ForSome (P.told keys.old) (λ told. (before : ℕ) → steps.old ≤ before + 8 * (K * length told.keys) → steps.new ≤ before + 8 * (K * length told.keys) * length seeds.now) }
-{
-    let m = left.edges.len();
-    match build_later::<S, I, P, K, L>(alloc, scheme, keys, key, m, c, seeds, steps)? {
-        Some(built) => Ok(built),
-        None => {
-            let certificate = certify::<S, P, K>(alloc, scheme, keys, key, seeds[0], &left)?;
-            Err(BuildFault::Cored(certificate))
-        }
-    }
 }
