@@ -4,11 +4,12 @@ use Rattle.std.specs.Option.{option_map}
 use Rattle.std.proofs.Math.Seq.{take-nil}
 use Rattle.std.proofs.lemmas.List.{take_all}
 use Rattle.cm_dump.specs.Functions.{answer_by}
-use Rattle.cm_dump.specs.Reading.{Fails}
+use Rattle.cm_dump.specs.Reading.{Fails, HasLoadCause}
 use Rattle.cm_dump.specs.Spelling.{spelling_of}
 use Rattle.cm_dump.specs.declared.fault.LoadFault.{LoadFault}
 use Rattle.cm_dump.specs.declared.fault.LoadFault.TheVariants as faults
 use Rattle.cm_dump.specs.declared.writer.Func.{Func}
+use Rattle.cm_outer.specs.Causes.{Collects}
 use Rattle.cm_outer.specs.NotingLaws.{noted_all, noted_front}
 use Rattle.cm_outer.specs.Files.{Files, file_at}
 use Rattle.cm_outer.specs.Noting.{HasNoted}
@@ -22,7 +23,7 @@ use Rattle.cm_query.specs.Texts.{notes_of, text_of}
 use Rattle.cm_query.specs.declared.fault.QueryFault.{QueryFault}
 use Rattle.cm_query.specs.declared.fault.QueryFault.TheVariants as query_fault
 use Rattle.cm_query.specs.declared.tally.Tally.{Tally}
-use Rattle.cm_tool.specs.Asked.{AskedAll, AskedPart, EndsKeys, EndsQuery, IsBadDump, RefusesDump, Spells, keys_at, keys_or_none, stop_from_load, stop_from_query}
+use Rattle.cm_tool.specs.Asked.{AskedAll, AskedPart, EndsKeys, EndsQuery, IsBadDump, IsStopCause, RefusesDump, Spells, keys_at, keys_or_none, stop_from_load, stop_from_query}
 use Rattle.cm_tool.specs.Ends.{Says, query_message_of, query_status_of}
 use Rattle.cm_words.specs.declared.jobs.QueryJob.{QueryJob}
 use Rattle.cm_words.specs.declared.jobs.Job.TheVariants.{Query}
@@ -30,7 +31,7 @@ use Rattle.cm_tool.specs.Messages.{bad_dump}
 use Rattle.cm_tool.specs.Outcome as outcomes
 use Rattle.cm_tool.specs.Outcome.{Outcome, dump_outcome, fault_message, job_outcome, keys_in, loaded_outcome, noted_status, query_over, refusal}
 use Rattle.cm_tool.specs.Run.{IsCutShort, IsQueryMessage, LacksFile, Reaches}
-use Rattle.cm_tool.proofs.Outcomes.{none_some}
+use Rattle.cm_tool.proofs.Outcomes.{collected, none_some}
 use Rattle.cm_tool.specs.declared.stop.QueryStop.{QueryStop}
 use Rattle.cm_tool.specs.declared.stop.QueryStop.TheVariants.{Memory, NoFunction, BadDump, Read, Write, TooLong, TooMany}
 
@@ -203,6 +204,21 @@ says_all noted = record { front = noted_front noted; whole = noted_all noted }
 
 pub says_more : {f : Bool} {a b : Option (List ℕ)} {i j : ℕ} {text : List ℕ} → HasNoted f a b i j text → Says (text ++ []) a b i j
 says_more {a = a} {b = b} {i = i} {j = j} {text = text} noted = subst (λ (t : List ℕ). Says t a b i j) (sym (append-nil text)) (says_all noted)
+
+-- which counts a failed load has raised: those of reading, if the reader that was given back has failed
+pub load_cause : (fault : LoadFault) (count count_now reads opened reads_now writes writes_now out : ℕ) → HasLoadCause {T = Func} count count_now (Err fault) → count ≡ 0 → Collects count_now opened reads_now → opened ≡ reads → writes_now ≡ writes
+    → IsStopCause reads reads_now writes writes_now out out (stop_from_load fault)
+load_cause faults.Memory count count_now reads opened reads_now writes writes_now out cause fresh shut begun same = (shut.none (cause ∙ fresh) ∙ begun, same, refl)
+load_cause faults.Read count count_now reads opened reads_now writes writes_now out cause fresh shut begun same = (omega (arith, shut.later, begun), collected count count_now reads opened reads_now cause fresh shut begun, same, refl)
+load_cause (faults.Truncated at) count count_now reads opened reads_now writes writes_now out cause fresh shut begun same = (shut.none (cause ∙ fresh) ∙ begun, same, refl)
+load_cause faults.BadMagic count count_now reads opened reads_now writes writes_now out cause fresh shut begun same = (shut.none (cause ∙ fresh) ∙ begun, same, refl)
+load_cause faults.BadAlgorithm count count_now reads opened reads_now writes writes_now out cause fresh shut begun same = (shut.none (cause ∙ fresh) ∙ begun, same, refl)
+load_cause (faults.BadField at) count count_now reads opened reads_now writes writes_now out cause fresh shut begun same = (shut.none (cause ∙ fresh) ∙ begun, same, refl)
+load_cause (faults.BadPadding at) count count_now reads opened reads_now writes writes_now out cause fresh shut begun same = (shut.none (cause ∙ fresh) ∙ begun, same, refl)
+load_cause (faults.BadCell at) count count_now reads opened reads_now writes writes_now out cause fresh shut begun same = (shut.none (cause ∙ fresh) ∙ begun, same, refl)
+load_cause (faults.BadCount at) count count_now reads opened reads_now writes writes_now out cause fresh shut begun same = (shut.none (cause ∙ fresh) ∙ begun, same, refl)
+load_cause (faults.BadRank at) count count_now reads opened reads_now writes writes_now out cause fresh shut begun same = (shut.none (cause ∙ fresh) ∙ begun, same, refl)
+load_cause faults.Trailing count count_now reads opened reads_now writes writes_now out cause fresh shut begun same = (shut.none (cause ∙ fresh) ∙ begun, same, refl)
 
 -- why no function was loaded
 pub refused_dump : (files : Files) (path dump : List ℕ) (fault : LoadFault) → file_at files path ≡ Some dump → Fails fault (spelling_of dump) → RefusesDump files path (stop_from_load fault)

@@ -2,7 +2,8 @@
 use Rattle.std.proofs.Common.{◌≡◌, ◌∙◌, ◌⊎◌, ℕ, ◌<◌, ◌≤◌, List, [], length, Option, None, Some, Result, Ok, Err, inl, inr, refl, ap, sym, subst, arith}
 use Rattle.std.specs.Prelude.{slice_index}
 use Rattle.std.specs.Option.{ForSome}
-use Rattle.cm_algo.specs.Fails.{FailsBuild, HasForm, ShowsCore}
+use Rattle.std.specs.Result.{IsErrAnd}
+use Rattle.cm_algo.specs.Fails.{FailsBuild, HasBuildCause, HasForm, HasNumbers, ShowsCore}
 use Rattle.cm_algo.specs.declared.fault.BuildFault.{BuildFault}
 use Rattle.cm_algo.specs.declared.fault.BuildFault.TheVariants as build_fault
 use Rattle.cm_algorithm.specs.declared.algorithm.Algorithm.{Algorithm}
@@ -10,7 +11,7 @@ use Rattle.cm_algorithm.specs.declared.algorithm.Algorithm.TheVariants as algori
 use Rattle.cm_bdz.specs.Functions.{Bdz, BdzPh}
 use Rattle.cm_bdz.specs.Numbering.{bdz_under, bdz_ph_under}
 use Rattle.cm_brz.specs.BrzOf.{IsBrzOf}
-use Rattle.cm_brz.specs.Fails.{FailsBrz, HasBrzForm, IsCoredBucket, IsDamage, IsOverfull}
+use Rattle.cm_brz.specs.Fails.{FailsBrz, HasBrzForm, HasKeysCause, HasSpillCause, IsCoredBucket, IsDamage, IsOverfull}
 use Rattle.cm_brz.specs.Found.{AllOverfull, brz_under, bucket_report, first_cored, overfull_report}
 use Rattle.cm_brz.specs.Reports.{overfull_text}
 use Rattle.cm_brz.specs.Split.{split_of}
@@ -19,6 +20,7 @@ use Rattle.cm_brz.specs.declared.fault.BrzFault.TheVariants as brz_fault
 use Rattle.cm_buckets.specs.Functions.{Brz, IsBrz, bucket_count}
 use Rattle.cm_dump.specs.declared.writer.Func.{Func}
 use Rattle.cm_dump.specs.declared.writer.Func.TheVariants as func
+use Rattle.cm_outer.specs.Causes.{Collects}
 use Rattle.cm_outer.specs.Files.{Files, file_at, with_file}
 use Rattle.cm_outer.specs.Passes.{Told}
 use Rattle.cm_outer.specs.declared.key_pass.KeyFault.TheVariants as key_fault
@@ -27,9 +29,9 @@ use Rattle.cm_spec.specs.Bdz.{bdz_rule, bdz_ph_rule}
 use Rattle.cm_spec.specs.Built.{IsFirst, cells_under, chm_under, first_seed}
 use Rattle.cm_spec.specs.Chm.{Chm, chm_rule}
 use Rattle.cm_spec.specs.Rule.{Rule}
-use Rattle.cm_tool.specs.Faults.{FailsFunc, HasNone, HasStopForm, IsReasonBy, fault_from_brz, fault_from_build, reason_of, shown_core, shown_overfull, stop_for}
+use Rattle.cm_tool.specs.Faults.{FailsFunc, HasFuncCause, HasNone, HasStopForm, IsChange, IsChangeBy, IsReasonBy, fault_from_brz, fault_from_build, reason_of, shown_core, shown_overfull, stop_for}
 use Rattle.cm_tool.specs.Jobs.{seeds_tried}
-use Rattle.cm_tool.specs.Leaves.{GotReport, IsBuiltFrom, IsFuncOf, IsRefused, Leaves, Refuses, Saves, StopsFor}
+use Rattle.cm_tool.specs.Leaves.{GotReport, HasStopCause, IsBuiltFrom, IsFuncOf, IsRefused, Leaves, Refuses, Saves, StopsFor}
 use Rattle.cm_tool.specs.Outcome.{keys_in}
 use Rattle.cm_tool.specs.Seeds.{IsCoredUnder, IsMadeBy, NoneWorks, TakesFirst}
 use Rattle.cm_tool.specs.Verdict as verdicts
@@ -40,6 +42,7 @@ use Rattle.cm_tool.specs.declared.stop.Reason.{Reason}
 use Rattle.cm_tool.specs.declared.stop.Reason.TheVariants.{NoSeed, NoSeedFor, NoSplit}
 use Rattle.cm_tool.specs.declared.stop.Stop.{Stop}
 use Rattle.cm_tool.specs.declared.stop.Stop.TheVariants.{Memory, Read, Write, WriteOut, Refused, Changed, Spill, SpillDamaged, NoKeys, TooLong, TooMany}
+use Rattle.cm_tool.proofs.Outcomes.{collected}
 use Rattle.cm_witness.specs.Reports.{report_text}
 use Rattle.cm_witness.specs.declared.certificate.Certificate.{Certificate}
 use Rattle.cm_witness.specs.declared.certificate.Pair.{Pair}
@@ -284,3 +287,76 @@ leaves_refused job old new out_old out_new TooMany same refused = (same, refused
 pub leaves_created : (job : BuildJob) (old new : Option Files) (out_old out_new : Option (List ℕ)) (dump : List ℕ) → (new ≡ old) ⊎ (new ≡ with_file job.function [] old) → ForSome old (λ files. Saves job files dump) → Leaves job old new out_old out_new (Err Memory)
 leaves_created job old new out_old out_new dump (inl same) saves = inl same
 leaves_created job old new out_old out_new dump (inr empty) saves = inr (dump, empty, saves)
+
+-- which counts a failed build under one seed has raised
+fault_cause : (T : Type 0) (fault : BuildFault) (k k_now w : ℕ) → HasBuildCause {T = Func} k k_now (Err fault) → HasFuncCause {T = T} k k_now w w (Err (fault_from_build fault))
+fault_cause T build_fault.Memory k k_now w cause = (cause, refl)
+fault_cause T build_fault.NoKeys k k_now w cause = (cause, refl)
+fault_cause T (build_fault.Cored made) k k_now w cause = (cause, refl)
+fault_cause T (build_fault.Key fault) k k_now w cause = (cause, refl)
+fault_cause T (build_fault.Changed first again) k k_now w cause = (cause, refl)
+
+-- the same of a fault that was converted as it was returned
+pub build_cause : (T : Type 0) (result : Result T FuncFault) (fault : BuildFault) (k k_now w : ℕ) → IsErrAnd result (λ e. e ≡ fault_from_build fault) → HasBuildCause {T = Func} k k_now (Err fault) → HasFuncCause {T = T} k k_now w w result
+build_cause T (Ok x) fault k k_now w is cause = absurd is
+build_cause T (Err e) fault k k_now w is cause = subst (λ (f : FuncFault). HasFuncCause {T = T} k k_now w w (Err f)) (sym is) (fault_cause T fault k k_now w cause)
+
+-- what a failed build under one seed shows, by an algorithm with one seed
+pub build_form : (algorithm : Algorithm) (fault : BuildFault) (place seed : ℕ) → IsReasonBy algorithm NoSeed → ((first again : ℕ) → IsChange first again → IsChangeBy algorithm first again) → HasNumbers place fault → HasForm algorithm seed fault
+    → HasStopForm algorithm (stop_for (fault_from_build fault))
+build_form algorithm build_fault.Memory place seed reason change numbers form = tt
+build_form algorithm build_fault.NoKeys place seed reason change numbers form = tt
+build_form algorithm (build_fault.Cored made) place seed reason change numbers form = rw form.2 reason
+build_form algorithm (build_fault.Key key_fault.Read) place seed reason change numbers form = tt
+build_form algorithm (build_fault.Key (key_fault.TooLong line)) place seed reason change numbers form = tt
+build_form algorithm (build_fault.Key key_fault.TooMany) place seed reason change numbers form = tt
+build_form algorithm (build_fault.Changed first again) place seed reason change numbers form = change first again (record { some = numbers.0; differs = numbers.1.differs; stops = numbers.1.stops })
+
+-- which counts a failed build by BRZ has raised, once the spill was handed back
+pub brz_cause : (fault : BrzFault) (k k_now count count_now before middle now : ℕ) → HasKeysCause {T = Func} k k_now (Err fault) → HasSpillCause {T = Func} count count_now (Err fault) → count ≡ 0 → Collects count_now middle now → middle ≡ before
+    → HasFuncCause {T = Func} k k_now before now (Err (fault_from_brz fault))
+brz_cause brz_fault.Memory k k_now count count_now before middle now keys spill fresh back same = (keys, back.none (spill ∙ fresh) ∙ same)
+brz_cause brz_fault.NoKeys k k_now count count_now before middle now keys spill fresh back same = (keys, back.none (spill ∙ fresh) ∙ same)
+brz_cause (brz_fault.Overfull seed bucket many equal) k k_now count count_now before middle now keys spill fresh back same = (keys, back.none (spill ∙ fresh) ∙ same)
+brz_cause (brz_fault.Cored made) k k_now count count_now before middle now keys spill fresh back same = (keys, back.none (spill ∙ fresh) ∙ same)
+brz_cause (brz_fault.Key fault) k k_now count count_now before middle now keys spill fresh back same = (keys, back.none (spill ∙ fresh) ∙ same)
+brz_cause (brz_fault.Changed first again) k k_now count count_now before middle now keys spill fresh back same = (keys, back.none (spill ∙ fresh) ∙ same)
+brz_cause brz_fault.SpillFailed k k_now count count_now before middle now keys spill fresh back same = (keys, omega (arith, back.later, same), collected count count_now before middle now spill fresh back same)
+brz_cause (brz_fault.SpillDamaged offset expected found) k k_now count count_now before middle now keys spill fresh back same = (keys, back.none (spill ∙ fresh) ∙ same)
+
+-- which counts of the disk a stop for a report has raised: none
+shown_cause : (shown : Shown) (old new : Option (List ℕ)) (stop : Stop) (r r_now w w_now : ℕ) → GotReport shown old new stop → r_now ≡ r → w_now ≡ w → HasStopCause {T = Func} r r_now w w_now (Err stop)
+shown_cause shown old new Memory r r_now w w_now got read wrote = (read, wrote)
+shown_cause shown old new Read r r_now w w_now got read wrote = absurd got
+shown_cause shown old new Write r r_now w w_now got read wrote = absurd got
+shown_cause shown old new WriteOut r r_now w w_now got read wrote = (read, wrote)
+shown_cause shown old new (Refused reason) r r_now w w_now got read wrote = (read, wrote)
+shown_cause shown old new (Changed first again) r r_now w w_now got read wrote = (read, wrote)
+shown_cause shown old new Spill r r_now w w_now got read wrote = absurd got
+shown_cause shown old new (SpillDamaged offset expected found) r r_now w w_now got read wrote = (read, wrote)
+shown_cause shown old new NoKeys r r_now w w_now got read wrote = (read, wrote)
+shown_cause shown old new (TooLong line) r r_now w w_now got read wrote = (read, wrote)
+shown_cause shown old new TooMany r r_now w w_now got read wrote = (read, wrote)
+
+-- and any stop, once the reader of the keys was handed back
+cause_of : (fault : FuncFault) (old new : Option (List ℕ)) (stop : Stop) (count count_now r middle r_now w w_now : ℕ) → StopsFor fault old new stop → HasFuncCause {T = Func} count count_now w w_now (Err fault) → count ≡ 0 → Collects count_now middle r_now → middle ≡ r
+    → HasStopCause {T = Func} r r_now w w_now (Err stop)
+cause_of func_fault.Memory old new stop count count_now r middle r_now w w_now stops cause fresh back same = rw stops.0 (back.none (cause.0 ∙ fresh) ∙ same, cause.1)
+cause_of func_fault.NoKeys old new stop count count_now r middle r_now w w_now stops cause fresh back same = rw stops.0 (back.none (cause.0 ∙ fresh) ∙ same, cause.1)
+cause_of (func_fault.Cored made) old new stop count count_now r middle r_now w w_now stops cause fresh back same = shown_cause (shown_core made) old new stop r r_now w w_now stops (back.none (cause.0 ∙ fresh) ∙ same) cause.1
+cause_of (func_fault.Overfull seed bucket many equal) old new stop count count_now r middle r_now w w_now stops cause fresh back same =
+    shown_cause (shown_overfull seed bucket many equal.items) old new stop r r_now w w_now stops (back.none (cause.0 ∙ fresh) ∙ same) cause.1
+cause_of (func_fault.Key key_fault.Read) old new stop count count_now r middle r_now w w_now stops cause fresh back same =
+    rw stops.0 (omega (arith, back.later, same), collected count count_now r middle r_now cause.0 fresh back same, cause.1)
+cause_of (func_fault.Key (key_fault.TooLong line)) old new stop count count_now r middle r_now w w_now stops cause fresh back same = rw stops.0 (back.none (cause.0 ∙ fresh) ∙ same, cause.1)
+cause_of (func_fault.Key key_fault.TooMany) old new stop count count_now r middle r_now w w_now stops cause fresh back same = rw stops.0 (back.none (cause.0 ∙ fresh) ∙ same, cause.1)
+cause_of (func_fault.Changed first again) old new stop count count_now r middle r_now w w_now stops cause fresh back same = rw stops.0 (back.none (cause.0 ∙ fresh) ∙ same, cause.1)
+cause_of func_fault.Spill old new stop count count_now r middle r_now w w_now stops cause fresh back same = rw stops.0 (back.none (cause.0 ∙ fresh) ∙ same, cause.1, cause.2)
+cause_of (func_fault.SpillDamaged offset expected found) old new stop count count_now r middle r_now w w_now stops cause fresh back same = rw stops.0 (back.none (cause.0 ∙ fresh) ∙ same, cause.1)
+
+-- and the file was opened before
+pub stop_cause : (fault : FuncFault) (old new : Option (List ℕ)) (stop : Stop) (count count_now r middle r_now w opened built w_now : ℕ) → StopsFor fault old new stop → HasFuncCause {T = Func} count count_now opened built (Err fault) → count ≡ 0 → Collects count_now middle r_now → middle ≡ r → opened ≡ w → w_now ≡ built
+    → HasStopCause {T = Func} r r_now w w_now (Err stop)
+stop_cause fault old new stop count count_now r middle r_now w opened built w_now stops cause fresh back same before after =
+    let moved = subst (λ (n : ℕ). HasFuncCause {T = Func} count count_now n built (Err fault)) before cause in
+    subst (λ (n : ℕ). HasStopCause {T = Func} r r_now w n (Err stop)) (sym after) (cause_of fault old new stop count count_now r middle r_now w built stops moved fresh back same)

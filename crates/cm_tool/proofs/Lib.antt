@@ -1,5 +1,6 @@
 mod Asks
 mod Builds
+mod Clauses
 mod Outcomes
 mod Words
 mod Tests

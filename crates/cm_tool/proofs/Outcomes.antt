@@ -1,9 +1,10 @@
 -- From the end of a job to what the top call promises.
-use Rattle.std.proofs.Common.{◌≡◌, ◌≢◌, ◌∙◌, ◌⊎◌, ℕ, ◌<◌, List, [], ◌∷◌, length, Option, None, Some, Ok, Err, inl, inr, refl, ap, sym, subst, arith, Bool, cond}
+use Rattle.std.proofs.Common.{◌≡◌, ◌≢◌, ◌∙◌, ◌⊎◌, ◌↔◌, ℕ, ◌<◌, ◌≤◌, ◌^◌, lit<, List, [], ◌∷◌, length, Option, None, Some, Ok, Err, inl, inr, refl, ap, sym, subst, arith, Bool, cond}
 use Rattle.std.specs.Cmp.{eq_by_cmp_equiv}
 use Rattle.std.specs.Cmp.Lexicographic.{nat_list_cmp_total}
 use Rattle.std.specs.Option.{option_map}
 use Rattle.std.specs.FinMap as map
+use Rattle.cm_outer.specs.Causes.{Collects, Rose}
 use Rattle.cm_outer.specs.Files.{Files, file_at, with_file}
 use Rattle.cm_outer.specs.declared.key_pass.KeyFault.{KeyFault}
 use Rattle.cm_outer.specs.declared.key_pass.KeyFault.TheVariants as key_fault
@@ -11,11 +12,11 @@ use Rattle.cm_outer.specs.WritingLaws.{then_nothing}
 use Rattle.cm_tool.specs.Ends.{Says, message_of, status_of}
 use Rattle.cm_tool.specs.Faults.{HasNone, HasStopForm}
 use Rattle.cm_tool.specs.Jobs.{seeds_tried}
-use Rattle.cm_tool.specs.Leaves.{IsOutCause, IsPart, KeepsOut, Leaves, Saves}
+use Rattle.cm_tool.specs.Leaves.{HasStopCause, IsOutCause, IsPart, KeepsOut, Leaves, Saves}
 use Rattle.cm_tool.specs.Messages.{built_message, no_keys, reason_message}
 use Rattle.cm_tool.specs.Outcome as outcomes
 use Rattle.cm_tool.specs.Outcome.{Outcome, build_over, built_or_refused, fault_message, job_outcome, keys_in, refusal, reporting, saving}
-use Rattle.cm_tool.specs.Run.{IsBuildMessage, IsCored, IsEmptied, IsUnfinished, KeysSpilled, LacksFile, Reaches, TookFirst}
+use Rattle.cm_tool.specs.Run.{IsBuildMessage, IsCored, IsEmptied, IsStatus, IsUnfinished, KeysSpilled, LacksFile, Reaches, TookFirst}
 use Rattle.cm_tool.specs.declared.built.Summary.{Summary}
 use Rattle.cm_tool.specs.Spills.{HasSpilled}
 use Rattle.cm_tool.specs.Verdict.{Shown, verdict_of}
@@ -24,6 +25,12 @@ use Rattle.cm_tool.specs.declared.stop.Stop.{Stop}
 use Rattle.cm_tool.specs.declared.stop.Stop.TheVariants.{Memory, Read, Write, WriteOut, Refused, Changed, Spill, SpillDamaged, NoKeys, TooLong, TooMany}
 use Rattle.cm_words.specs.declared.jobs.BuildJob.{BuildJob}
 use Rattle.cm_words.specs.declared.jobs.Job.TheVariants.{Build}
+
+-- a disk's count rose, if what it took back has failed
+pub collected : (count count_now before middle now : ℕ) → (count ≤ count_now) × Rose count count_now → count ≡ 0 → Collects count_now middle now → middle ≡ before → Rose before now
+collected count count_now before middle now failed fresh back same =
+    let low : count < 2 ^ 63 = rw fresh (lit< tt) in
+    rw same at (back.some (omega (arith, failed.1 low)))
 
 pub nothing_said : (known : Option (List ℕ)) (count : ℕ) → Says [] known known count count
 nothing_said known count = record { front = (0, then_nothing known); whole = λ _ _. then_nothing known }
@@ -108,7 +115,7 @@ none_there : (job : BuildJob) (files : Files) (bytes : List ℕ) → file_at fil
 none_there job files bytes file none = none_some (sym none ∙ there job files bytes _ file refl)
 
 -- what was saved is the outcome
-none_saved : (job : BuildJob) (files : Files) (dump : List ℕ) → Saves job files dump → job_outcome files (Ok (Build job)) ≡ None → ⊥
+pub none_saved : (job : BuildJob) (files : Files) (dump : List ℕ) → Saves job files dump → job_outcome files (Ok (Build job)) ≡ None → ⊥
 none_saved job files dump saves none = none_some (sym none ∙ outcome_saving job files dump saves)
 
 -- a build for which memory ran out left no file empty, where there is no outcome
@@ -228,3 +235,106 @@ message_is job before now TooMany differ count = record { done = λ e. absurd (o
 -- and that of one that came to its end
 pub built_is : (job : BuildJob) (before now : ℕ) (s : Summary) → IsBuildMessage job before now 0 (built_message job s)
 built_is job before now s = record { done = λ e. (s, refl); cored = λ e. absurd (omega arith); read = λ e. absurd (omega arith); write = λ e. absurd (omega arith); memory = λ e. absurd (omega arith); changed = λ e. absurd (omega arith); keys = λ e. absurd (omega arith) }
+
+-- a build that stopped: its status is one of a build's
+pub stop_status : (job : BuildJob) (stop : Stop) → IsStatus (Ok (Build job)) (status_of stop)
+stop_status job Memory = refl
+stop_status job Read = refl
+stop_status job Write = refl
+stop_status job WriteOut = refl
+stop_status job (Refused reason) = refl
+stop_status job (Changed first again) = refl
+stop_status job Spill = refl
+stop_status job (SpillDamaged offset expected found) = refl
+stop_status job NoKeys = refl
+stop_status job (TooLong line) = refl
+stop_status job TooMany = refl
+
+-- and it is not 0
+pub stop_failed : {P : Type 0} (stop : Stop) → status_of stop ≡ 0 → P
+stop_failed Memory zero = absurd (omega arith)
+stop_failed Read zero = absurd (omega arith)
+stop_failed Write zero = absurd (omega arith)
+stop_failed WriteOut zero = absurd (omega arith)
+stop_failed (Refused reason) zero = absurd (omega arith)
+stop_failed (Changed first again) zero = absurd (omega arith)
+stop_failed Spill zero = absurd (omega arith)
+stop_failed (SpillDamaged offset expected found) zero = absurd (omega arith)
+stop_failed NoKeys zero = absurd (omega arith)
+stop_failed (TooLong line) zero = absurd (omega arith)
+stop_failed TooMany zero = absurd (omega arith)
+
+-- it is 4 exactly if the count of reading rose
+pub stop_read : (stop : Stop) (r r_now w w_now : ℕ) → HasStopCause {T = Summary} r r_now w w_now (Err stop) → r < 2 ^ 63 → (status_of stop ≡ 4) ↔ (r < r_now)
+stop_read Memory r r_now w w_now cause low = (λ four. absurd (omega (arith, four)), λ rose. absurd (omega (arith, rose, cause.0)))
+stop_read Read r r_now w w_now cause low = (λ _. cause.1 low, λ _. refl)
+stop_read Write r r_now w w_now cause low = (λ four. absurd (omega (arith, four)), λ rose. absurd (omega (arith, rose, cause.0)))
+stop_read WriteOut r r_now w w_now cause low = (λ four. absurd (omega (arith, four)), λ rose. absurd (omega (arith, rose, cause.0)))
+stop_read (Refused reason) r r_now w w_now cause low = (λ four. absurd (omega (arith, four)), λ rose. absurd (omega (arith, rose, cause.0)))
+stop_read (Changed first again) r r_now w w_now cause low = (λ four. absurd (omega (arith, four)), λ rose. absurd (omega (arith, rose, cause.0)))
+stop_read Spill r r_now w w_now cause low = (λ four. absurd (omega (arith, four)), λ rose. absurd (omega (arith, rose, cause.0)))
+stop_read (SpillDamaged offset expected found) r r_now w w_now cause low = (λ four. absurd (omega (arith, four)), λ rose. absurd (omega (arith, rose, cause.0)))
+stop_read NoKeys r r_now w w_now cause low = (λ four. absurd (omega (arith, four)), λ rose. absurd (omega (arith, rose, cause.0)))
+stop_read (TooLong line) r r_now w w_now cause low = (λ four. absurd (omega (arith, four)), λ rose. absurd (omega (arith, rose, cause.0)))
+stop_read TooMany r r_now w w_now cause low = (λ four. absurd (omega (arith, four)), λ rose. absurd (omega (arith, rose, cause.0)))
+
+-- neither count rose
+pub neither : {P : Type 0} (w w_now o o_now : ℕ) → w_now ≡ w → o_now ≡ o → (w < w_now) ⊎ (o < o_now) → P
+neither w w_now o o_now same quiet (inl rose) = absurd (omega (arith, rose, same))
+neither w w_now o o_now same quiet (inr rose) = absurd (omega (arith, rose, quiet))
+
+-- it is 5 exactly if the count of writing or that of out rose
+pub stop_write : (stop : Stop) (r r_now w w_now o o_now : ℕ) → HasStopCause {T = Summary} r r_now w w_now (Err stop) → IsOutCause o o_now stop → w < 2 ^ 63 → o < 2 ^ 63 → (status_of stop ≡ 5) ↔ ((w < w_now) ⊎ (o < o_now))
+stop_write Memory r r_now w w_now o o_now cause out low few = (λ five. absurd (omega (arith, five)), λ either. neither w w_now o o_now cause.1 out either)
+stop_write Read r r_now w w_now o o_now cause out low few = (λ five. absurd (omega (arith, five)), λ either. neither w w_now o o_now cause.2 out either)
+stop_write Write r r_now w w_now o o_now cause out low few = (λ _. inl (cause.2 low), λ _. refl)
+stop_write WriteOut r r_now w w_now o o_now cause out low few = (λ _. inr (out.1 few), λ _. refl)
+stop_write (Refused reason) r r_now w w_now o o_now cause out low few = (λ five. absurd (omega (arith, five)), λ either. neither w w_now o o_now cause.1 out either)
+stop_write (Changed first again) r r_now w w_now o o_now cause out low few = (λ five. absurd (omega (arith, five)), λ either. neither w w_now o o_now cause.1 out either)
+stop_write Spill r r_now w w_now o o_now cause out low few = (λ _. inl (cause.2 low), λ _. refl)
+stop_write (SpillDamaged offset expected found) r r_now w w_now o o_now cause out low few = (λ five. absurd (omega (arith, five)), λ either. neither w w_now o o_now cause.1 out either)
+stop_write NoKeys r r_now w w_now o o_now cause out low few = (λ five. absurd (omega (arith, five)), λ either. neither w w_now o o_now cause.1 out either)
+stop_write (TooLong line) r r_now w w_now o o_now cause out low few = (λ five. absurd (omega (arith, five)), λ either. neither w w_now o o_now cause.1 out either)
+stop_write TooMany r r_now w w_now o o_now cause out low few = (λ five. absurd (omega (arith, five)), λ either. neither w w_now o o_now cause.1 out either)
+
+-- over known files it is not 7
+pub stop_known : (job : BuildJob) (old new : Option Files) (out out_new : Option (List ℕ)) (stop : Stop) (files : Files) → Leaves job old new out out_new (Err stop) → old ≡ Some files → status_of stop ≢ 7
+stop_known job old new out out_new Memory files leaves is seven = absurd (omega (arith, seven))
+stop_known job old new out out_new Read files leaves is seven = absurd (omega (arith, seven))
+stop_known job old new out out_new Write files leaves is seven = absurd (omega (arith, seven))
+stop_known job old new out out_new WriteOut files leaves is seven = absurd (omega (arith, seven))
+stop_known job old new out out_new (Refused reason) files leaves is seven = absurd (omega (arith, seven))
+stop_known job old new out out_new (Changed first again) files leaves is seven = (leaves.1 files is).2
+stop_known job old new out out_new Spill files leaves is seven = absurd (omega (arith, seven))
+stop_known job old new out out_new (SpillDamaged offset expected found) files leaves is seven = (leaves.1 files is).2
+stop_known job old new out out_new NoKeys files leaves is seven = absurd (omega (arith, seven))
+stop_known job old new out out_new (TooLong line) files leaves is seven = absurd (omega (arith, seven))
+stop_known job old new out out_new TooMany files leaves is seven = absurd (omega (arith, seven))
+
+-- the files are as they were, unless they could not be written or memory ran out
+pub stop_kept : (job : BuildJob) (old new : Option Files) (out out_new : Option (List ℕ)) (stop : Stop) → Leaves job old new out out_new (Err stop) → status_of stop ≢ 5 → status_of stop ≢ 6 → new ≡ old
+stop_kept job old new out out_new Memory leaves five six = absurd (six refl)
+stop_kept job old new out out_new Read leaves five six = leaves.0
+stop_kept job old new out out_new Write leaves five six = absurd (five refl)
+stop_kept job old new out out_new WriteOut leaves five six = leaves.0
+stop_kept job old new out out_new (Refused reason) leaves five six = leaves.0
+stop_kept job old new out out_new (Changed first again) leaves five six = leaves.0
+stop_kept job old new out out_new Spill leaves five six = leaves.0
+stop_kept job old new out out_new (SpillDamaged offset expected found) leaves five six = leaves.0
+stop_kept job old new out out_new NoKeys leaves five six = leaves.0
+stop_kept job old new out out_new (TooLong line) leaves five six = leaves.0
+stop_kept job old new out out_new TooMany leaves five six = leaves.0
+
+-- and out is, unless there is a report
+pub stop_quiet : (out out_new : Option (List ℕ)) (stop : Stop) → KeepsOut out out_new stop → status_of stop ≢ 1 → status_of stop ≢ 5 → out_new ≡ out
+stop_quiet out out_new Memory same one five = same
+stop_quiet out out_new Read same one five = same
+stop_quiet out out_new Write same one five = same
+stop_quiet out out_new WriteOut same one five = absurd (five refl)
+stop_quiet out out_new (Refused reason) same one five = absurd (one refl)
+stop_quiet out out_new (Changed first again) same one five = same
+stop_quiet out out_new Spill same one five = same
+stop_quiet out out_new (SpillDamaged offset expected found) same one five = same
+stop_quiet out out_new NoKeys same one five = same
+stop_quiet out out_new (TooLong line) same one five = same
+stop_quiet out out_new TooMany same one five = same

@@ -1,4 +1,4 @@
-use Rattle.std.proofs.Common.{◌≡◌, None, refl}
+use Rattle.std.proofs.Common.{◌≡◌, ◌∙◌, None, refl}
 use Rattle.cm_dump.specs.Dumps.{dump_of}
 use Rattle.cm_tool.proofs.Builds.{leaves_created, leaves_refused}
 use Rattle.cm_tool.proofs.Outcomes.{keys_spilled}
@@ -46,3 +46,20 @@ returns-in-Err-Memory-clause-leaves g c =
     leaves_created c.args.job.now _ _ None None (dump_of f) (rw (path, c.function_of.ensures.files) at stored) (λ files is.
     let made = c.in-Ok.ensures.made files is in
     record { bytes = made.0; f = f; there = made.1; made = made.2; dump_is = refl; valid = c.in-Ok.ensures.valid })
+
+pub returns-in-Err-clause-cause : goal.returns-in-Err-clause-cause
+returns-in-Err-clause-cause g c = c.in-Err.ensures.cause
+
+pub returns-in-Ok-store-clause-cause : goal.returns-in-Ok-store-clause-cause
+returns-in-Ok-store-clause-cause g c = (c.store.ensures.read_faults ∙ c.in-Ok.ensures.cause.0, c.in-Ok-store.ensures.cause ∙ c.in-Ok.ensures.cause.1)
+
+pub returns-in-Err-Memory-clause-cause : goal.returns-in-Err-Memory-clause-cause
+returns-in-Err-Memory-clause-cause g c =
+    let stored = rw c.in-Err-Memory.field-0-is at c.in-Err-Memory.ensures.cause in
+    (c.store.ensures.read_faults ∙ c.in-Ok.ensures.cause.0, stored ∙ c.in-Ok.ensures.cause.1)
+
+pub returns-clause-cause : goal.returns-clause-cause
+returns-clause-cause g c =
+    let failed = rw c.in-Err-Failed.field-0-is at c.in-Err-Failed.ensures.cause in
+    let stored = rw c.in-Ok.ensures.cause.1 at failed in
+    (c.store.ensures.read_faults ∙ c.in-Ok.ensures.cause.0, stored.0, stored.1)

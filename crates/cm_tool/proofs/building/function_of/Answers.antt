@@ -2,7 +2,7 @@ use Rattle.std.proofs.Common.{rules, ◌≡◌, ◌∙◌, ℕ, List, Option, ap
 use Rattle.std.specs.Option.{option_map}
 use Rattle.cm_tool.specs.Jobs.{seeds_tried}
 use Rattle.cm_tool.specs.Outcome.{keys_in}
-use Rattle.cm_tool.proofs.Builds.{refused_from, stop_form}
+use Rattle.cm_tool.proofs.Builds.{refused_from, stop_cause, stop_form}
 use Rattle.cm_tool.proofs.building.function_of.Goals as goal
 
 pub returns-in-Ok-outcome-clause-made : goal.returns-in-Ok-outcome-clause-made
@@ -36,3 +36,16 @@ returns-in-Err-clause-refused g c = λ files is.
 
 pub returns-in-Err-clause-form : goal.returns-in-Err-clause-form
 returns-in-Err-clause-form g c = stop_form c.args.job.now.algorithm c.in-Err.fault _ _ c.stop_of.result (rw c.plan_of.ensures.plan at c.in-Err.ensures.form) c.stop_of.ensures.stops
+
+pub returns-in-Ok-outcome-clause-cause : goal.returns-in-Ok-outcome-clause-cause
+returns-in-Ok-outcome-clause-cause g c =
+    let cause = c.in-Ok-outcome.ensures.cause in
+    let read = c.shut.ensures.cause.none (c.into_source.ensures.faults ∙ cause.0 ∙ c.new-keys.ensures.faults ∙ c.in-Ok.ensures.fresh) in
+    (read ∙ c.func_of-outcome.ensures.read_faults ∙ c.in-Ok.ensures.cause, c.shut.ensures.write_faults ∙ cause.1 ∙ c.open.ensures.write_faults)
+
+pub returns-in-Err-clause-cause : goal.returns-in-Err-clause-cause
+returns-in-Err-clause-cause g c =
+    let back = rw c.into_source.ensures.faults at c.shut.ensures.cause in
+    let fresh = c.new-keys.ensures.faults ∙ c.in-Ok.ensures.fresh in
+    let read = c.func_of-outcome.ensures.read_faults ∙ c.in-Ok.ensures.cause in
+    stop_cause c.in-Err.fault _ _ c.stop_of.result _ _ _ _ _ _ _ _ _ c.stop_of.ensures.stops c.in-Err.ensures.cause fresh back read c.open.ensures.write_faults c.shut.ensures.write_faults

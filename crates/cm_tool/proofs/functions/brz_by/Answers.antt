@@ -1,6 +1,6 @@
-use Rattle.std.proofs.Common.{arith, ◌≤◌, ℕ, [], length}
+use Rattle.std.proofs.Common.{arith, ◌≡◌, ◌∙◌, ◌≤◌, ℕ, List, [], length, Option, None, Some, true, is_some, refl, ap}
 use Rattle.cm_buckets.specs.Functions.{bucket_count}
-use Rattle.cm_tool.proofs.Builds.{BrzLaws, brz_fails, brz_from}
+use Rattle.cm_tool.proofs.Builds.{BrzLaws, brz_cause, brz_fails, brz_from}
 use Rattle.cm_tool.proofs.functions.brz_by.Goals as goal
 
 pub returns-in-Ok-built-clause-made : goal.returns-in-Ok-built-clause-made
@@ -32,3 +32,20 @@ returns-clause-fault g c = λ files is told known.
     let undamaged = rw c.in-Err.is at (c.brz-built.ensures.undamaged [] empty) in
     let form = rw c.in-Err.is at c.brz-built.ensures.form in
     rw c.fault_of_brz.ensures.fault (brz_fails told plan.c plan.b seeds c.in-Err.fault laws (fails told known) form undamaged)
+
+-- what is known as soon as something else is
+known_as : (x : Option (List ℕ)) → is_some x ≡ true → (bytes : List ℕ) × (x ≡ Some bytes)
+known_as None known = absurd (cc)
+known_as (Some bytes) known = (bytes, refl)
+
+pub returns-in-Ok-built-clause-spilled : goal.returns-in-Ok-built-clause-spilled
+returns-in-Ok-built-clause-spilled g c = λ files is told known.
+    let bytes = known_as _ (c.brz-built.ensures.known ∙ ap is_some (c.in-Ok.ensures.told files is)) in
+    let puts = rw c.in-Ok-built.is at c.brz-built.ensures.spilled in
+    (bytes.0, c.give_back.ensures.spilled files (c.spill.ensures.files ∙ is) ∙ bytes.1, puts bytes.0 bytes.1 told known)
+
+pub returns-clause-cause : goal.returns-clause-cause
+returns-clause-cause g c =
+    let keys = rw c.in-Err.is at c.brz-built.ensures.keys_cause in
+    let spill = rw c.in-Err.is at c.brz-built.ensures.spill_cause in
+    rw c.fault_of_brz.ensures.fault (brz_cause c.in-Err.fault _ _ _ _ _ _ _ keys spill c.in-Ok.ensures.fresh c.give_back.ensures.cause c.in-Ok.ensures.cause)

@@ -2,6 +2,7 @@ use Rattle.std.proofs.Common.{[], ◌≡◌, ◌∙◌, Ok, ap, arith, sym, refl
 use Rattle.cm_tool.specs.Messages.{usage_message}
 use Rattle.cm_tool.specs.Outcome.{job_outcome}
 use Rattle.cm_tool.specs.Texts.{help_text, version_text}
+use Rattle.cm_tool.proofs.Clauses.{any_build, for_build, for_query, for_test, for_text, not_brz, not_build, not_job, not_query, not_risen, not_seven, not_test, out_alone, sent_none, text_is, text_unsent, unless_brz, unless_build, unless_job, usage_is}
 use Rattle.cm_tool.proofs.Words.{early_tested, printed, says_none, text_missing, text_status, unless_query, unless_test, usage_cut, usage_missing, usage_outcome, usage_said, usage_status}
 use Rattle.cm_words.specs.Options.{Read as Reading}
 use Rattle.cm_words.specs.declared.jobs.Job.{Job}
@@ -12,157 +13,215 @@ use Rattle.cm_tool.proofs.top.run.Goals as goal
 asks : (asked : Reading Job) (read job : Job) → Ok read ≡ asked → read ≡ job → asked ≡ Ok job
 asks asked read job is same = sym is ∙ ap (λ (j : Job). Ok j) same
 
-pub returns-in-Ok-Help-clause-status : goal.returns-in-Ok-Help-clause-status
-returns-in-Ok-Help-clause-status g c = rw (asks _ _ _ c.in-Ok-Help.ensures.job c.in-Ok-Help.field-0-is) (text_status _ c.end_of_text.ensures.status)
-
-pub returns-in-Ok-Help-clause-outcome : goal.returns-in-Ok-Help-clause-outcome
-returns-in-Ok-Help-clause-outcome g c = λ a b d files is.
+pub returns-in-Ok-Help : goal.returns-in-Ok-Help
+returns-in-Ok-Help g c =
     let end = c.end_of_text.ensures in
+    let status = end.status in
     let asked = asks _ _ _ c.in-Ok-Help.ensures.job c.in-Ok-Help.field-0-is in
-    let zero : c.end_of_text.result ≡ 0 = elim end.status [
-      | inl zero ↦ zero
-      | inr five ↦ absurd (b five)
-    ] in
-    let done = end.done zero in
-    rw zero (printed help_text files _ _ _ _ _ _ _ _ (ap (job_outcome files) asked) (end.whole zero help_text _ c.print_help-printed.ensures.text) (says_none done.0 done.1) is)
+    record {
+      status = rw asked (text_status _ status);
+      read = λ low. (λ four. text_is _ 4 status (λ e. omega (arith, e)) (λ e. omega (arith, e)) four, λ rose. not_risen _ _ refl rose);
+      write = λ low few. out_alone _ _ _ _ refl (end.cause _ few c.print_help-printed.ensures.cause);
+      outcome = λ a b d files is.
+          let zero : c.end_of_text.result ≡ 0 = elim status [
+            | inl zero ↦ zero
+            | inr five ↦ absurd (b five)
+          ] in
+          let done = end.done zero in
+          rw zero (printed help_text files _ _ _ _ _ _ _ _ (ap (job_outcome files) asked) (end.whole zero help_text _ c.print_help-printed.ensures.text) (says_none done.0 done.1) is);
+      first = λ zero files is. for_build _ asked tt;
+      cored = λ one files is. for_build _ asked tt;
+      numbers = λ zero files is. for_build _ asked tt;
+      spilled = λ zero files is. for_build _ asked tt;
+      unspilled = not_brz _ asked refl;
+      unchanged = λ files is seven. text_is _ 7 status (λ e. omega (arith, e)) (λ e. omega (arith, e)) seven;
+      missing = λ files is. text_missing _ Help files _ asked refl;
+      kept = λ a b d. refl;
+      part = λ five files is. for_build _ asked tt;
+      memory = λ six. inl refl;
+      asked = not_build _ asked (refl, not_test _ asked refl);
+      out = not_job _ asked tt;
+      built = λ a b. for_build _ asked tt;
+      silent = λ six. text_is _ 6 status (λ e. omega (arith, e)) (λ e. omega (arith, e)) six;
+      front = for_text _ asked (end.front help_text _ c.print_help-printed.ensures.text);
+      tested = λ either files is. for_test _ asked tt;
+      unfinished = λ five files is. for_test _ asked tt;
+      cut = λ either files is. for_query _ asked tt;
+      sent = λ empty. end.sent _ c.print_help-printed.ensures.cause;
+      err_sent = end.err_sent;
+      err = ([], end.err.0, not_query _ asked refl, rw asked end.err.1, end.err.2);
+    }
 
-pub returns-in-Ok-Help-clause-missing : goal.returns-in-Ok-Help-clause-missing
-returns-in-Ok-Help-clause-missing g c = λ files is. text_missing _ Help files _ (asks _ _ _ c.in-Ok-Help.ensures.job c.in-Ok-Help.field-0-is) refl
-
-pub returns-in-Ok-Help-clause-err : goal.returns-in-Ok-Help-clause-err
-returns-in-Ok-Help-clause-err g c =
-    let said = c.end_of_text.ensures.err in
-    let asked = asks _ _ _ c.in-Ok-Help.ensures.job c.in-Ok-Help.field-0-is in
-    ([], said.0, rw asked refl, rw asked said.1, said.2)
-
-pub returns-in-Ok-Version-clause-status : goal.returns-in-Ok-Version-clause-status
-returns-in-Ok-Version-clause-status g c = rw (asks _ _ _ c.in-Ok-Version.ensures.job c.in-Ok-Version.field-0-is) (text_status _ c.end_of_text-in-Ok-Version.ensures.status)
-
-pub returns-in-Ok-Version-clause-outcome : goal.returns-in-Ok-Version-clause-outcome
-returns-in-Ok-Version-clause-outcome g c = λ a b d files is.
+pub returns-in-Ok-Version : goal.returns-in-Ok-Version
+returns-in-Ok-Version g c =
     let end = c.end_of_text-in-Ok-Version.ensures in
+    let status = end.status in
     let asked = asks _ _ _ c.in-Ok-Version.ensures.job c.in-Ok-Version.field-0-is in
-    let zero : c.end_of_text-in-Ok-Version.result ≡ 0 = elim end.status [
-      | inl zero ↦ zero
-      | inr five ↦ absurd (b five)
-    ] in
-    let done = end.done zero in
-    rw zero (printed version_text files _ _ _ _ _ _ _ _ (ap (job_outcome files) asked) (end.whole zero version_text _ c.print_version-printed.ensures.text) (says_none done.0 done.1) is)
+    record {
+      status = rw asked (text_status _ status);
+      read = λ low. (λ four. text_is _ 4 status (λ e. omega (arith, e)) (λ e. omega (arith, e)) four, λ rose. not_risen _ _ refl rose);
+      write = λ low few. out_alone _ _ _ _ refl (end.cause _ few c.print_version-printed.ensures.cause);
+      outcome = λ a b d files is.
+          let zero : c.end_of_text-in-Ok-Version.result ≡ 0 = elim status [
+            | inl zero ↦ zero
+            | inr five ↦ absurd (b five)
+          ] in
+          let done = end.done zero in
+          rw zero (printed version_text files _ _ _ _ _ _ _ _ (ap (job_outcome files) asked) (end.whole zero version_text _ c.print_version-printed.ensures.text) (says_none done.0 done.1) is);
+      first = λ zero files is. for_build _ asked tt;
+      cored = λ one files is. for_build _ asked tt;
+      numbers = λ zero files is. for_build _ asked tt;
+      spilled = λ zero files is. for_build _ asked tt;
+      unspilled = not_brz _ asked refl;
+      unchanged = λ files is seven. text_is _ 7 status (λ e. omega (arith, e)) (λ e. omega (arith, e)) seven;
+      missing = λ files is. text_missing _ Version files _ asked refl;
+      kept = λ a b d. refl;
+      part = λ five files is. for_build _ asked tt;
+      memory = λ six. inl refl;
+      asked = not_build _ asked (refl, not_test _ asked refl);
+      out = not_job _ asked tt;
+      built = λ a b. for_build _ asked tt;
+      silent = λ six. text_is _ 6 status (λ e. omega (arith, e)) (λ e. omega (arith, e)) six;
+      front = for_text _ asked (end.front version_text _ c.print_version-printed.ensures.text);
+      tested = λ either files is. for_test _ asked tt;
+      unfinished = λ five files is. for_test _ asked tt;
+      cut = λ either files is. for_query _ asked tt;
+      sent = λ empty. end.sent _ c.print_version-printed.ensures.cause;
+      err_sent = end.err_sent;
+      err = ([], end.err.0, not_query _ asked refl, rw asked end.err.1, end.err.2);
+    }
 
-pub returns-in-Ok-Version-clause-missing : goal.returns-in-Ok-Version-clause-missing
-returns-in-Ok-Version-clause-missing g c = λ files is. text_missing _ Version files _ (asks _ _ _ c.in-Ok-Version.ensures.job c.in-Ok-Version.field-0-is) refl
-
-pub returns-in-Ok-Version-clause-err : goal.returns-in-Ok-Version-clause-err
-returns-in-Ok-Version-clause-err g c =
-    let said = c.end_of_text-in-Ok-Version.ensures.err in
-    let asked = asks _ _ _ c.in-Ok-Version.ensures.job c.in-Ok-Version.field-0-is in
-    ([], said.0, rw asked refl, rw asked said.1, said.2)
-
-pub returns-in-Ok-Build-clause-status : goal.returns-in-Ok-Build-clause-status
-returns-in-Ok-Build-clause-status g c = rw (asks _ _ _ c.in-Ok-Build.ensures.job c.in-Ok-Build.field-0-is) c.run_build.ensures.status
-
-pub returns-in-Ok-Build-clause-outcome : goal.returns-in-Ok-Build-clause-outcome
-returns-in-Ok-Build-clause-outcome g c = λ a b d files is.
-    rw (asks _ _ _ c.in-Ok-Build.ensures.job c.in-Ok-Build.field-0-is) (c.run_build.ensures.outcome a b d files is)
-
-pub returns-in-Ok-Build-clause-missing : goal.returns-in-Ok-Build-clause-missing
-returns-in-Ok-Build-clause-missing g c = λ files is none.
+pub returns-in-Ok-Build : goal.returns-in-Ok-Build
+returns-in-Ok-Build g c =
+    let ran = c.run_build.ensures in
     let asked = asks _ _ _ c.in-Ok-Build.ensures.job c.in-Ok-Build.field-0-is in
-    c.run_build.ensures.missing files is (sym (ap (job_outcome files) asked) ∙ none)
+    record {
+      status = rw asked ran.status;
+      read = ran.read;
+      write = ran.write;
+      outcome = λ a b d files is. rw asked (ran.outcome a b d files is);
+      first = λ zero files is. for_build _ asked (ran.first zero files is);
+      cored = λ one files is. for_build _ asked (ran.cored one files is);
+      numbers = λ zero files is. for_build _ asked (ran.numbers zero files is);
+      spilled = λ zero files is. for_build _ asked (ran.spilled zero files is);
+      unspilled = not_brz _ asked ran.unspilled;
+      unchanged = ran.unchanged;
+      missing = λ files is none. ran.missing files is (sym (ap (job_outcome files) asked) ∙ none);
+      kept = ran.kept;
+      part = λ five files is. for_build _ asked (ran.part five files is);
+      memory = rw asked ran.memory;
+      asked = not_build _ asked tt;
+      out = not_job _ asked tt;
+      built = λ a b. for_build _ asked (ran.out a b);
+      silent = λ six. not_test _ asked (ran.out (λ one. omega (arith, six, one)) (λ five. omega (arith, six, five)));
+      front = for_text _ asked tt;
+      tested = λ either files is. for_test _ asked tt;
+      unfinished = λ five files is. for_test _ asked tt;
+      cut = λ either files is. for_query _ asked tt;
+      sent = ran.sent;
+      err_sent = ran.err_sent;
+      err = ([], ran.err.0, not_query _ asked refl, rw asked ran.err.1, ran.err.2);
+    }
 
-pub returns-in-Ok-Query-clause-status : goal.returns-in-Ok-Query-clause-status
-returns-in-Ok-Query-clause-status g c = rw (asks _ _ _ c.in-Ok-Query.ensures.job c.in-Ok-Query.field-0-is) c.run_query.ensures.status
-
-pub returns-in-Ok-Query-clause-outcome : goal.returns-in-Ok-Query-clause-outcome
-returns-in-Ok-Query-clause-outcome g c = λ a b d files is.
-    rw (asks _ _ _ c.in-Ok-Query.ensures.job c.in-Ok-Query.field-0-is) (c.run_query.ensures.outcome a b d files is)
-
-pub returns-in-Ok-Test-clause-status : goal.returns-in-Ok-Test-clause-status
-returns-in-Ok-Test-clause-status g c = rw (asks _ _ _ c.in-Ok-Test.ensures.job c.in-Ok-Test.field-0-is) c.run_test.ensures.status
-
-pub returns-in-Ok-Test-clause-missing : goal.returns-in-Ok-Test-clause-missing
-returns-in-Ok-Test-clause-missing g c = λ files is. text_missing _ _ files _ (asks _ _ _ c.in-Ok-Test.ensures.job c.in-Ok-Test.field-0-is) refl
-
-pub returns-in-Ok-Test-clause-outcome : goal.returns-in-Ok-Test-clause-outcome
-returns-in-Ok-Test-clause-outcome g c = λ a b d files is.
-    rw (asks _ _ _ c.in-Ok-Test.ensures.job c.in-Ok-Test.field-0-is) (c.run_test.ensures.outcome b d files is)
-
-pub returns-in-Ok-Test-clause-read : goal.returns-in-Ok-Test-clause-read
-returns-in-Ok-Test-clause-read g c = λ low. (λ four. absurd (c.run_test.ensures.known four), λ rose. absurd (omega (arith, rose, c.run_test.ensures.read_faults)))
-
-pub returns-in-Ok-Test-clause-unchanged : goal.returns-in-Ok-Test-clause-unchanged
-returns-in-Ok-Test-clause-unchanged g c = λ files is. (c.run_test.ensures.unchanged files is).0
-
-pub returns-in-Ok-Test-clause-tested : goal.returns-in-Ok-Test-clause-tested
-returns-in-Ok-Test-clause-tested g c = λ either files is.
-    rw (asks _ _ _ c.in-Ok-Test.ensures.job c.in-Ok-Test.field-0-is) (c.run_test.ensures.part either files is)
-
-pub returns-in-Ok-Test-clause-err : goal.returns-in-Ok-Test-clause-err
-returns-in-Ok-Test-clause-err g c =
-    let said = c.run_test.ensures.err in
-    let asked = asks _ _ _ c.in-Ok-Test.ensures.job c.in-Ok-Test.field-0-is in
-    ([], said.0, rw asked refl, rw asked said.1, said.2)
-
-pub returns-in-Err-clause-silent : goal.returns-in-Err-clause-silent
-returns-in-Err-clause-silent g c = λ six. unless_test _ refl
-
-pub returns-in-Err-clause-tested : goal.returns-in-Err-clause-tested
-returns-in-Err-clause-tested g c = λ either files is. early_tested _ files _
-
-pub returns-in-Ok-Query-clause-missing : goal.returns-in-Ok-Query-clause-missing
-returns-in-Ok-Query-clause-missing g c = λ files is none.
+pub returns-in-Ok-Query : goal.returns-in-Ok-Query
+returns-in-Ok-Query g c =
+    let ran = c.run_query.ensures in
     let asked = asks _ _ _ c.in-Ok-Query.ensures.job c.in-Ok-Query.field-0-is in
-    c.run_query.ensures.missing files is (sym (ap (job_outcome files) asked) ∙ none)
+    record {
+      status = rw asked ran.status;
+      read = ran.read;
+      write = λ low few. out_alone _ _ _ _ ran.write_faults (ran.write few);
+      outcome = λ a b d files is. rw asked (ran.outcome a b d files is);
+      first = λ zero files is. for_build _ asked tt;
+      cored = λ one files is. for_build _ asked tt;
+      numbers = λ zero files is. for_build _ asked tt;
+      spilled = λ zero files is. for_build _ asked tt;
+      unspilled = not_brz _ asked ran.spilled;
+      unchanged = λ files is. not_seven _ ran.status;
+      missing = λ files is none. ran.missing files is (sym (ap (job_outcome files) asked) ∙ none);
+      kept = λ a b d. ran.files;
+      part = λ five files is. for_build _ asked tt;
+      memory = λ six. inl ran.files;
+      asked = not_build _ asked (ran.files, not_test _ asked ran.write_faults);
+      out = not_job _ asked tt;
+      built = λ a b. for_build _ asked tt;
+      silent = λ six. not_test _ asked (ran.memory six);
+      front = for_text _ asked tt;
+      tested = λ either files is. for_test _ asked tt;
+      unfinished = λ five files is. for_test _ asked tt;
+      cut = λ either files is. for_query _ asked (ran.cut either files is);
+      sent = ran.sent;
+      err_sent = ran.err_sent;
+      err = (ran.err.0, ran.err.1, not_query _ asked tt, rw asked ran.err.2, ran.err.3);
+    }
 
-pub returns-in-Err-clause-status : goal.returns-in-Err-clause-status
-returns-in-Err-clause-status g c = rw c.report_usage.ensures.status (usage_status _ c.in-Err.fault c.in-Err.ensures.fault)
+pub returns-in-Ok-Test : goal.returns-in-Ok-Test
+returns-in-Ok-Test g c =
+    let ran = c.run_test.ensures in
+    let asked = asks _ _ _ c.in-Ok-Test.ensures.job c.in-Ok-Test.field-0-is in
+    record {
+      status = rw asked ran.status;
+      read = λ low. (λ four. absurd (ran.known four), λ rose. not_risen _ _ ran.read_faults rose);
+      write = ran.write;
+      outcome = λ a b d files is. rw asked (ran.outcome b d files is);
+      first = λ zero files is. for_build _ asked tt;
+      cored = λ one files is. for_build _ asked tt;
+      numbers = λ zero files is. for_build _ asked tt;
+      spilled = λ zero files is. for_build _ asked tt;
+      unspilled = not_brz _ asked tt;
+      unchanged = λ files is. (ran.unchanged files is).0;
+      missing = λ files is. text_missing _ _ files _ asked refl;
+      kept = λ a b d. ran.files;
+      part = λ five files is. for_build _ asked tt;
+      memory = λ six. inl ran.files;
+      asked = not_build _ asked (ran.files, not_test _ asked tt);
+      out = not_job _ asked tt;
+      built = λ a b. for_build _ asked tt;
+      silent = λ six. not_test _ asked tt;
+      front = for_text _ asked tt;
+      tested = λ either files is. for_test _ asked (ran.part either files is);
+      unfinished = λ five files is. for_test _ asked (ran.unfinished five files is);
+      cut = λ either files is. for_query _ asked tt;
+      sent = ran.sent;
+      err_sent = ran.err_sent;
+      err = ([], ran.err.0, not_query _ asked refl, rw asked ran.err.1, ran.err.2);
+    }
 
-pub returns-in-Err-clause-outcome : goal.returns-in-Err-clause-outcome
-returns-in-Err-clause-outcome g c = λ a b d files is.
-    let status = c.report_usage.ensures.status in
-    rw status (usage_outcome _ c.in-Err.fault files _ _ _ _ _ _ c.in-Err.ensures.fault c.report_usage.ensures.says (rw status at d) is)
-
-pub returns-in-Err-clause-missing : goal.returns-in-Err-clause-missing
-returns-in-Err-clause-missing g c = λ files is none. rw c.report_usage.ensures.status (usage_missing _ c.in-Err.fault files _ _ c.in-Err.ensures.fault none)
-
-pub returns-in-Err-clause-cut : goal.returns-in-Err-clause-cut
-returns-in-Err-clause-cut g c = λ either files is.
-    let status = c.report_usage.ensures.status in
-    rw status (usage_cut _ c.in-Err.fault files _ _ _ _ _ c.report_usage.ensures.says (rw status at either))
-
-pub returns-in-Err-clause-err : goal.returns-in-Err-clause-err
-returns-in-Err-clause-err g c =
-    ([], usage_message c.in-Err.fault, unless_query _ refl, rw c.report_usage.ensures.status (usage_said _ c.in-Err.fault _ _ refl c.in-Err.ensures.fault), c.report_usage.ensures.says)
-
-pub returns-in-Ok-Build-clause-first : goal.returns-in-Ok-Build-clause-first
-returns-in-Ok-Build-clause-first g c = rw (asks _ _ _ c.in-Ok-Build.ensures.job c.in-Ok-Build.field-0-is) c.run_build.ensures.first
-
-pub returns-in-Ok-Build-clause-cored : goal.returns-in-Ok-Build-clause-cored
-returns-in-Ok-Build-clause-cored g c = rw (asks _ _ _ c.in-Ok-Build.ensures.job c.in-Ok-Build.field-0-is) c.run_build.ensures.cored
-
-pub returns-in-Ok-Build-clause-numbers : goal.returns-in-Ok-Build-clause-numbers
-returns-in-Ok-Build-clause-numbers g c = rw (asks _ _ _ c.in-Ok-Build.ensures.job c.in-Ok-Build.field-0-is) c.run_build.ensures.numbers
-
-pub returns-in-Ok-Build-clause-spilled : goal.returns-in-Ok-Build-clause-spilled
-returns-in-Ok-Build-clause-spilled g c = rw (asks _ _ _ c.in-Ok-Build.ensures.job c.in-Ok-Build.field-0-is) c.run_build.ensures.spilled
-
-pub returns-in-Ok-Build-clause-part : goal.returns-in-Ok-Build-clause-part
-returns-in-Ok-Build-clause-part g c = rw (asks _ _ _ c.in-Ok-Build.ensures.job c.in-Ok-Build.field-0-is) c.run_build.ensures.part
-
-pub returns-in-Ok-Build-clause-memory : goal.returns-in-Ok-Build-clause-memory
-returns-in-Ok-Build-clause-memory g c = rw (asks _ _ _ c.in-Ok-Build.ensures.job c.in-Ok-Build.field-0-is) c.run_build.ensures.memory
-
-pub returns-in-Ok-Build-clause-built : goal.returns-in-Ok-Build-clause-built
-returns-in-Ok-Build-clause-built g c = rw (asks _ _ _ c.in-Ok-Build.ensures.job c.in-Ok-Build.field-0-is) c.run_build.ensures.out
-
-pub returns-in-Ok-Build-clause-err : goal.returns-in-Ok-Build-clause-err
-returns-in-Ok-Build-clause-err g c =
-    let said = c.run_build.ensures.err in
-    let asked = asks _ _ _ c.in-Ok-Build.ensures.job c.in-Ok-Build.field-0-is in
-    ([], said.0, rw asked refl, rw asked said.1, said.2)
-
-pub returns-in-Ok-Query-clause-cut : goal.returns-in-Ok-Query-clause-cut
-returns-in-Ok-Query-clause-cut g c = rw (asks _ _ _ c.in-Ok-Query.ensures.job c.in-Ok-Query.field-0-is) c.run_query.ensures.cut
-
-pub returns-in-Ok-Test-clause-unfinished : goal.returns-in-Ok-Test-clause-unfinished
-returns-in-Ok-Test-clause-unfinished g c = rw (asks _ _ _ c.in-Ok-Test.ensures.job c.in-Ok-Test.field-0-is) c.run_test.ensures.unfinished
+pub returns-in-Err : goal.returns-in-Err
+returns-in-Err g c =
+    let said = c.report_usage.ensures in
+    let status = said.status in
+    let fault = c.in-Err.fault in
+    record {
+      status = rw status (usage_status _ fault c.in-Err.ensures.fault);
+      read = λ low. (λ four. usage_is fault _ 4 status (λ e. omega (arith, e)) (λ e. omega (arith, e)) four, λ rose. not_risen _ _ refl rose);
+      write = λ low few. (
+        λ five. usage_is fault _ 5 status (λ e. omega (arith, e)) (λ e. omega (arith, e)) five,
+        λ either. elim either [
+          | inl rose ↦ not_risen _ _ refl rose
+          | inr rose ↦ not_risen _ _ refl rose
+        ],
+      );
+      outcome = λ a b d files is. rw status (usage_outcome _ fault files _ _ _ _ _ _ c.in-Err.ensures.fault said.says (rw status at d) is);
+      first = λ zero. usage_is fault _ 0 status (λ e. omega (arith, e)) (λ e. omega (arith, e)) zero;
+      cored = λ one. usage_is fault _ 1 status (λ e. omega (arith, e)) (λ e. omega (arith, e)) one;
+      numbers = λ zero. usage_is fault _ 0 status (λ e. omega (arith, e)) (λ e. omega (arith, e)) zero;
+      spilled = λ zero. usage_is fault _ 0 status (λ e. omega (arith, e)) (λ e. omega (arith, e)) zero;
+      unspilled = unless_brz _ refl;
+      unchanged = λ files is seven. usage_is fault _ 7 status (λ e. omega (arith, e)) (λ e. omega (arith, e)) seven;
+      missing = λ files is none. rw status (usage_missing _ fault files _ _ c.in-Err.ensures.fault none);
+      kept = λ a b d. refl;
+      part = λ five. usage_is fault _ 5 status (λ e. omega (arith, e)) (λ e. omega (arith, e)) five;
+      memory = λ six. inl refl;
+      asked = unless_build _ refl (unless_test _ refl);
+      out = unless_job _ refl refl;
+      built = λ a b. any_build _ (λ job. refl);
+      silent = λ six. unless_test _ refl;
+      front = text_unsent _ _;
+      tested = λ either files is. early_tested _ files _;
+      unfinished = λ five. usage_is fault _ 5 status (λ e. omega (arith, e)) (λ e. omega (arith, e)) five;
+      cut = λ either files is. rw status (usage_cut _ fault files _ _ _ _ _ said.says (rw status at either));
+      sent = sent_none _ _;
+      err_sent = λ empty. said.sent;
+      err = ([], usage_message fault, unless_query _ refl, rw status (usage_said _ fault _ _ refl c.in-Err.ensures.fault), said.says);
+    }
