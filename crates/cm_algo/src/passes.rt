@@ -10,7 +10,7 @@ ghost use Rattle.cm_witness.specs.declared.certificate.GatherFault.TheVariants a
 ghost use Rattle.cm_algo.specs.Fails.{IsToldFault};
 ghost use Rattle.cm_algo.specs.Hashed.{GivesWords};
 
-use cm_graph::Edges;
+use cm_edges::Edges;
 use cm_lookup2::words;
 use cm_outer::{KeyBuf, KeyFault, KeyPass, MAX_KEYS};
 use cm_scheme::{Divisor, Scheme};

@@ -14,7 +14,7 @@ ghost use Rattle.cm_algo.specs.declared.fault.BuildFault.TheVariants as build_fa
 
 use crate::fault::BuildFault;
 use crate::passes::{count_all, hash_all};
-use cm_graph::{Edges, Incidence, Steps};
+use cm_edges::{Edges, Incidence, Steps};
 use cm_outer::{KeyBuf, KeyPass};
 use cm_peel::{Peeled, peel_without_levels};
 use cm_scheme::{Built, Scheme, assign};

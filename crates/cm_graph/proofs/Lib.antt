@@ -1,7 +1,6 @@
 pub mod Chaining
 pub mod Chains
 pub mod Degrees
-pub mod Filled
 pub mod Linking
 pub mod Lone
 pub mod Places
@@ -11,3 +10,4 @@ pub mod Shares
 pub mod Splitting
 pub mod Walks
 pub mod Words
+pub mod Written

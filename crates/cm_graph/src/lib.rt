@@ -1,19 +1,14 @@
-//! Edges over vertices, the map of the linked ones among them, and a counter of steps.
+//! Incidences: which edges are linked, kept as chains or as xors of half-edges.
 #![tactic(auto)]
 
 mod blocks;
-pub mod edges;
 mod halves;
-pub mod incidence;
 pub mod linked;
 mod narrow;
 mod slots;
-pub mod steps;
 mod wide;
 pub mod xored;
 
-pub use crate::edges::{EdgeList, Edges};
-pub use crate::incidence::{Half, Incidence};
 pub use crate::linked::Linked;
-pub use crate::steps::Steps;
 pub use crate::xored::Xored;
+pub use cm_edges::{EdgeList, Edges, Half, Incidence, Steps};

@@ -7,7 +7,7 @@ ghost use Rattle.cm_peel.specs.Peeling.{IsPeelingOf, levels_of, untaken_of};
 use crate::blocks::count_blocks;
 use crate::chunk::{CHUNK_ENDS, Scratch, UNTAKEN};
 use crate::round::{advance, begin};
-use cm_graph::{Edges, Incidence, Steps};
+use cm_edges::{Edges, Incidence, Steps};
 use std::alloc::{AllocError, Global};
 use std::marker::Model;
 use std::sync::ledger::Ledger;

@@ -10,7 +10,7 @@ ghost use Rattle.cm_spec.specs.Rule.{Rule, IsCount};
 use crate::divisor::Divisor;
 use crate::scheme::Scheme;
 use cm_bits::{Cells, filled};
-use cm_graph::Edges;
+use cm_edges::Edges;
 use cm_peel::Peeled;
 use std::alloc::{AllocError, Global};
 

@@ -208,7 +208,6 @@ fn build_file<D: Disk, O: Sink>(
 }
 
 /// Runs a build, and returns its status.
-#[inline(always)]
 pub(crate) fn run_build<D: Disk, O: Sink, E: Sink>(
     alloc: Global,
     job: &BuildJob,

@@ -14,7 +14,7 @@ use crate::candidates::Candidates;
 use crate::certificate::{Certificate, CoreEdge, GatherFault, InBucket};
 use crate::firsts::EqualKeys;
 use cm_algorithm::Algorithm;
-use cm_graph::Edges;
+use cm_edges::Edges;
 use cm_outer::{KeyBuf, KeyFault, KeyPass};
 use std::alloc::{AllocError, Global};
 

@@ -1,9 +1,9 @@
 use Rattle.std.proofs.Common.{◌≡◌, ◌<◌, ◌∙◌, List, Option, ℕ, length, ap, sym, subst}
-use Rattle.cm_graph.specs.Graph.{Links}
+use Rattle.cm_edges.specs.Graph.{Links}
 use Rattle.cm_graph.specs.Next.{AreNext}
 use Rattle.cm_graph.specs.Chained.{chain_without, next_without}
 use Rattle.cm_graph.specs.declared.linked.Chain.{Chain}
-use Rattle.cm_graph.proofs.Filled.{written_back}
+use Rattle.cm_graph.proofs.Written.{written_back}
 use Rattle.cm_graph.proofs.Chaining.{chained_cut, chain_all_within}
 use Rattle.cm_graph.proofs.linked.ChainsHalves.take_out.Goals as goal
 

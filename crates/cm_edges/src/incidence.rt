@@ -1,7 +1,7 @@
 //! The map of linked edges.
 ghost use Rattle.std.specs.Prelude.{◌≡◌, ◌<◌, ◌≤◌, ◌+◌, ◌*◌, Bool, true, [], All, IfOk, length, replicate, take};
 ghost use Rattle.cm_spec.specs.Graph.{IsEdge};
-ghost use Rattle.cm_graph.specs.Graph.{Links, IsLinked, IsFree, IsWidth, AreHalves, all_linked, linked, unlinked, removed_all, places_of, alone_from, degree_of, sole_of};
+ghost use Rattle.cm_edges.specs.Graph.{Links, IsLinked, IsFree, IsWidth, AreHalves, all_linked, linked, unlinked, removed_all, places_of, alone_from, degree_of, sole_of};
 
 use crate::edges::EdgeList;
 use crate::steps::Steps;

@@ -2,7 +2,7 @@
 use Rattle.std.specs.Prelude.{◌≡◌, ◌≢◌, ℕ, ◌+◌, ◌*◌, ◌/◌, ◌%◌, ◌<◌, ◌≤◌, Bool, false, ◌==◌, List, [], ◌∷◌, Option, None, Some, All, AllPairs, count_by, filter, map, slice_get, slice_index_or, slice_set}
 use Rattle.std.specs.List.{list_any, position_or_len}
 use Rattle.cm_spec.specs.Lists.{numbers_from}
-use Rattle.cm_graph.specs.declared.incidence.Half.{Half}
+use Rattle.cm_edges.specs.declared.incidence.Half.{Half}
 
 -- how many vertices there are, how many edges have room, and the ends of each edge
 pub record Graph : Type 0 where

@@ -1,7 +1,7 @@
 //! A list of edges over vertices, each with `K` ends.
 ghost use Rattle.std.specs.Prelude.{◌≡◌, ℕ, ◌<◌, ◌≤◌, [], ◌∷◌, ◌++◌, length, map, All, IfOk, IsOk, OnOk, OnErr, slice_get, Some};
 ghost use Rattle.cm_spec.specs.Graph.{IsEdge, AreEdges, ends_at};
-ghost use Rattle.cm_graph.specs.Graph.{Graph, IsWidth};
+ghost use Rattle.cm_edges.specs.Graph.{Graph, IsWidth};
 
 use std::alloc::{AllocError, Global};
 use std::marker::Model;
@@ -18,7 +18,7 @@ pub struct Edges<const K: usize> {
 impl<const K: usize> Model for Edges<K> {
     ghost use Rattle.std.specs.Prelude.{ℕ, ◌≤◌, length, vec_capacity};
     ghost use Rattle.cm_spec.specs.Graph.{AreEdges};
-    ghost use Rattle.cm_graph.specs.Graph.{Graph, IsWidth};
+    ghost use Rattle.cm_edges.specs.Graph.{Graph, IsWidth};
 
     ghost Value = { Graph };
 

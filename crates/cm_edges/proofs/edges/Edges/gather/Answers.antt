@@ -4,8 +4,8 @@ use Rattle.std.proofs.lemmas.Grind.{get_or-set_at}
 use Rattle.std.proofs.lemmas.List.{get_or_default}
 use Rattle.std.proofs.Math.ListN.{length-set}
 use Rattle.cm_spec.specs.Graph.{ends_at}
-use Rattle.cm_graph.proofs.Filled.{filled_more}
-use Rattle.cm_graph.proofs.edges.Edges.gather.Goals as goal
+use Rattle.cm_edges.proofs.Filled.{filled_more}
+use Rattle.cm_edges.proofs.edges.Edges.gather.Goals as goal
 
 pub loop-i-preserved : goal.loop-i-preserved
 loop-i-preserved g c = record {

@@ -1,6 +1,6 @@
 use Rattle.std.proofs.Common.{◌≡◌, ◌<◌, ℕ, [], length, map, take, get_or}
 use Rattle.cm_spec.specs.Graph.{IsEdge, ends_at}
-use Rattle.cm_graph.proofs.edges.Edges.gather.Given as goal
+use Rattle.cm_edges.proofs.edges.Edges.gather.Given as goal
 
 abbrev pub invariant-loop-i : goal.invariant-loop-i
 invariant-loop-i g l = record {
