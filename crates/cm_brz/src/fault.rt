@@ -44,7 +44,7 @@ pub enum BrzFault {
 }
 
 /// Why a key was not put into a store.
-#[derive(Clone, Copy, Debug, PartialEq, Eq)]
+#[derive(Clone, Copy)]
 pub(crate) enum PutFault {
     /// The pass over the keys failed.
     Key(KeyFault),

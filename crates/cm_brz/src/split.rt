@@ -83,7 +83,7 @@ fn next_bucket<P: KeyPass>(
 }
 
 /// A bucket with more keys than one may have, and how many it has.
-#[derive(Clone, Copy, Debug, PartialEq, Eq)]
+#[derive(Clone, Copy)]
 pub(crate) struct Overfull {
     pub(crate) bucket: u32,
     pub(crate) count: u32,

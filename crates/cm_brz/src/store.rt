@@ -7,7 +7,7 @@ use cm_outer::{KeyBuf, MAX_KEY_LEN};
 use std::alloc::Global;
 
 /// Why a store failed.
-#[derive(Clone, Copy, Debug, PartialEq, Eq)]
+#[derive(Clone, Copy)]
 pub(crate) enum StoreFault {
     /// Out of memory.
     Memory,

@@ -6,7 +6,7 @@ use cm_bits::Cells;
 use cm_dump::Func;
 
 /// How many keys and cells a function has, or for BRZ keys and buckets, and its seed.
-#[derive(Clone, Copy, Debug, PartialEq, Eq)]
+#[derive(Clone, Copy)]
 pub(crate) struct Summary {
     pub keys: u32,
     pub cells: u32,

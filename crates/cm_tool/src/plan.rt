@@ -7,7 +7,7 @@ use cm_algorithm::Algorithm;
 use cm_words::BuildJob;
 
 /// How a function is built: the algorithm, the ratio of vertices to keys in millionths, the parameter -b, and BRZ's buffer in bytes.
-#[derive(Clone, Copy, Debug, PartialEq, Eq)]
+#[derive(Clone, Copy)]
 pub(crate) struct Plan {
     pub algorithm: Algorithm,
     pub c: u32,

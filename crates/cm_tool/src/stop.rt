@@ -3,7 +3,7 @@
 use cm_dump::LoadFault;
 
 /// Why there is no function of the keys.
-#[derive(Clone, Copy, Debug, PartialEq, Eq)]
+#[derive(Clone, Copy)]
 pub(crate) enum Reason {
     /// Under every seed the graph has a 2-core with an edge.
     NoSeed,
@@ -14,7 +14,7 @@ pub(crate) enum Reason {
 }
 
 /// What kept a build from its end.
-#[derive(Clone, Copy, Debug, PartialEq, Eq)]
+#[derive(Clone, Copy)]
 pub(crate) enum Stop {
     /// Out of memory.
     Memory,
@@ -50,7 +50,7 @@ pub(crate) enum Stop {
 }
 
 /// What kept a query from its end.
-#[derive(Clone, Copy, Debug, PartialEq, Eq)]
+#[derive(Clone, Copy)]
 pub(crate) enum QueryStop {
     /// Out of memory.
     Memory,
