@@ -27,6 +27,7 @@ LOG = TOP / "out" / "prove.log"
 TREES = TOP / "out" / "trees"
 PARTS = ("src", "specs", "proofs")  # what a proof reads of a crate
 MEMORY = 3 << 30  # bytes for the proof of a crate
+JOBS = 2  # processes for the proof of a crate, at most: each reads what is proved below, which costs more than a third would gain
 SHOWN = 6  # lines that are shown of a crate that is not proved
 DULL = (": proved", "modules loaded=", "begins with what a check kept")  # of lines that are never shown
 
@@ -110,6 +111,17 @@ def chains_of(crates):
     return {name: chain(name) for name in crates}
 
 
+def is_program(crate):
+    return (TOP / "crates" / crate / "src" / "main.rt").exists()
+
+
+def jobs_for(name, others, most, chains):
+    """How many processes prove a crate beside others: the one that the longest chain waits for has as many as help, even if they are one too many. A
+    program has little to prove and much to read."""
+    is_first = all(chains[name] >= chains[other] for other in others)
+    return min(JOBS, most) if (is_first or len(others) < most) and not is_program(name) else 1
+
+
 def room():
     """How many crates are proved at a time."""
     memory = os.sysconf("SC_PAGE_SIZE") * os.sysconf("SC_PHYS_PAGES")
@@ -129,8 +141,7 @@ class Proof:
 
     def run(self, name, folder, jobs):
         """Proves a crate in a folder."""
-        is_program = (TOP / "crates" / name / "src" / "main.rt").exists()
-        command = ["rt", "run", "--jobs", str(jobs), "--", "-V"] if is_program else ["rt", "lib", "--jobs", str(jobs)]
+        command = ["rt", "run", "--jobs", str(jobs), "--", "-V"] if is_program(name) else ["rt", "lib", "--jobs", str(jobs)]
         start, said = time.monotonic(), []
         with self.lock:
             if self.stopped:
@@ -166,9 +177,9 @@ def prove_all(crates, most, proof):
             while len(done) < len(crates):
                 ready = [name for name in crates if name not in done and name not in running.values() and done.issuperset(crates[name])]
                 ready = sorted(ready, key=chains.get, reverse=True)[: most - len(running)]
-                jobs = max(1, (most - len(running)) // max(1, len(ready)))  # processors that are left help
+                others = [*running.values(), *ready]
                 for name in ready:
-                    running[pool.submit(proof.prove, name, jobs)] = name
+                    running[pool.submit(proof.prove, name, jobs_for(name, others, most, chains))] = name
                 for ended in wait(running, return_when=FIRST_COMPLETED).done:
                     name, (status, seconds, said) = running.pop(ended), ended.result()
                     if status != 0:
