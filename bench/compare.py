@@ -345,9 +345,10 @@ def main() -> None:
             for algorithm in taken:
                 rows += measure(name, algorithm, asked.rounds, tool, scratch)
     day, command = date.today(), ["python3", "bench/compare.py", "--name", asked.name, "--rounds", str(asked.rounds), *asked.sets]
+    runs = "one run each, interleaved" if asked.rounds == 1 else f"{asked.rounds} interleaved runs"
     facts = (
         f"Measured on {day.day} {day:%B %Y} by `{shlex.join(command)}` on {machine()}: the least processor time and the "
-        f"greatest memory of {asked.rounds} interleaved runs. Load average {load:.1f} at the start, {os.getloadavg()[0]:.1f} at the end."
+        f"greatest memory of {runs}. Load average {load:.1f} at the start, {os.getloadavg()[0]:.1f} at the end."
         "\n\nIn brackets: the ratio to the C tool."
     )
     print(f"{facts}\n\n{table(rows)}")

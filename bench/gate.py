@@ -3,6 +3,7 @@
 
     bench/gate.py RECORD [ARGUMENT ..]     runs `rt ci ARGUMENT ..`, and leaves what it measured in RECORD
     bench/gate.py --table RECORD ..        prints a table of such records, added up
+    bench/gate.py --latest RECORD ..       the same, but of each crate and column the last record counts
 
 Twice a second it samples the provers below `rt ci`, so it misses up to half a second of each. What an earlier run on this machine has passed is
 not proved again; `--anew` proves all.
@@ -67,14 +68,15 @@ def measure(record, arguments):
     return gate.returncode
 
 
-def table(records):
+def table(records, adds):
     by = {}
     for record in records:
         with open(record) as file:
             for name, kinds in json.load(file)["by"].items():
                 for kind, (count, seconds) in kinds.items():
-                    before = by.setdefault(name, {}).get(kind, (0, 0.0))
-                    by[name][kind] = (before[0] + count, before[1] + seconds)
+                    found = by.setdefault(name, {})
+                    before = found.get(kind, (0, 0.0)) if adds else (0, 0.0)
+                    found[kind] = (before[0] + count, before[1] + seconds)
     print("| crate | " + " | ".join(f"{kind}, min" for kind in KINDS) + " |")
     print("|---|" + "---|" * len(KINDS))
     cell = lambda seconds: f"{seconds / 60:.1f}" if seconds else ""
@@ -91,7 +93,9 @@ def main():
     if not arguments or arguments[0] in ("-h", "--help"):
         print(__doc__)
         return 2
-    return table(arguments[1:]) if arguments[0] == "--table" else measure(arguments[0], arguments[1:])
+    if arguments[0] in ("--table", "--latest"):
+        return table(arguments[1:], adds=arguments[0] == "--table")
+    return measure(arguments[0], arguments[1:])
 
 
 if __name__ == "__main__":

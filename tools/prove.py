@@ -27,7 +27,7 @@ LOG = TOP / "out" / "prove.log"
 TREES = TOP / "out" / "trees"
 PARTS = ("src", "specs", "proofs")  # what a proof reads of a crate
 MEMORY = 3 << 30  # bytes for the proof of a crate
-JOBS = 2  # processes for the proof of a crate, at most: each reads what is proved below, which costs more than a third would gain
+JOBS = 2  # processes for the proof of a crate, at most: each reads all that is proved below, so near the top four took longer than two
 SHOWN = 6  # lines that are shown of a crate that is not proved
 DULL = (": proved", "modules loaded=", "begins with what a check kept")  # of lines that are never shown
 
