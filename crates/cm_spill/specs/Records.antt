@@ -36,8 +36,12 @@ EndsAt bytes r end = (before : List Record) × (after : List Record) × IsRecord
 abbrev pub is_of : ℕ → Record → Bool
 is_of bucket r = eqb r.bucket bucket
 
+-- The same records, those of each bucket in the same order.
+pub record IsArranged (records others : List Record) : Type 0 where
+  pub same : IsPermutation records others
+  pub each : (bucket : ℕ) → filter (is_of bucket) others ≡ filter (is_of bucket) records
+
 -- A run of some records: the same ones by rising bucket, those of a bucket in the order in which they stood.
 pub record IsRun (records run : List Record) : Type 0 where
-  pub same : IsPermutation records run
+  pub order : IsArranged records run
   pub sorted : IsNonDecreasingBy (λ r. r.bucket) run
-  pub each : (bucket : ℕ) → filter (is_of bucket) run ≡ filter (is_of bucket) records

@@ -8,8 +8,8 @@ use Rattle.cm_spill.specs.Records.{Record, IsRecords, is_of, size}
 use Rattle.cm_spill.specs.declared.fault.SpillError.{SpillError}
 use Rattle.cm_spill.specs.declared.fault.SpillError.TheVariants as faults
 
--- what the spill holds, where known, and its count of faults; how many bytes may wait; the records that wait, in the order in which
--- they were put; the line put last, or 0; whether no call has failed; whether all was put; the bucket asked last, or 0; how many of its
+-- what the spill holds, where known, and its count of faults; how many bytes may wait; the records that wait, those of each bucket in the
+-- order in which they were put; the line put last, or 0; whether no call has failed; whether all was put; the bucket asked last, or 0; how many of its
 -- records were given; the line of the last of them, or 0; whether it was found to have no more; the offset after that record, or 0
 pub record Store : Type 0 where
   pub known : Option (List ℕ)
