@@ -26,6 +26,13 @@ use cm_scheme::Divisor;
 use std::alloc::Global;
 use std::sync::ledger::Ledger;
 
+/// How keys are split: the buckets, and how many keys each has.
+#[derive(Drop)]
+struct Splitting {
+    split: Split,
+    sizes: Vec<u32>,
+}
+
 /// Puts the next key into the store, and returns its bucket, or none at the end. The buffer is scratch space.
 fn put_next<P: KeyPass, B: Store>(
     alloc: Global,
@@ -139,65 +146,24 @@ fn put_each<P: KeyPass, B: Store>(
     Ok(())
 }
 
-/// Puts all keys into the store, each with its bucket and its line, in one pass, and compares: the keys are to be `m`, and each bucket
-/// is to have as many as were counted. The buffer is scratch space.
-fn put_keys<P: KeyPass, B: Store>(
-    alloc: Global,
-    keys: &mut P,
-    key: &mut KeyBuf,
-    m: u32,
-    split: &Split,
-    sizes: &[u32],
-    store: &mut B,
-) -> Result<(), BrzFault>
-    requires few { m ≤ MAX_KEYS }
-    requires long { length sizes.now ≡ split.now.buckets }
-    requires small { (j : ℕ) → j < length sizes.now → slice_index sizes.now j ≤ MAX_BUCKET }
-    requires store { IsTrue (B.usable store.old) }
-    requires open { B.sealed store.old ≡ false }
-    requires new { B.put_last store.old ≡ 0 }
-    requires counted { ForSome (P.told keys.old) (AreCounted m) }
-    requires sizes { ForSome (P.told keys.old) (λ told. AreSizes sizes.now told.keys split.now.buckets split.now.seed) }
-    ensures told { P.told keys.new ≡ P.told keys.old }
-    ensures keys_cause { HasKeysCause (P.faults keys.old) (P.faults keys.new) result }
-    ensures spill_cause { HasSpillCause (B.faults store.old) (B.faults store.new) result }
-    ensures known { B.known store.new ≡ B.known store.old }
-    ensures store { OnOk result (B.usable store.new ≡ true) }
-    ensures open { OnOk result (B.sealed store.new ≡ false) }
-    ensures put { B.holds store.old [] → OnOk result (AreAllPut (B.holds store.new) (P.told keys.old) sizes.now split.now.buckets split.now.seed) }
-    ensures fault { IfErr result (λ e. ForSome (P.told keys.old) (λ told. FailsPassing told e)) }
-    ensures form { IfErr result HasPassingForm }
-{
-    let mut table = vec![in alloc; 0; sizes.len()]?;
-    let put: &mut [u8] = &mut table;
-    put_each(alloc, keys, key, m, split, sizes, put, store)?;
-    match find_other(sizes, put) {
-        Some(j) => Err(BrzFault::Changed {
-            first: sizes[j],
-            now: put[j] as u32,
-        }),
-        None => Ok(()),
-    }
-}
-
-/// Like `put_keys`, and then seals the store.
+/// Puts all keys into the store, each with its bucket and its line, in one pass, compares, and seals the store: the keys are to be `m`,
+/// and each bucket is to have as many as were counted. The buffer is scratch space.
 fn put_all<P: KeyPass, B: Store>(
     alloc: Global,
     keys: &mut P,
     key: &mut KeyBuf,
     m: u32,
-    split: &Split,
-    sizes: &[u32],
+    splitting: &Splitting,
     store: &mut B,
 ) -> Result<(), BrzFault>
     requires few { m ≤ MAX_KEYS }
-    requires long { length sizes.now ≡ split.now.buckets }
-    requires small { (j : ℕ) → j < length sizes.now → slice_index sizes.now j ≤ MAX_BUCKET }
+    requires long { length splitting.now.sizes.items ≡ splitting.now.split.buckets }
+    requires small { (j : ℕ) → j < length splitting.now.sizes.items → slice_index splitting.now.sizes.items j ≤ MAX_BUCKET }
     requires store { IsTrue (B.usable store.old) }
     requires open { B.sealed store.old ≡ false }
     requires new { B.put_last store.old ≡ 0 }
     requires counted { ForSome (P.told keys.old) (AreCounted m) }
-    requires sizes { ForSome (P.told keys.old) (λ told. AreSizes sizes.now told.keys split.now.buckets split.now.seed) }
+    requires sizes { ForSome (P.told keys.old) (λ told. AreSizes splitting.now.sizes.items told.keys splitting.now.split.buckets splitting.now.split.seed) }
     ensures told { P.told keys.new ≡ P.told keys.old }
     ensures keys_cause { HasKeysCause (P.faults keys.old) (P.faults keys.new) result }
     ensures spill_cause { HasSpillCause (B.faults store.old) (B.faults store.new) result }
@@ -206,11 +172,20 @@ fn put_all<P: KeyPass, B: Store>(
     ensures sealed { OnOk result (B.sealed store.new ≡ true) }
     ensures asks { OnOk result (B.may_ask store.new 0) }
     ensures none { OnOk result ((j : ℕ) → (B.given store.new j ≡ 0) × (B.given_last store.new j ≡ 0)) }
-    ensures put { B.holds store.old [] → OnOk result (AreAllPut (B.holds store.new) (P.told keys.old) sizes.now split.now.buckets split.now.seed) }
+    ensures put { B.holds store.old [] → OnOk result (AreAllPut (B.holds store.new) (P.told keys.old) splitting.now.sizes.items splitting.now.split.buckets splitting.now.split.seed) }
     ensures fault { IfErr result (λ e. ForSome (P.told keys.old) (λ told. FailsPassing told e)) }
     ensures form { IfErr result HasPassingForm }
 {
-    put_keys(alloc, keys, key, m, split, sizes, store)?;
+    let sizes: &[u32] = &splitting.sizes;
+    let mut table = vec![in alloc; 0; sizes.len()]?;
+    let put: &mut [u8] = &mut table;
+    put_each(alloc, keys, key, m, &splitting.split, sizes, put, store)?;
+    if let Some(j) = find_other(sizes, put) {
+        return Err(BrzFault::Changed {
+            first: sizes[j],
+            now: put[j] as u32,
+        });
+    }
     store.seal(alloc)?;
     Ok(())
 }
@@ -257,13 +232,6 @@ fn bucket_total(m: u32, b: u8) -> u32
     (m + (b as u32 - 1)) / b as u32
 }
 
-/// How keys are split: the buckets, and how many keys each has.
-#[derive(Drop)]
-struct Splitting {
-    split: Split,
-    sizes: Vec<u32>,
-}
-
 /// The split of keys that were counted, into buckets of `b` keys on average. The buffer is scratch space.
 fn split_keys<P: KeyPass>(
     alloc: Global,
@@ -305,55 +273,6 @@ fn split_keys<P: KeyPass>(
     }
 }
 
-/// The function of `m` keys that were put into the store by their buckets. The buffer is scratch space.
-fn build_function<B: Store, L: Ledger>(
-    alloc: Global,
-    store: &mut B,
-    key: &mut KeyBuf,
-    splitting: &Splitting,
-    m: u32,
-    c: u32,
-    b: u8,
-    seeds: &[u32],
-    steps: &mut Steps<L>,
-) -> Result<Brz, BrzFault>
-    requires many { (1 ≤ m) × (m ≤ MAX_KEYS) }
-    requires ratio { IsRatio c }
-    requires width { (MIN_WIDTH ≤ b) × (b ≤ MAX_WIDTH) }
-    requires some { 0 < length seeds.now }
-    requires store { IsTrue (B.usable store.old) }
-    requires sealed { B.sealed store.old ≡ true }
-    requires asks { B.may_ask store.old 0 }
-    requires none { (j : ℕ) → (B.given store.old j ≡ 0) × (B.given_last store.old j ≡ 0) }
-    requires few { length splitting.now.sizes.items ≤ MAX_KEYS }
-    requires count { length splitting.now.sizes.items ≡ bucket_count m b }
-    requires all { sum splitting.now.sizes.items ≡ m }
-    requires small { (j : ℕ) → j < length splitting.now.sizes.items → slice_index splitting.now.sizes.items j ≤ MAX_BUCKET }
-    ensures numbers { IfOk result (λ f. (f.keys ≡ m) × (f.ratio ≡ c) × (f.width ≡ b) × (f.split ≡ splitting.now.split.seed)) }
-    ensures count { IfOk result (λ f. length f.buckets ≡ bucket_count m b) }
-    ensures cause { HasSpillCause (B.faults store.old) (B.faults store.new) result }
-    ensures known { B.known store.new ≡ B.known store.old }
-    ensures sealed { OnOk result (B.sealed store.new ≡ true) }
-    ensures built { (records : List Record) → B.holds store.old records → IfOk result (λ f. B.holds store.new records × AreBuilt (keys_in_bucket records) c seeds.now f.buckets) }
-    ensures fault { (records : List Record) → B.holds store.old records → HaveSizes records splitting.now.sizes.items (bucket_count m b) → IfErr result (FailsBuckets (keys_in_bucket records) (bucket_count m b) c splitting.now.split.seed seeds.now) }
-    ensures form { IfErr result (HasBuildingForm seeds.now) }
-    ensures steps { steps.new ≤ steps.old + 24 * m * length seeds.now }
-{
-    let mut parts = BrzParts::new(alloc, m, c, b, splitting.split.seed);
-    build_buckets(
-        alloc,
-        store,
-        key,
-        splitting.split.seed,
-        &splitting.sizes,
-        c,
-        seeds,
-        &mut parts,
-        steps,
-    )?;
-    Ok(parts.finish())
-}
-
 /// `brz_over` of keys that were counted. The buffer is scratch space.
 fn brz_counted<P: KeyPass, B: Store, L: Ledger>(
     alloc: Global,
@@ -391,17 +310,12 @@ fn brz_counted<P: KeyPass, B: Store, L: Ledger>(
         Ok(splitting) => splitting,
         Err(fault) => return Err(fault),
     };
-    put_all(
-        alloc,
-        keys,
-        key,
-        m,
-        &splitting.split,
-        &splitting.sizes,
-        store,
-    )?;
-    match build_function(alloc, store, key, &splitting, m, c, b, seeds, steps) {
-        Ok(function) => Ok(function),
+    put_all(alloc, keys, key, m, &splitting, store)?;
+    let mut parts = BrzParts::new(alloc, m, c, b, splitting.split.seed);
+    let split = splitting.split.seed;
+    let sizes: &[u32] = &splitting.sizes;
+    match build_buckets(alloc, store, key, split, sizes, c, seeds, &mut parts, steps) {
+        Ok(()) => Ok(parts.finish()),
         Err(fault) => Err(fault),
     }
 }
