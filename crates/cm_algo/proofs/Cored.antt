@@ -3,8 +3,8 @@ use Rattle.std.proofs.Common.{◌≡◌, ◌≢◌, ◌∙◌, ℕ, ◌<◌, ◌
 use Rattle.std.specs.Option.{ForSome}
 use Rattle.cm_algorithm.specs.declared.algorithm.Algorithm.{Algorithm}
 use Rattle.cm_algorithm.specs.declared.algorithm.Algorithm.TheVariants.{Chm, Bdz, BdzPh, Brz}
-use Rattle.cm_outer.specs.Passes.{Told}
-use Rattle.cm_outer.specs.declared.key_pass.KeyFault.TheVariants.{Read, TooLong, TooMany}
+use Rattle.cm_io.specs.Passes.{Told}
+use Rattle.cm_io.specs.declared.key_pass.KeyFault.TheVariants.{Read, TooLong, TooMany}
 use Rattle.cm_scheme.specs.Kinds.{HasEnds}
 use Rattle.cm_spec.specs.Built.{graph_of}
 use Rattle.cm_spec.specs.Rounds.{rest_of}

@@ -1,9 +1,9 @@
 -- Why a build fails.
 use Rattle.std.specs.Prelude.{◌≡◌, ◌≢◌, ℕ, ◌<◌, ◌≤◌, List, [], All, length, slice_index, is_some, None, Some, Result, Ok, Err}
 use Rattle.cm_algorithm.specs.declared.algorithm.Algorithm.{Algorithm}
-use Rattle.cm_outer.specs.declared.key_pass.KeyFault.{KeyFault}
-use Rattle.cm_outer.specs.declared.key_pass.KeyFault.TheVariants.{Read, TooLong, TooMany}
-use Rattle.cm_outer.specs.Passes.{Told, HasKeyCause}
+use Rattle.cm_io.specs.declared.key_pass.KeyFault.{KeyFault}
+use Rattle.cm_io.specs.declared.key_pass.KeyFault.TheVariants.{Read, TooLong, TooMany}
+use Rattle.cm_io.specs.Passes.{Told, HasKeyCause, IsToldFault}
 use Rattle.cm_spec.specs.Rule.{Rule}
 use Rattle.cm_spec.specs.Built.{first_seed, AllCored}
 use Rattle.cm_witness.specs.Cores.{edges_left, pairs_left}
@@ -28,12 +28,6 @@ HasBuildCause before now (Err NoKeys) = now ≡ before
 HasBuildCause before now (Err (Cored made)) = now ≡ before
 HasBuildCause before now (Err (Key fault)) = HasKeyCause {T = Unit {0}} before now (Err fault)
 HasBuildCause before now (Err (Changed first again)) = now ≡ before
-
--- a fault of a pass over known keys: the one at their end, unless the source has failed
-abbrev pub IsToldFault : Told → KeyFault → Type 0
-IsToldFault told Read = Unit {0}
-IsToldFault told (TooLong line) = told.fault ≡ Some (TooLong line)
-IsToldFault told TooMany = told.fault ≡ Some TooMany
 
 -- the numbers of a build's failure, by how many keys its last pass took: none for `NoKeys`
 abbrev pub HasNumbers : ℕ → BuildFault → Type 0

@@ -1,7 +1,7 @@
 -- What the next of some keys yields when it is hashed.
 use Rattle.std.specs.Prelude.{◌≡◌, ℕ, List, [], ◌∷◌, drop, Option, None, Some, Result, Ok, Err}
-use Rattle.cm_outer.specs.declared.key_pass.KeyFault.{KeyFault}
-use Rattle.cm_outer.specs.Passes.{Told, Ends, GivesKey}
+use Rattle.cm_io.specs.declared.key_pass.KeyFault.{KeyFault}
+use Rattle.cm_io.specs.Passes.{Told, Ends, GivesKey}
 use Rattle.cm_spec.specs.Lookup2.{words}
 
 -- The hash values of the next of the known keys, or what comes after the last.

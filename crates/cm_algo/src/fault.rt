@@ -3,7 +3,7 @@ ghost use Rattle.std.specs.Prelude.{◌≡◌};
 ghost use Rattle.cm_algo.specs.declared.fault.BuildFault.TheVariants as build_fault;
 ghost use Rattle.cm_algo.specs.Fails.{build_fault_of};
 
-use cm_outer::KeyFault;
+use cm_io::KeyFault;
 use cm_witness::{Certificate, GatherFault};
 
 /// Why there is no function.

@@ -1,18 +1,18 @@
 //! Passes over keys.
 ghost use Rattle.std.specs.Prelude.{◌≡◌, ◌≢◌, ℕ, ◌+◌, ◌*◌, ◌<◌, ◌≤◌, ◌^◌, [], ◌∷◌, List, length, map, drop, vec_len, vec_capacity, IfOk, IfErr, IfSome, IfNone, IsTrue, OnOk, ◌++◌, None, Some, Ok, Err, true, false};
 ghost use Rattle.std.specs.Option.{ForSome};
-ghost use Rattle.cm_outer.specs.Passes.{Told, HasKeyCause};
+ghost use Rattle.cm_io.specs.Passes.{Told, HasKeyCause};
 ghost use Rattle.cm_spec.specs.Built.{edge_of, tag_of};
 ghost use Rattle.cm_spec.specs.Lookup2.{words as words_of};
 ghost use Rattle.cm_spec.specs.Rule.{IsCount, IsSize};
 ghost use Rattle.cm_witness.specs.Gathers.{FailsGather, HasGatherCause, HasOther};
 ghost use Rattle.cm_witness.specs.declared.certificate.GatherFault.TheVariants as gather_fault;
-ghost use Rattle.cm_algo.specs.Fails.{IsToldFault};
+ghost use Rattle.cm_io.specs.Passes.{IsToldFault};
 ghost use Rattle.cm_algo.specs.Hashed.{GivesWords};
 
 use cm_edges::Edges;
+use cm_io::{KeyBuf, KeyFault, KeyPass, MAX_KEYS};
 use cm_lookup2::words;
-use cm_outer::{KeyBuf, KeyFault, KeyPass, MAX_KEYS};
 use cm_scheme::{Divisor, Scheme};
 use cm_witness::GatherFault;
 

@@ -1,7 +1,7 @@
 //! The seeds of a list, one after another.
 ghost use Rattle.std.specs.Prelude.{◌≡◌, ◌≢◌, ℕ, ◌+◌, ◌*◌, ◌<◌, ◌≤◌, ◌^◌, [], ◌∷◌, List, length, map, slice_index, IfOk, IfErr, IfSome, IfNone, OnOk, None, Some, Contains, count_by};
 ghost use Rattle.std.specs.Option.{ForSome};
-ghost use Rattle.cm_outer.specs.Passes.{Told};
+ghost use Rattle.cm_io.specs.Passes.{Told};
 ghost use Rattle.cm_spec.specs.Built.{graph_of, cells_under};
 ghost use Rattle.cm_spec.specs.Cells.{is_busy};
 ghost use Rattle.cm_spec.specs.Rounds.{rest_of};
@@ -15,7 +15,7 @@ ghost use Rattle.cm_algo.specs.declared.fault.BuildFault.TheVariants as build_fa
 use crate::fault::BuildFault;
 use crate::passes::{count_all, hash_all};
 use cm_edges::{Edges, Incidence, Steps};
-use cm_outer::{KeyBuf, KeyPass};
+use cm_io::{KeyBuf, KeyPass};
 use cm_peel::{Peeled, peel_without_levels};
 use cm_scheme::{Built, Scheme, assign};
 use cm_witness::{Certificate, GatherFault, gather_with};

@@ -1,12 +1,5 @@
-pub mod BytesLemmas
-pub mod Equal
 pub mod Found
 pub mod Numbers
-pub mod Passing
-pub mod PassLemmas
 pub mod Pushes
-pub mod Putting
 pub mod Reading
-pub mod Sizes
-pub mod SpilledLemmas
 pub mod Whole

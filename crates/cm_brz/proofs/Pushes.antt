@@ -12,10 +12,10 @@ use Rattle.cm_algo.specs.declared.fault.BuildFault.TheVariants as build_fault
 use Rattle.cm_algorithm.specs.declared.algorithm.Algorithm.TheVariants as algorithm
 use Rattle.cm_brz.specs.BrzOf.{AreBuilt, PushesBucket, bucket_from, bucket_under}
 use Rattle.cm_brz.specs.Fails.{FailsBucket}
-use Rattle.cm_brz.specs.declared.fault.BrzFault.TheVariants as brz_fault
+use Rattle.cm_split.specs.declared.fault.BrzFault.TheVariants as brz_fault
 use Rattle.cm_buckets.specs.Functions.{Brz, Bucket, keys_in, no_bucket}
 use Rattle.cm_buckets.specs.Pushing.{with_bucket}
-use Rattle.cm_outer.specs.Passes.{Told}
+use Rattle.cm_io.specs.Passes.{Told}
 use Rattle.cm_spec.specs.Bdz.{bdz_rule}
 use Rattle.cm_spec.specs.Built.{IsFirst, cells_under}
 use Rattle.cm_witness.specs.declared.certificate.Certificate.{Certificate}

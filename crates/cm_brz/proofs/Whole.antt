@@ -2,20 +2,21 @@
 use Rattle.std.proofs.Common.{◌≡◌, ◌∙◌, ℕ, ◌<◌, List, length, get_or, sym, ap, subst, None, Some, is_some}
 use Rattle.std.specs.Prelude.{slice_index}
 use Rattle.cm_brz.specs.BrzOf.{AreBuilt, IsBrzOf, bucket_from}
-use Rattle.cm_brz.specs.Fails.{FailsBrz, FailsBuckets, FailsPassing, HasBrzForm, HasBuildingForm, HasOverfullForm, HasPassingForm, IsCoredIn, IsDamage, RefusesOverfull}
-use Rattle.cm_brz.specs.Puts.{keys_in_bucket, records_under}
-use Rattle.cm_brz.specs.Records.{Record}
-use Rattle.cm_brz.specs.Split.{IsLowestOver, keys_of_bucket, split_of}
-use Rattle.cm_brz.specs.declared.fault.BrzFault.{BrzFault}
-use Rattle.cm_brz.specs.declared.fault.BrzFault.TheVariants.{Memory, NoKeys, Overfull, Cored, Key, Changed, SpillFailed, SpillDamaged}
+use Rattle.cm_brz.specs.Fails.{FailsBrz, FailsBuckets, HasBrzForm, HasBuildingForm, HasOverfullForm, IsCoredIn, IsDamage, RefusesOverfull}
+use Rattle.cm_split.specs.Faults.{FailsPassing, HasPassingForm}
+use Rattle.cm_split.specs.Puts.{keys_in_bucket, records_under}
+use Rattle.cm_split.specs.Records.{Record}
+use Rattle.cm_split.specs.Split.{IsLowestOver, keys_of_bucket, split_of}
+use Rattle.cm_split.specs.declared.fault.BrzFault.{BrzFault}
+use Rattle.cm_split.specs.declared.fault.BrzFault.TheVariants.{Memory, NoKeys, Overfull, Cored, Key, Changed, SpillFailed, SpillDamaged}
 use Rattle.cm_buckets.specs.Functions.{Brz, bucket_count, no_bucket}
 use Rattle.cm_buckets.specs.declared.limits.TheConstants.{MAX_BUCKET}
-use Rattle.cm_outer.specs.Passes.{Told}
+use Rattle.cm_io.specs.Passes.{Told}
 use Rattle.cm_spec.specs.Bdz.{bdz_rule}
 use Rattle.cm_spec.specs.Built.{IsFirst}
 use Rattle.cm_witness.specs.Pairs.{pairs}
 use Rattle.cm_witness.specs.declared.certificate.InBucket.{InBucket}
-use Rattle.cm_brz.proofs.Putting.{keys_of_records}
+use Rattle.cm_split.specs.PutsLaws.{keys_of_records}
 
 -- the records of a bucket are its keys
 bucket_keys : (keys : List (ℕ × List ℕ)) (k split : ℕ) (records : List Record) → records ≡ records_under keys k split → (j : ℕ) → keys_in_bucket records j ≡ keys_of_bucket keys k split j

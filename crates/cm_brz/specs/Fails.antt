@@ -1,54 +1,21 @@
 -- Why a build by BRZ fails.
-use Rattle.std.specs.Prelude.{◌≡◌, ◌≢◌, ℕ, ◌<◌, ◌≤◌, List, [], All, length, slice_index, is_some, true, None, Some, Result, Err}
-use Rattle.cm_algo.specs.Fails.{IsToldFault, ShowsCore}
+use Rattle.std.specs.Prelude.{◌≡◌, ◌≢◌, ℕ, ◌<◌, List, [], All, length, slice_index, is_some, true, None, Some}
+use Rattle.cm_algo.specs.Fails.{ShowsCore}
+use Rattle.cm_io.specs.Passes.{IsToldFault}
 use Rattle.cm_algorithm.specs.declared.algorithm.Algorithm.TheVariants as algorithm
 use Rattle.cm_brz.specs.BrzOf.{bucket_from}
-use Rattle.cm_brz.specs.Split.{IsLowestOver, keys_of_bucket, split_of}
-use Rattle.cm_brz.specs.declared.fault.BrzFault.{BrzFault}
-use Rattle.cm_brz.specs.declared.fault.BrzFault.TheVariants.{Memory, NoKeys, Overfull, Cored, Key, Changed, SpillFailed, SpillDamaged}
-use Rattle.cm_brz.specs.declared.fault.PutFault.{PutFault}
-use Rattle.cm_brz.specs.declared.fault.PutFault.TheVariants as put_fault
-use Rattle.cm_brz.specs.declared.store.StoreFault.{StoreFault}
-use Rattle.cm_brz.specs.declared.store.StoreFault.TheVariants as store_fault
+use Rattle.cm_split.specs.Split.{IsLowestOver, keys_of_bucket, split_of}
+use Rattle.cm_split.specs.declared.fault.BrzFault.{BrzFault}
+use Rattle.cm_split.specs.declared.fault.BrzFault.TheVariants.{Memory, NoKeys, Overfull, Cored, Key, Changed, SpillFailed, SpillDamaged}
 use Rattle.cm_buckets.specs.Functions.{bucket_count}
 use Rattle.cm_buckets.specs.declared.limits.TheConstants.{MAX_BUCKET}
-use Rattle.cm_outer.specs.Causes.{Rose}
-use Rattle.cm_outer.specs.Passes.{Told, HasKeyCause}
+use Rattle.cm_io.specs.Passes.{Told}
 use Rattle.cm_spec.specs.Bdz.{bdz_rule}
 use Rattle.cm_spec.specs.Built.{AllCored, first_seed}
 use Rattle.cm_witness.specs.Pairs.{pairs}
 use Rattle.cm_witness.specs.declared.certificate.Certificate.{Certificate}
-use Rattle.cm_witness.specs.declared.certificate.GatherFault.{GatherFault}
-use Rattle.cm_witness.specs.declared.certificate.GatherFault.TheVariants as gather_fault
 use Rattle.cm_witness.specs.declared.certificate.InBucket.{InBucket}
 use Rattle.cm_witness.specs.declared.certificate.Pair.{Pair}
-
--- the fault of a build that fails in one of its passes
-abbrev pub brz_fault_of : GatherFault → BrzFault
-brz_fault_of gather_fault.Memory = Memory
-brz_fault_of (gather_fault.Key fault) = Key fault
-brz_fault_of (gather_fault.Changed first now) = Changed first now
-
--- the same for a fault of the store
-abbrev pub store_fault_of : StoreFault → BrzFault
-store_fault_of store_fault.Memory = Memory
-store_fault_of store_fault.Failed = SpillFailed
-store_fault_of (store_fault.Damaged offset expected found) = SpillDamaged offset expected found
-
--- and for a key that was not put into it
-abbrev pub put_fault_of : PutFault → BrzFault
-put_fault_of (put_fault.Key fault) = Key fault
-put_fault_of (put_fault.Store fault) = store_fault_of fault
-
--- `Key Read` exactly if the count of the keys' faults rose
-abbrev pub HasKeysCause : {T : Type 0} → ℕ → ℕ → Result T BrzFault → Type 0
-HasKeysCause before now (Err (Key fault)) = HasKeyCause {T = Unit {0}} before now (Err fault)
-HasKeysCause before now result = now ≡ before
-
--- `SpillFailed` exactly if the count of the spill's faults rose
-abbrev pub HasSpillCause : {T : Type 0} → ℕ → ℕ → Result T BrzFault → Type 0
-HasSpillCause before now (Err SpillFailed) = (before ≤ now) × Rose before now
-HasSpillCause before now result = now ≡ before
 
 -- every seed of the list leaves a bucket with more keys than one may have; under the first seed this is the lowest such bucket, with
 -- its number of keys and the equal ones among them
@@ -92,21 +59,6 @@ HasBrzForm seeds (Cored made) = (made.algorithm ≡ algorithm.Brz) × (made.seed
 HasBrzForm seeds (Changed first now) = first ≢ now
 HasBrzForm seeds (SpillDamaged offset expected found) = expected ≢ found
 HasBrzForm seeds fault = Unit {0}
-
--- a pass that puts known keys into a store fails only for these reasons
-abbrev pub FailsPassing : Told → BrzFault → Type 0
-FailsPassing told Memory = Unit {0}
-FailsPassing told (Key fault) = IsToldFault told fault
-FailsPassing told SpillFailed = Unit {0}
-FailsPassing told fault = ⊥
-
--- and over any keys for these, with two numbers that differ
-abbrev pub HasPassingForm : BrzFault → Type 0
-HasPassingForm Memory = Unit {0}
-HasPassingForm (Key fault) = Unit {0}
-HasPassingForm (Changed first now) = first ≢ now
-HasPassingForm SpillFailed = Unit {0}
-HasPassingForm fault = ⊥
 
 -- the build of a bucket fails only for these reasons
 abbrev pub FailsBucket : List (ℕ × List ℕ) → ℕ → List ℕ → InBucket → BrzFault → Type 0

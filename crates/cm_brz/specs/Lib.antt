@@ -1,11 +1,4 @@
 pub mod BrzOf
-pub mod BucketPass
 pub mod Fails
 pub mod Found
-pub mod Passes
-pub mod Puts
-pub mod Records
 pub mod Reports
-pub mod Spilled
-pub mod Split
-pub mod Stores

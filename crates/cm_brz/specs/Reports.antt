@@ -1,6 +1,6 @@
 -- The text of a report on an overfull bucket.
 use Rattle.std.specs.Prelude.{ℕ, List, [], ◌∷◌, ◌++◌, map, codes, decimal}
-use Rattle.cm_outer.specs.Writing.{joined}
+use Rattle.cm_io.specs.Writing.{joined}
 use Rattle.cm_witness.specs.Reports.{pair_line}
 use Rattle.cm_witness.specs.declared.certificate.Pair.{Pair}
 

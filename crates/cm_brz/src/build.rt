@@ -2,18 +2,19 @@
 ghost use Rattle.std.specs.Prelude.{◌≡◌, ◌+◌, ◌*◌, ◌<◌, ◌≤◌, [], length, IfOk, IfErr, Contains, None, is_some};
 ghost use Rattle.std.specs.Option.{ForSome};
 ghost use Rattle.cm_brz.specs.BrzOf.{IsBrzOf};
-ghost use Rattle.cm_brz.specs.Fails.{FailsBrz, HasBrzForm, HasKeysCause, HasSpillCause, IsDamage};
-ghost use Rattle.cm_brz.specs.Puts.{records_under};
-ghost use Rattle.cm_brz.specs.Spilled.{AreSpilled};
+ghost use Rattle.cm_brz.specs.Fails.{FailsBrz, HasBrzForm, IsDamage};
+ghost use Rattle.cm_split.specs.Faults.{HasKeysCause, HasSpillCause};
+ghost use Rattle.cm_split.specs.Puts.{records_under};
+ghost use Rattle.cm_split.specs.Spilled.{AreSpilled};
 ghost use Rattle.cm_buckets.specs.declared.limits.TheConstants.{MAX_WIDTH, MIN_WIDTH};
 ghost use Rattle.cm_spec.specs.Rule.{IsRatio};
 ghost use Rattle.cm_spill.specs.declared.runs.TheConstants.{MAX_BYTES, MIN_BYTES};
 
 use crate::building::brz_over;
-use crate::fault::BrzFault;
 use cm_graph::Steps;
-use cm_outer::{KeyPass, Spill};
+use cm_io::{KeyPass, Spill};
 use cm_spill::Runs;
+use cm_split::BrzFault;
 use std::alloc::Global;
 use std::sync::ledger::Ledger;
 

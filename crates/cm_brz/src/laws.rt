@@ -7,7 +7,7 @@ ghost use Rattle.cm_brz.specs.BrzOf.{IsBrzOf};
 ghost use Rattle.cm_brz.specs.Fails.{IsCoredBucket, IsOverfull};
 ghost use Rattle.cm_brz.specs.Found.{AllOverfull, brz_under, bucket_report, first_cored, first_overfull, overfull_report};
 ghost use Rattle.cm_brz.specs.Reports.{overfull_text};
-ghost use Rattle.cm_brz.specs.Split.{split_of};
+ghost use Rattle.cm_split.specs.Split.{split_of};
 ghost use Rattle.cm_spec.specs.Rule.{IsRatio};
 ghost use Rattle.cm_witness.specs.Reports.{report_text};
 ghost use Rattle.cm_witness.specs.declared.certificate.Certificate.{Certificate};

@@ -1,11 +1,10 @@
 //! The report on an overfull bucket as text.
-ghost use Rattle.std.specs.Prelude.{◌≡◌, ◌++◌};
-ghost use Rattle.cm_outer.specs.Causes.{HasCause};
-ghost use Rattle.cm_outer.specs.Writing.{Writes};
+ghost use Rattle.cm_io.specs.Causes.{HasCause};
+ghost use Rattle.cm_io.specs.Writing.{Writes};
 ghost use Rattle.cm_brz.specs.Reports.{overfull_head, overfull_text};
 
 use arrayvec::ArrayVec;
-use cm_outer::{Failed, Sink};
+use cm_io::{Failed, Sink};
 use cm_witness::{Pair, append, append_number, write_pairs};
 use itoa::Buffer;
 

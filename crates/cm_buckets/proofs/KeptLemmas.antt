@@ -16,7 +16,7 @@ use Rattle.cm_buckets.specs.Kept.{AreKept, LiesIn, bucket_in, buckets_of, none_k
 use Rattle.cm_buckets.specs.declared.held.Held.{Held}
 use Rattle.cm_buckets.proofs.SizeLemmas.{few_cells, some_third}
 use Rattle.cm_buckets.proofs.TableLemmas.{IsNext, buckets_then, length-cells_in, length-with_cells, lie_then, with_cells}
-use Rattle.cm_outer.specs.declared.key_pass.TheConstants.{MAX_KEYS}
+use Rattle.cm_io.specs.declared.key_pass.TheConstants.{MAX_KEYS}
 
 -- the function of buckets as they are kept
 abbrev pub first_of : ℕ → ℕ → ℕ → ℕ → List ℕ → List Held → Brz

@@ -4,7 +4,7 @@ use Rattle.std.specs.Prelude.{◌≡◌, ℕ, ◌+◌, ◌-◌, ◌/◌, ◌%◌
 use Rattle.std.specs.List.{sum_by}
 use Rattle.cm_bdz.specs.Functions.{chosen_of, ranked}
 use Rattle.cm_bits.specs.Bound.{AllBelow}
-use Rattle.cm_outer.specs.declared.key_pass.TheConstants.{MAX_KEYS}
+use Rattle.cm_io.specs.declared.key_pass.TheConstants.{MAX_KEYS}
 use Rattle.cm_spec.specs.Bdz.{bdz_size}
 use Rattle.cm_spec.specs.Cells.{is_busy}
 use Rattle.cm_spec.specs.Lookup2.{words}

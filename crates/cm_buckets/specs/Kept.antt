@@ -1,7 +1,7 @@
 -- How buckets are kept: their cells in one table, and beside it for each bucket where its cells begin there and how many keys lie
 -- in the buckets before it.
 use Rattle.std.specs.Prelude.{◌≡◌, ℕ, ◌+◌, ◌*◌, ◌%◌, ◌^◌, ◌<◌, ◌≤◌, List, All, drop, length, map, slice_index, slice_index_or, take}
-use Rattle.cm_outer.specs.declared.key_pass.TheConstants.{MAX_KEYS}
+use Rattle.cm_io.specs.declared.key_pass.TheConstants.{MAX_KEYS}
 use Rattle.cm_spec.specs.Image.{packed_len}
 use Rattle.cm_spec.specs.Rule.{IsRatio}
 use Rattle.cm_buckets.specs.Functions.{Brz, Bucket, IsBucket, bucket_count, keys_in, offset_of}

@@ -2,7 +2,7 @@
 ghost use Rattle.std.specs.Prelude.{◌≡◌, ◌<◌, ◌≤◌, ◌+◌, ℕ, List, Option, IfSome, length, slice_index, slice_index_or};
 ghost use Rattle.cm_buckets.specs.Functions.{IsBrz, IsBucket, brz_answer, bucket_count, no_bucket};
 ghost use Rattle.cm_buckets.specs.Places.{brz_place, ends_in};
-ghost use Rattle.cm_outer.specs.declared.key_pass.TheConstants.{MAX_KEYS};
+ghost use Rattle.cm_io.specs.declared.key_pass.TheConstants.{MAX_KEYS};
 ghost use Rattle.cm_buckets.specs.declared.limits.TheConstants.{MIN_WIDTH, MAX_WIDTH};
 ghost use Rattle.cm_spec.specs.Image.{packed_byte, packed_len};
 ghost use Rattle.cm_spec.specs.Lists.{list_of};

@@ -4,7 +4,7 @@ ghost use Rattle.cm_bdz.specs.declared.bdz.PartsFault.{PartsFault};
 ghost use Rattle.cm_buckets.specs.Functions.{IsBrz, IsBucket, answer_of_bucket, bucket_cells, bucket_count, keys_in, no_bucket, offset_of};
 ghost use Rattle.cm_buckets.specs.Places.{ends_in};
 ghost use Rattle.cm_buckets.specs.Pushing.{Counts, Miscounts, with_bucket};
-ghost use Rattle.cm_outer.specs.declared.key_pass.TheConstants.{MAX_KEYS};
+ghost use Rattle.cm_io.specs.declared.key_pass.TheConstants.{MAX_KEYS};
 ghost use Rattle.cm_spec.specs.Cells.{is_busy};
 ghost use Rattle.cm_buckets.specs.declared.limits.TheConstants.{MAX_BUCKET, MIN_WIDTH, MAX_WIDTH};
 ghost use Rattle.cm_spec.specs.Image.{packed_byte, packed_len};

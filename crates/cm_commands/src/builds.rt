@@ -5,7 +5,7 @@ use cm_algo::{BuildFault, Built, assign, build};
 use cm_bits::{Cells, Fields};
 use cm_chm::ChmScheme;
 use cm_graph::{Edges, Steps, Xored};
-use cm_outer::{KeyBuf, KeyFault, KeyPass, MAX_KEY_LEN, MAX_KEYS};
+use cm_io::{KeyBuf, KeyFault, KeyPass, MAX_KEY_LEN, MAX_KEYS};
 use cm_peel::peel;
 use std::alloc::{AllocError, Global};
 use std::marker::Brand;

@@ -1,7 +1,8 @@
 ghost use Rattle.std.specs.Prelude.{◌≡◌};
 
 use crate::equal::{expect_equal, expect_true};
-use cm_outer::{Disk, DiskCall, MemDisk, MemSink};
+use cm_io::Disk;
+use cm_outer::{DiskCall, MemDisk, MemSink};
 use cm_tool::run;
 use std::alloc::{AllocError, Global};
 use std::process::Abort;

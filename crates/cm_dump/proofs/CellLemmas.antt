@@ -11,7 +11,7 @@ use Rattle.cm_bits.specs.Held.{packed_cells}
 use Rattle.cm_bits.specs.declared.TheConstants.{MAX_CELLS}
 use Rattle.cm_bits.specs.declared.fault.ImageFault.{ImageFault}
 use Rattle.cm_bits.specs.declared.fault.ImageFault.TheVariants as image
-use Rattle.cm_outer.specs.declared.key_pass.TheConstants.{MAX_KEYS}
+use Rattle.cm_io.specs.declared.key_pass.TheConstants.{MAX_KEYS}
 use Rattle.cm_chm.specs.ChmLaws.{chm_is_rule}
 use Rattle.cm_spec.specs.Bdz.{bdz_size}
 use Rattle.cm_spec.specs.Chm.{chm_size, chm_rule}

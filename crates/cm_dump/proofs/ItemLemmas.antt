@@ -2,7 +2,7 @@
 use Rattle.std.proofs.Common.{◌≡◌, ◌∙◌, ℕ, ◌+◌, ◌-◌, ◌<◌, ◌≤◌, List, ◌++◌, length, take, drop, ap, sym, arith, length-append, length-take, length-drop, true, false, nat_lt, Result, Ok, Err}
 use Rattle.std.proofs.lemmas.List.{drop-drop, drop_at, take_at, take_all, take-append-le}
 use Rattle.std.proofs.Math.Seq.{take-append-add, take-add}
-use Rattle.cm_outer.specs.Reading.{Gives}
+use Rattle.cm_io.specs.Reading.{Gives}
 use Rattle.cm_dump.specs.declared.fault.LoadFault.{LoadFault}
 use Rattle.cm_dump.specs.declared.fault.LoadFault.TheVariants as faults
 use Rattle.cm_dump.specs.Reading.{Fills, item_at}

@@ -3,9 +3,9 @@ use Rattle.std.proofs.Common.{◌≡◌, ◌∙◌, ℕ, zero, suc, ◌+◌, ◌
 use Rattle.std.specs.Prelude.{IsErr}
 use Rattle.std.specs.List.{range_with_len}
 use Rattle.std.proofs.lemmas.List.FromFn.{length-map-range_with_len}
-use Rattle.cm_outer.specs.declared.fault.Failed.{Failed}
-use Rattle.cm_outer.specs.Writing.{Writes, then_bytes}
-use Rattle.cm_outer.specs.WritingLaws.{then_twice, writes_then, front_of_first, writes_front}
+use Rattle.cm_io.specs.declared.fault.Failed.{Failed}
+use Rattle.cm_io.specs.Writing.{Writes, then_bytes}
+use Rattle.cm_io.specs.WritingLaws.{then_twice, writes_then, front_of_first, writes_front}
 
 pub piece_len : (f : ℕ → ℕ) (xs : List ℕ) (a n : ℕ) → xs ≡ map f (range_with_len a n) → length xs ≡ n
 piece_len f xs a n is = ap length is ∙ length-map-range_with_len f a n

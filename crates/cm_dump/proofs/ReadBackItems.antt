@@ -18,7 +18,7 @@ use Rattle.cm_bits.specs.FieldsLaws.{length-field_cells, field_cells-at}
 use Rattle.cm_bits.specs.Held.{packed_cells}
 use Rattle.cm_bits.specs.PackedLaws.{AllBelow-packed_cells, length-packed_cells, IsPacked-sound, image-list}
 use Rattle.cm_bits.specs.declared.fault.ImageFault.{ImageFault}
-use Rattle.cm_outer.specs.declared.key_pass.TheConstants.{MAX_KEYS}
+use Rattle.cm_io.specs.declared.key_pass.TheConstants.{MAX_KEYS}
 use Rattle.cm_spec.specs.Dump.{magic, fields_image}
 use Rattle.cm_dump.specs.Dumps.{header, packed_image, ranks_image, dump_of}
 use Rattle.cm_spec.specs.Image.{digits_sum, width_of, fields_len, fields_byte, fields_number, packed_byte, packed_len}

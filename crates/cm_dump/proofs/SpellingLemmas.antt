@@ -16,7 +16,7 @@ use Rattle.cm_bits.specs.declared.fault.ImageFault.{ImageFault}
 use Rattle.cm_buckets.specs.Functions.{Brz, Bucket, IsBrz, IsBucket, bucket_cells, keys_in}
 use Rattle.cm_buckets.specs.Pushing.{with_bucket}
 use Rattle.cm_buckets.specs.declared.limits.TheConstants.{MAX_BUCKET}
-use Rattle.cm_outer.specs.declared.key_pass.TheConstants.{MAX_KEYS}
+use Rattle.cm_io.specs.declared.key_pass.TheConstants.{MAX_KEYS}
 use Rattle.cm_rank.specs.Ranks.{sampled}
 use Rattle.cm_dump.specs.declared.fault.LoadFault.{LoadFault}
 use Rattle.cm_spec.specs.Cells.{is_busy}

@@ -6,7 +6,7 @@ ghost use Rattle.cm_dump.specs.Reading.{Answers, IsAt, HasLoadCause, item_at};
 use crate::LoadFault;
 use crate::items::item;
 use cm_bits::SPARE;
-use cm_outer::Source;
+use cm_io::Source;
 use std::alloc::{AllocError, Global};
 
 /// How many bytes are read at a time.

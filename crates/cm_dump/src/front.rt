@@ -1,7 +1,7 @@
 //! The header of a dump.
 ghost use Rattle.std.specs.Prelude.{◌≡◌, ◌≢◌, ◌+◌, ◌<◌, ◌≤◌, ℕ, List, Option, Err, OnOk, IfOk, length};
 ghost use Rattle.std.specs.Option.{ForSome};
-ghost use Rattle.cm_outer.specs.declared.key_pass.TheConstants.{MAX_KEYS};
+ghost use Rattle.cm_io.specs.declared.key_pass.TheConstants.{MAX_KEYS};
 ghost use Rattle.cm_spec.specs.Rule.{IsRatio};
 ghost use Rattle.cm_dump.specs.Forms.{version_1};
 ghost use Rattle.cm_dump.specs.Reading.{Answers, IsAt, HasLoadCause};
@@ -11,7 +11,7 @@ ghost use Rattle.cm_dump.specs.declared.fault.LoadFault.{LoadFault};
 use crate::LoadFault;
 use crate::items::{byte, item, number};
 use cm_buckets::{MAX_WIDTH, MIN_WIDTH};
-use cm_outer::{MAX_KEYS, Source};
+use cm_io::{MAX_KEYS, Source};
 
 /// What every dump begins with.
 pub(crate) const MAGIC: [u8; 8] = *b"CMPHDMP1";

@@ -2,12 +2,12 @@
 ghost use Rattle.std.specs.Prelude.{◌≡◌, ◌<◌, ◌≤◌, ◌+◌, ◌-◌, ℕ, List, map, length, [], min};
 ghost use Rattle.std.specs.List.{range_with_len};
 ghost use Rattle.cm_spec.specs.Lists.{list_of};
-ghost use Rattle.cm_outer.specs.Causes.{HasCause};
-ghost use Rattle.cm_outer.specs.Writing.{Writes};
+ghost use Rattle.cm_io.specs.Causes.{HasCause};
+ghost use Rattle.cm_io.specs.Writing.{Writes};
 
 use arrayvec::ArrayVec;
 use cm_bits::Cells;
-use cm_outer::{Failed, Sink};
+use cm_io::{Failed, Sink};
 
 /// How many bytes are gathered before they are written.
 const PIECE: u64 = 4096;

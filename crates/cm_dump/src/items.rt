@@ -3,12 +3,12 @@
 ghost use Rattle.std.specs.Prelude.{◌≡◌, ◌≢◌, ◌+◌, ◌<◌, ◌≤◌, ◌^◌, ℕ, List, Option, Err, OnOk, IfOk, length};
 ghost use Rattle.std.specs.Int.{w8, w32};
 ghost use Rattle.std.specs.Option.{ForSome};
-ghost use Rattle.cm_outer.specs.Causes.{HasCause};
+ghost use Rattle.cm_io.specs.Causes.{HasCause};
 ghost use Rattle.cm_dump.specs.Reading.{Answers, Fills, IsAt, HasLoadCause, item_at, field_at, end_at};
 ghost use Rattle.cm_dump.specs.declared.fault.LoadFault.{LoadFault};
 
 use crate::LoadFault;
-use cm_outer::{Failed, Source};
+use cm_io::{Failed, Source};
 
 /// Fills the buffer from this offset on, in bytes from 0, where the source stands, and returns how many bytes were read: fewer than the
 /// buffer has room for only if the source ends. Fails exactly if the source does.

@@ -1,13 +1,13 @@
 //! A source that is read in pieces, for items that are short.
 ghost use Rattle.std.specs.Prelude.{◌≡◌, ◌+◌, ◌-◌, ◌*◌, ◌<◌, ◌≤◌, ◌^◌, ℕ, List, [], Option, OnOk, IfOk, true, drop, length, take};
 ghost use Rattle.std.specs.Option.{ForSome};
-ghost use Rattle.cm_outer.specs.Causes.{HasCause};
+ghost use Rattle.cm_io.specs.Causes.{HasCause};
 ghost use Rattle.cm_dump.specs.Reading.{Answers, Fills, HasLoadCause, IsAt, end_at};
 ghost use Rattle.cm_dump.specs.Unreads.{IsNext};
 
 use crate::LoadFault;
 use crate::items::{end, fill};
-use cm_outer::{Failed, Source};
+use cm_io::{Failed, Source};
 use std::alloc::{AllocError, Global};
 use std::marker::Model;
 

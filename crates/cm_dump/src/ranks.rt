@@ -2,8 +2,8 @@
 ghost use Rattle.std.specs.Prelude.{◌≡◌, ◌≢◌, ◌+◌, ◌-◌, ◌*◌, ◌<◌, ◌≤◌, ◌^◌, ◌++◌, ℕ, List, Option, Err, MatchOption, OnOk, drop, length, slice_index, take};
 ghost use Rattle.std.specs.Int.{to_le_bytes, w32};
 ghost use Rattle.std.specs.Option.{ForSome};
-ghost use Rattle.cm_outer.specs.Causes.{HasCause};
-ghost use Rattle.cm_outer.specs.Writing.{Writes};
+ghost use Rattle.cm_io.specs.Causes.{HasCause};
+ghost use Rattle.cm_io.specs.Writing.{Writes};
 ghost use Rattle.cm_dump.specs.Dumps.{ranks_image};
 ghost use Rattle.cm_dump.specs.Parts.{AreRanks, rank_bytes};
 ghost use Rattle.cm_dump.specs.Reading.{Answers, HasLoadCause, IsAt};
@@ -13,7 +13,7 @@ ghost use Rattle.cm_dump.specs.declared.fault.LoadFault.{LoadFault};
 use crate::LoadFault;
 use crate::items::fill;
 use arrayvec::ArrayVec;
-use cm_outer::{Failed, Sink, Source};
+use cm_io::{Failed, Sink, Source};
 use cm_rank::RankTable;
 
 /// How many ranks are gathered before they are written: 4,096 bytes of them.

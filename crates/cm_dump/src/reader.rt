@@ -2,7 +2,7 @@
 ghost use Rattle.std.specs.Prelude.{◌≡◌, ◌+◌, ◌*◌, ◌/◌, ◌<◌, ◌≤◌, ◌^◌, ℕ, List, Option, Err, IsOk, Ok, OnOk, IfOk, count_by, length};
 ghost use Rattle.std.specs.Option.{ForSome};
 ghost use Rattle.cm_bits.specs.declared.TheConstants.{MAX_CELLS};
-ghost use Rattle.cm_outer.specs.declared.key_pass.TheConstants.{MAX_KEYS};
+ghost use Rattle.cm_io.specs.declared.key_pass.TheConstants.{MAX_KEYS};
 ghost use Rattle.cm_spec.specs.Bdz.{bdz_size};
 ghost use Rattle.cm_spec.specs.Cells.{is_busy};
 ghost use Rattle.cm_spec.specs.Image.{packed_len};
@@ -25,7 +25,7 @@ use crate::{Func, LoadFault};
 use cm_bdz::{Bdz, BdzPh, BdzPhScheme, BdzScheme, PartsFault};
 use cm_bits::{Cells, Crumbs, Fields, ImageFault, Trits};
 use cm_chm::{Chm, ChmScheme};
-use cm_outer::Source;
+use cm_io::Source;
 use cm_scheme::{Built, Scheme};
 use std::alloc::Global;
 

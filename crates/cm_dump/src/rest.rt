@@ -3,7 +3,7 @@ ghost use Rattle.std.specs.Prelude.{◌≡◌, ◌+◌, ◌*◌, ◌<◌, ◌≤
 ghost use Rattle.std.specs.Option.{ForSome};
 ghost use Rattle.cm_buckets.specs.Functions.{IsBrz, bucket_cells, bucket_count, keys_in};
 ghost use Rattle.cm_buckets.specs.declared.limits.TheConstants.{MAX_BUCKET, MIN_WIDTH, MAX_WIDTH};
-ghost use Rattle.cm_outer.specs.declared.key_pass.TheConstants.{MAX_KEYS};
+ghost use Rattle.cm_io.specs.declared.key_pass.TheConstants.{MAX_KEYS};
 ghost use Rattle.cm_spec.specs.Bdz.{bdz_size};
 ghost use Rattle.cm_spec.specs.Cells.{is_busy};
 ghost use Rattle.cm_spec.specs.Image.{packed_len};
@@ -21,7 +21,7 @@ use crate::reader::cells_from;
 use cm_bdz::{BdzScheme, PartsFault};
 use cm_bits::{Cells, Crumbs};
 use cm_buckets::{Brz, BrzParts};
-use cm_outer::{Failed, Source};
+use cm_io::{Failed, Source};
 use cm_rank::Counted;
 use cm_scheme::Scheme;
 use std::alloc::Global;

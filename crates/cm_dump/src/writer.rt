@@ -1,7 +1,7 @@
 //! A function of any algorithm, and its dump.
 ghost use Rattle.std.specs.Prelude.{◌≡◌, ◌++◌, ◌∷◌, [], List, ℕ, length};
-ghost use Rattle.cm_outer.specs.Causes.{HasCause};
-ghost use Rattle.cm_outer.specs.Writing.{Writes};
+ghost use Rattle.cm_io.specs.Causes.{HasCause};
+ghost use Rattle.cm_io.specs.Writing.{Writes};
 ghost use Rattle.cm_dump.specs.Dumps.{bdz_dump, bdz_ph_dump, brz_dump, chm_dump, dump_of, header};
 ghost use Rattle.cm_dump.specs.Forms.{version_1};
 
@@ -13,7 +13,7 @@ use cm_bdz::{Bdz, BdzPh};
 use cm_bits::{Cells, Crumbs, Fields, Trits};
 use cm_buckets::Brz;
 use cm_chm::Chm;
-use cm_outer::{Failed, Sink, write_pieces};
+use cm_io::{Failed, Sink, write_pieces};
 
 /// A function of any algorithm.
 #[derive(Drop)]

@@ -1,6 +1,6 @@
 use crate::equal::{expect_bytes, expect_equal, expect_true};
 use crate::memory::{Uses, store};
-use cm_outer::{Disk, DiskFault, Failed, Source, Spill, write_pieces};
+use cm_io::{Disk, DiskFault, Failed, Source, Spill, write_pieces};
 use cm_real::{FileDisk, StdSink};
 use std::alloc::{AllocError, AllocGlobal, Global};
 use std::fs;

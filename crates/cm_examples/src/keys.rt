@@ -1,7 +1,8 @@
 //! Passes over the lines of a file, by public calls alone.
 use crate::equal::{expect_equal_at, expect_text};
+use cm_io::{KeyBuf, KeyPass, MAX_KEY_LEN, MAX_KEYS};
 use cm_keys::Keys;
-use cm_outer::{KeyBuf, KeyPass, MAX_KEY_LEN, MAX_KEYS, MemSource};
+use cm_outer::MemSource;
 use std::alloc::{AllocError, Global};
 use std::test::Fail;
 

@@ -1,7 +1,7 @@
 //! The generated keys of a test, read in pieces.
 use crate::equal::{expect_bytes, expect_equal};
+use cm_io::{Failed, Source};
 use cm_made::MadeKeys;
-use cm_outer::{Failed, Source};
 use std::alloc::{AllocError, Global};
 use std::test::Fail;
 

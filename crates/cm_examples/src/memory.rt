@@ -1,13 +1,11 @@
 ghost use Rattle.std.specs.Prelude.{◌++◌, codes};
-ghost use Rattle.cm_outer.specs.Causes.{HasCause};
-ghost use Rattle.cm_outer.specs.Noting.{Noted};
-ghost use Rattle.cm_outer.specs.Writing.{Writes};
+ghost use Rattle.cm_io.specs.Causes.{HasCause};
+ghost use Rattle.cm_io.specs.Noting.{Noted};
+ghost use Rattle.cm_io.specs.Writing.{Writes};
 
 use crate::equal::{expect_bytes, expect_equal, expect_true};
-use cm_outer::{
-    Disk, DiskFault, Failed, MemDisk, MemSink, MemSource, MemSpill, Notes, Sink, Source, Spill,
-    write_pieces,
-};
+use cm_io::{Disk, DiskFault, Failed, Notes, Sink, Source, Spill, write_pieces};
+use cm_outer::{MemDisk, MemSink, MemSource, MemSpill};
 use std::test::Fail;
 
 // Each of these goes through the bounds alone.

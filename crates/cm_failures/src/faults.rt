@@ -1,7 +1,8 @@
 //! Runs of a command in which calls of the outside fail, and what they leave.
 use crate::command::Command;
 use crate::equal::{expect_equal_at, expect_prefix_at};
-use cm_outer::{Disk, DiskCall, MemDisk, MemSink, Sink};
+use cm_io::{Disk, Sink};
+use cm_outer::{DiskCall, MemDisk, MemSink};
 use cm_tool::run;
 use std::alloc::{AllocError, Global};
 use std::process::Abort;

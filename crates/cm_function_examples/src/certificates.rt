@@ -2,7 +2,8 @@
 ghost use Rattle.std.specs.Prelude.{◌≡◌, ◌≢◌, ◌↔◌, [], All, IsSome};
 
 use crate::equal::{expect_bytes, expect_equal};
-use cm_outer::{Failed, MemSink};
+use cm_io::Failed;
+use cm_outer::MemSink;
 use cm_witness::{Algorithm, Certificate, CoreEdge, InBucket, Pair};
 use std::alloc::{AllocError, Global};
 use std::process::Abort;

@@ -3,7 +3,7 @@
 use crate::equal::{expect_equal, expect_true};
 use crate::listed::Listed;
 use cm_graph::Edges;
-use cm_outer::KeyFault;
+use cm_io::KeyFault;
 use cm_witness::{Algorithm, CoreEdge, GatherFault, Pair, count_candidates, gather};
 use std::alloc::{AllocError, Global};
 use std::process::Abort;

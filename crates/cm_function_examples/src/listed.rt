@@ -1,7 +1,7 @@
 //! A pass over the keys of a list.
 ghost use Rattle.std.specs.Prelude.{◌≡◌, ◌<◌, ◌≤◌, None, length, true};
 
-use cm_outer::{KeyBuf, KeyFault, KeyPass, MAX_KEY_LEN, MAX_KEYS};
+use cm_io::{KeyBuf, KeyFault, KeyPass, MAX_KEY_LEN, MAX_KEYS};
 
 /// The keys of a list, one a line, with a fault after them or none. After a key that `next` returned, some more are buffered.
 #[derive(Drop)]

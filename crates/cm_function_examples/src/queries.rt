@@ -1,6 +1,7 @@
 use crate::equal::expect_equal;
 use crate::listed::Listed;
-use cm_outer::{KeyFault, MAX_KEY_LEN, MemSink, Notes};
+use cm_io::{KeyFault, MAX_KEY_LEN, Notes};
+use cm_outer::MemSink;
 use cm_query::{QueryFault, front_of_text, noted_exactly, query, worked_rows};
 use cm_scheme::{Answers, Place};
 use std::alloc::{AllocError, Global};

@@ -4,7 +4,8 @@ ghost use Rattle.std.specs.Option.{ForSome};
 ghost use Rattle.cm_spill.specs.Stores.{IsNextBucket};
 
 use crate::equal::{expect_bytes, expect_equal, expect_text};
-use cm_outer::{Failed, KeyBuf, MemSpill, Spill};
+use cm_io::{Failed, KeyBuf, Spill};
+use cm_outer::MemSpill;
 use cm_spill::{Runs, SpillError};
 use std::alloc::{AllocError, Global};
 use std::test::Fail;

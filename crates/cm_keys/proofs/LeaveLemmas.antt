@@ -3,9 +3,9 @@ use Rattle.std.proofs.Common.{◌≡◌, ◌∙◌, ℕ, zero, suc, ◌+◌, ◌
 use Rattle.std.specs.Prelude.{All}
 use Rattle.std.proofs.lemmas.List.{drop-drop}
 use Rattle.std.proofs.lemmas.List.Elements.{All-head, All-tail}
-use Rattle.cm_outer.specs.declared.key_pass.KeyFault.{KeyFault}
-use Rattle.cm_outer.specs.declared.key_pass.KeyFault.TheVariants.{TooLong, TooMany}
-use Rattle.cm_outer.specs.Passes.{Told, Ends}
+use Rattle.cm_io.specs.declared.key_pass.KeyFault.{KeyFault}
+use Rattle.cm_io.specs.declared.key_pass.KeyFault.TheVariants.{TooLong, TooMany}
+use Rattle.cm_io.specs.Passes.{Told, Ends}
 use Rattle.cm_keys.specs.Lines.{pieces, looked_at, with_key, keys_from, lines_of}
 use Rattle.cm_keys.specs.LinePass.{IsOpen}
 use Rattle.cm_keys.specs.NumberingLaws.{IsWithin}

@@ -1,8 +1,8 @@
 -- What a call of `next` gives.
 use Rattle.std.proofs.Common.{◌≡◌, inl, inr, ◌∙◌, ℕ, ◌+◌, ◌-◌, ◌<◌, ◌≤◌, List, [], ◌∷◌, ◌++◌, length, drop, ap, sym, arith, refl, subst, length-append, length-take, length-drop, Option, Some, None, Bool, true, false, if◌then◌else◌}
 use Rattle.std.specs.Option.{option_map, ForSome}
-use Rattle.cm_outer.specs.declared.key_pass.KeyFault.TheVariants.{TooLong, TooMany}
-use Rattle.cm_outer.specs.Passes.{Told, Ends, PassesKeys}
+use Rattle.cm_io.specs.declared.key_pass.KeyFault.TheVariants.{TooLong, TooMany}
+use Rattle.cm_io.specs.Passes.{Told, Ends, PassesKeys}
 use Rattle.cm_keys.specs.Lines.{push_first, pieces, with_key, lines_of}
 use Rattle.cm_keys.specs.LinePass.{IsAtHand, IsFull, IsOpen, LinePass, NoneAtHand}
 use Rattle.cm_keys.specs.Leaving.{keys_after, IsLeft, Leaves}

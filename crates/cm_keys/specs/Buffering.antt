@@ -1,7 +1,7 @@
 -- Bytes in a buffer, before those of a source.
 use Rattle.std.specs.Prelude.{◌≡◌, ◌-◌, ◌+◌, ◌<◌, ◌≤◌, ◌++◌, ◌∷◌, [], ℕ, List, length, All, Option, Some, drop, take, Result, Ok, Err}
 use Rattle.std.specs.Option.{option_map}
-use Rattle.cm_outer.specs.declared.fault.Failed.{Failed}
+use Rattle.cm_io.specs.declared.fault.Failed.{Failed}
 use Rattle.cm_keys.specs.Lines.{push_first, pieces}
 use Rattle.cm_keys.specs.declared.buffered.Part.{Part}
 use Rattle.cm_keys.specs.declared.buffered.Part.TheVariants.{Whole, More, Long}

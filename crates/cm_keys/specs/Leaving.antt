@@ -1,7 +1,7 @@
 -- What is left of the keys of a text after some were yielded.
 use Rattle.std.specs.Prelude.{◌≡◌, ◌-◌, ◌+◌, ◌≤◌, ◌++◌, ℕ, List, length, Option, None, Some, Bool, true, drop, take}
 use Rattle.std.specs.Option.{ForSome}
-use Rattle.cm_outer.specs.Passes.{Told}
+use Rattle.cm_io.specs.Passes.{Told}
 use Rattle.cm_keys.specs.Lines.{keys_from, lines_of, pieces}
 
 -- the lines to read, after some

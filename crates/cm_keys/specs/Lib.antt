@@ -5,4 +5,4 @@ pub mod Buffering
 pub mod Leaving
 pub mod NumberingLaws
 pub mod SplittingLaws
-pub use Rattle.cm_outer.specs.Passes
+pub use Rattle.cm_io.specs.Passes

@@ -1,9 +1,9 @@
 -- A pass over the lines of a source, as contracts see it.
 use Rattle.std.specs.Prelude.{◌≡◌, ◌⊎◌, ◌<◌, ◌≤◌, ◌+◌, ℕ, List, [], Option, None, Some, Bool, true, false}
 use Rattle.std.specs.Option.{option_map}
-use Rattle.cm_outer.specs.Passes.{Told}
-use Rattle.cm_outer.specs.declared.key_pass.KeyFault.{KeyFault}
-use Rattle.cm_outer.specs.declared.key_pass.KeyFault.TheVariants.{Read, TooLong, TooMany}
+use Rattle.cm_io.specs.Passes.{Told}
+use Rattle.cm_io.specs.declared.key_pass.KeyFault.{KeyFault}
+use Rattle.cm_io.specs.declared.key_pass.KeyFault.TheVariants.{Read, TooLong, TooMany}
 use Rattle.cm_keys.specs.Lines.{lines_of}
 use Rattle.cm_keys.specs.Buffering.{HasNoEnd, TakesPart}
 use Rattle.cm_keys.specs.declared.buffered.Part.TheVariants.{Whole}

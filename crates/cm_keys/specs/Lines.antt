@@ -1,7 +1,7 @@
 -- The keys of a text.
 use Rattle.std.specs.Prelude.{◌==◌, ◌+◌, ℕ, List, length, Option, None, Some, [], ◌∷◌, take, if◌then◌else◌, nat_lt}
-use Rattle.cm_outer.specs.Passes.{Told}
-use Rattle.cm_outer.specs.declared.key_pass.KeyFault.TheVariants.{TooLong, TooMany}
+use Rattle.cm_io.specs.Passes.{Told}
+use Rattle.cm_io.specs.declared.key_pass.KeyFault.TheVariants.{TooLong, TooMany}
 
 -- a byte before the first piece; if there is none, the byte is a piece
 abbrev pub push_first : ℕ → List (List ℕ) → List (List ℕ)

@@ -1,6 +1,6 @@
 -- Worked rows of the keys of a text: 97 is the letter a, 98 is b, 13 and 10 are the carriage return and the line end.
 use Rattle.std.specs.Prelude.{◌≡◌, [], ◌∷◌, None, Some}
-use Rattle.cm_outer.specs.declared.key_pass.KeyFault.TheVariants.{TooLong, TooMany}
+use Rattle.cm_io.specs.declared.key_pass.KeyFault.TheVariants.{TooLong, TooMany}
 use Rattle.cm_keys.specs.Lines.{lines_of}
 
 -- A carriage return is part of its key, and a last line without its end counts.

@@ -1,8 +1,8 @@
 -- What is true of the keys of every text.
 use Rattle.std.specs.Prelude.{◌≡◌, ◌<◌, ◌≤◌, ◌+◌, ℕ, List, length, All, Option, None, Some, slice_index_or}
-use Rattle.cm_outer.specs.Passes.{Told}
-use Rattle.cm_outer.specs.declared.key_pass.KeyFault.{KeyFault}
-use Rattle.cm_outer.specs.declared.key_pass.KeyFault.TheVariants.{Read, TooLong, TooMany}
+use Rattle.cm_io.specs.Passes.{Told}
+use Rattle.cm_io.specs.declared.key_pass.KeyFault.{KeyFault}
+use Rattle.cm_io.specs.declared.key_pass.KeyFault.TheVariants.{Read, TooLong, TooMany}
 
 -- The number is within the number of lines to read, if that is given.
 abbrev pub IsWithin : Option ℕ → ℕ → Type 0

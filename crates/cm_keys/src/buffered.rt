@@ -1,12 +1,12 @@
 // A source with a buffer.
 ghost use Rattle.std.specs.Prelude.{◌≡◌, ◌<◌, ◌≤◌, ◌++◌, ◌+◌, ℕ, List, [], true, false, Ok, IfOk, IfSome, IfNone, OnOk, length, drop};
 ghost use Rattle.std.specs.Option.{ForSome};
-ghost use Rattle.cm_outer.specs.Causes.{HasCause};
+ghost use Rattle.cm_io.specs.Causes.{HasCause};
 ghost use Rattle.memchr.specs.Find.{IsFirstByte, is_byte};
 ghost use Rattle.cm_keys.specs.Buffering.{ready_in, left_bytes, HasNoEnd, TakesLines, TakesPart, ReadsLine};
 ghost use Rattle.cm_keys.specs.declared.buffered.TheConstants.{ROOM};
 
-use cm_outer::{Failed, KeyBuf, MAX_KEY_LEN, Source};
+use cm_io::{Failed, KeyBuf, MAX_KEY_LEN, Source};
 use memchr::{memchr, memchr_iter, memrchr};
 
 /// The size of the buffer in bytes.

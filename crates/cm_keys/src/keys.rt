@@ -1,6 +1,6 @@
 ghost use Rattle.std.specs.Prelude.{◌≡◌, ◌⊎◌, ◌<◌, ◌≤◌, ◌+◌, ◌↔◌, ℕ, List, length, Ok, true, false, OnOk, OnErr, IfOk, IfErr, IfSome, IfNone, IsTrue, IsOkUnless, if◌then◌else◌, option_map};
 ghost use Rattle.std.specs.Option.{ForSome};
-ghost use Rattle.cm_outer.specs.Passes.{HasKeyCause, GivesKey, PassesKeys};
+ghost use Rattle.cm_io.specs.Passes.{HasKeyCause, GivesKey, PassesKeys};
 ghost use Rattle.cm_keys.specs.Buffering.{HasNoEnd};
 ghost use Rattle.cm_keys.specs.Lines.{lines_of};
 ghost use Rattle.cm_keys.specs.NumberingLaws.{IsWithin};
@@ -8,7 +8,7 @@ ghost use Rattle.cm_keys.specs.declared.buffered.TheConstants.{ROOM};
 ghost use Rattle.cm_keys.specs.LinePass.{IsAtHand, IsDone, IsFull, IsNearEnd, IsNextLine, IsOpen, NoneAtHand, keys_of, new_pass};
 
 use crate::buffered::{Buffered, Line, ROOM};
-use cm_outer::{Failed, KeyBuf, KeyFault, KeyPass, MAX_KEY_LEN, MAX_KEYS, Source};
+use cm_io::{Failed, KeyBuf, KeyFault, KeyPass, MAX_KEY_LEN, MAX_KEYS, Source};
 use std::marker::Model;
 
 /// The byte that ends a line.
@@ -28,7 +28,7 @@ impl<S: Source> Model for Keys<S> {
     ghost use Rattle.cm_keys.specs.Leaving.{IsPassing};
     ghost use Rattle.cm_keys.specs.Buffering.{ready_in};
     ghost use Rattle.cm_keys.specs.declared.keys.TheConstants.{LINE_END};
-    ghost use Rattle.cm_outer.specs.declared.key_pass.TheConstants.{MAX_KEYS, MAX_KEY_LEN};
+    ghost use Rattle.cm_io.specs.declared.key_pass.TheConstants.{MAX_KEYS, MAX_KEY_LEN};
 
     ghost Value = { LinePass };
 
@@ -118,7 +118,7 @@ fn may_give_many(first: Option<u32>, given: u32) -> bool
 
 impl<S: Source> KeyPass for Keys<S> {
     ghost use Rattle.cm_keys.specs.declared.keys.TheConstants.{LINE_END};
-    ghost use Rattle.cm_outer.specs.declared.key_pass.TheConstants.{MAX_KEYS, MAX_KEY_LEN};
+    ghost use Rattle.cm_io.specs.declared.key_pass.TheConstants.{MAX_KEYS, MAX_KEY_LEN};
 
     ghost told = { λ k. keys_of MAX_KEYS MAX_KEY_LEN LINE_END k };
 

@@ -3,7 +3,7 @@ use Rattle.std.proofs.Common.{◌≡◌, ◌∙◌, ℕ, zero, suc, ◌+◌, ◌
 use Rattle.std.proofs.Math.Nat.{eq-or-lt_of_le}
 use Rattle.std.proofs.Common.{inl, inr}
 use Rattle.std.proofs.lemmas.List.{get_or_append_left, get_or_push, length_push}
-use Rattle.cm_outer.specs.Passes.{Told}
+use Rattle.cm_io.specs.Passes.{Told}
 use Rattle.cm_keys.specs.Lines.{keys_from, lines_of, pieces, push_first, with_key}
 use Rattle.cm_made.specs.Numbered.{AreMade}
 use Rattle.cm_made.specs.Texts.{made_key, made_line, made_text}

@@ -3,7 +3,7 @@ use Rattle.std.proofs.Common.{◌≡◌, ◌∙◌, ℕ, zero, suc, ◌+◌, ◌
 use Rattle.std.proofs.Math.Seq.{drop-append-add, take-add, take-append-add}
 use Rattle.std.proofs.Math.Nat.{eq-or-lt_of_le}
 use Rattle.std.proofs.lemmas.List.{drop-append-le, drop-drop, take-append-le, take_at}
-use Rattle.cm_outer.specs.Reading.{Gives}
+use Rattle.cm_io.specs.Reading.{Gives}
 use Rattle.cm_made.specs.Texts.{made_line, made_text}
 
 pub length-text : (n : ℕ) → length (made_text n) ≡ 15 * n

@@ -1,6 +1,6 @@
 -- The generated keys as the lines of a text.
 use Rattle.std.specs.Prelude.{◌≡◌, ◌<◌, ◌+◌, ℕ, List, length, None, slice_index_or}
-use Rattle.cm_outer.specs.Passes.{Told}
+use Rattle.cm_io.specs.Passes.{Told}
 use Rattle.cm_made.specs.Texts.{made_key}
 
 -- These are n keys without a fault: key number i, from 0 on, is the generated one, of line i + 1.

@@ -6,8 +6,8 @@ ghost use Rattle.cm_keys.specs.Lines.{lines_of};
 ghost use Rattle.cm_made.specs.Texts.{made_key, made_text};
 ghost use Rattle.cm_made.specs.Numbered.{AreMade};
 
+use cm_io::{MAX_KEY_LEN, MAX_KEYS};
 use cm_keys::LINE_END;
-use cm_outer::{MAX_KEY_LEN, MAX_KEYS};
 
 /// The first keys, and their text.
 pub fn first_keys()

@@ -2,7 +2,7 @@
 ghost use Rattle.std.specs.Prelude.{◌≡◌, ◌≤◌, ◌<◌, ◌+◌, ◌-◌, ◌*◌, ◌/◌, ◌%◌, ◌++◌, ℕ, length, min, take, drop};
 ghost use Rattle.cm_made.specs.Texts.{made_line, made_text, made_value, pair, ten_digits};
 
-use cm_outer::MAX_KEYS;
+use cm_io::MAX_KEYS;
 
 /// How many bytes a line has, with its end.
 pub(crate) const LINE_LEN: usize = 15;

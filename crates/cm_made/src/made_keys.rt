@@ -1,13 +1,13 @@
 //! The generated keys as a source.
 ghost use Rattle.std.specs.Prelude.{◌≡◌, ◌≤◌, ◌+◌, ◌-◌, ◌*◌, ◌++◌, IsOk, IfOk, OnOk, Some, length, min, take, drop};
 ghost use Rattle.std.specs.Option.{ForSome};
-ghost use Rattle.cm_outer.specs.Causes.{HasCause};
-ghost use Rattle.cm_outer.specs.Reading.{Gives};
+ghost use Rattle.cm_io.specs.Causes.{HasCause};
+ghost use Rattle.cm_io.specs.Reading.{Gives};
 ghost use Rattle.cm_made.specs.Sources.{new_source};
 ghost use Rattle.cm_made.specs.Texts.{made_text};
 
 use crate::lines::{LINE_LEN, fill};
-use cm_outer::{Failed, MAX_KEYS, Source};
+use cm_io::{Failed, MAX_KEYS, Source};
 use std::marker::Model;
 
 /// The lines of the first generated keys. Line number i, from 0 on, is `key-`, ten decimal digits of (2,654,435,761 * i) mod 2^32
@@ -21,7 +21,7 @@ pub struct MadeKeys {
 
 impl Model for MadeKeys {
     ghost use Rattle.std.specs.Prelude.{◌≤◌, ◌*◌};
-    ghost use Rattle.cm_outer.specs.declared.key_pass.TheConstants.{MAX_KEYS};
+    ghost use Rattle.cm_io.specs.declared.key_pass.TheConstants.{MAX_KEYS};
     ghost use Rattle.cm_made.specs.Sources.{MadeSource};
 
     ghost Value = { MadeSource };

@@ -1,4 +1,3 @@
 mod ReadLemmas
 mod MemFileLemmas
-mod WriteLemmas
 mod BentLemmas

@@ -13,10 +13,10 @@ use Rattle.std.proofs.lemmas.Slice.Eq.{bytes_eq-Decides}
 use Rattle.std.proofs.lemmas.Iterator.Adapters.{position_from-zero}
 use Rattle.std.proofs.lemmas.List.Quantifiers.{position-Some}
 use Rattle.std.proofs.lemmas.List.{set-get_or, map-append}
-use Rattle.cm_outer.specs.Files.{Files}
+use Rattle.cm_io.specs.Files.{Files}
 use Rattle.cm_outer.specs.MemFiles.{entry_of, files_of}
 use Rattle.cm_outer.specs.declared.mem_file.MemFile.{MemFile}
-use Rattle.cm_outer.specs.FilesLaws.{same_path, insert_twice}
+use Rattle.cm_io.specs.FilesLaws.{same_path, insert_twice}
 
 abbrev pub at_path : List ℕ → MemFile → Bool
 at_path path f = bytes_eq (string_bytes f.path) path

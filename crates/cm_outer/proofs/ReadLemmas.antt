@@ -1,7 +1,7 @@
 -- What a read of bytes in memory gives.
 use Rattle.std.proofs.Common.{◌≡◌, ℕ, ◌+◌, ◌-◌, ◌≤◌, min, List, ◌++◌, length, take, drop, refl, sym, ◌∙◌, ap, arith, length-drop, length-take, take-append-drop}
 use Rattle.std.proofs.lemmas.List.{drop-drop, take_at, take_rest}
-use Rattle.cm_outer.specs.Reading.{Gives, GivesAt}
+use Rattle.cm_io.specs.Reading.{Gives, GivesAt}
 
 pub given : (bytes copied more : List ℕ) (place n : ℕ) → copied ≡ take n (drop place bytes) → n ≤ length (drop place bytes) → drop place bytes ≡ take n (copied ++ more) ++ drop (place + n) bytes
 given bytes copied more place n is inside =

@@ -1,13 +1,3 @@
-pub mod Causes
-pub mod Counts
-pub mod Reading
-pub mod Writing
-pub mod WritingLaws
-pub mod Files
-pub mod FilesLaws
-pub mod Noting
-pub mod NotingLaws
-pub mod Passes
 pub mod MemSources
 pub mod MemSinks
 pub mod MemSpills

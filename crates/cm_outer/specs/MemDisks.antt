@@ -3,9 +3,9 @@ use Rattle.std.specs.Prelude.{ℕ, Bool, true, false, List, Option, Result, Ok, 
 use Rattle.std.specs.Coded.{Coded, code_by, coded×, coded_list, coded_option, coded_ℕ}
 use Rattle.std.specs.FinMap as maps
 use Rattle.cm_outer.specs.DiskCalls.{DiskCalls, calls_code}
-use Rattle.cm_outer.specs.Files.{Files}
-use Rattle.cm_outer.specs.declared.fault.DiskFault.{DiskFault}
-use Rattle.cm_outer.specs.declared.fault.DiskFault.TheVariants as disk_fault
+use Rattle.cm_io.specs.Files.{Files}
+use Rattle.cm_io.specs.declared.fault.DiskFault.{DiskFault}
+use Rattle.cm_io.specs.declared.fault.DiskFault.TheVariants as disk_fault
 
 -- the files, the room of each file that is written and of each spill, the bytes of the spill that was last handed back, the counts of
 -- faults, and the calls

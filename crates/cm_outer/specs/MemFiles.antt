@@ -1,7 +1,7 @@
 -- Files in memory, seen as a finite map.
 use Rattle.std.specs.Prelude.{ℕ, List, map, string_bytes}
 use Rattle.std.specs.FinMap as maps
-use Rattle.cm_outer.specs.Files.{Files}
+use Rattle.cm_io.specs.Files.{Files}
 use Rattle.cm_outer.specs.declared.mem_file.MemFile.{MemFile}
 
 -- the path and the bytes of a file

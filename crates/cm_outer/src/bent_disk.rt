@@ -1,14 +1,15 @@
 // A disk in memory whose files change and whose spills have a byte that reads wrongly. Its files are not known.
 ghost use Rattle.std.specs.Prelude.{◌≡◌, ◌<◌, [], None, Some, IsOk, IfOk, IfErr, length, map, nat_lt, option_copied};
 ghost use Rattle.std.specs.Option.{ForSome};
-ghost use Rattle.cm_outer.specs.Causes.{HasDiskCause, Collects, HasCloseCause};
-ghost use Rattle.cm_outer.specs.Files.{Creates, Closes};
-ghost use Rattle.cm_outer.specs.Counts.{counted_if};
+ghost use Rattle.cm_io.specs.Causes.{HasDiskCause, Collects, HasCloseCause};
+ghost use Rattle.cm_io.specs.Files.{Creates, Closes};
+ghost use Rattle.cm_io.specs.Counts.{counted_if};
 ghost use Rattle.cm_outer.specs.TurnSources.{new_turns};
 ghost use Rattle.cm_outer.specs.MemSinks.{new_sink};
 ghost use Rattle.cm_outer.specs.BentSpills.{new_bent};
 
-use crate::{BentSpill, Disk, DiskFault, Failed, MemSink, TurnSource};
+use crate::{BentSpill, MemSink, TurnSource};
+use cm_io::{Disk, DiskFault, Failed};
 use std::alloc::{AllocError, Global};
 use std::marker::Model;
 

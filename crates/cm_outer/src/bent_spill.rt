@@ -1,11 +1,12 @@
 // A spill in memory with a byte that reads wrongly, whose contents are not known.
 ghost use Rattle.std.specs.Prelude.{◌≡◌, ◌≤◌, ◌<◌, ◌-◌, ◌++◌, ◌↔◌, ◌+◌, IsTrue, IsErr, IsOk, IfOk, OnOk, OnErr, None, length, min, take, drop, slice_set};
-ghost use Rattle.cm_outer.specs.Causes.{HasCause};
-ghost use Rattle.cm_outer.specs.Writing.{Writes};
-ghost use Rattle.cm_outer.specs.Counts.{counted};
+ghost use Rattle.cm_io.specs.Causes.{HasCause};
+ghost use Rattle.cm_io.specs.Writing.{Writes};
+ghost use Rattle.cm_io.specs.Counts.{counted};
 ghost use Rattle.cm_outer.specs.BentSpills.{new_bent, bent};
 
-use crate::{Failed, MemSpill, Spill};
+use crate::MemSpill;
+use cm_io::{Failed, Spill};
 use std::alloc::{AllocError, Global};
 use std::marker::Model;
 

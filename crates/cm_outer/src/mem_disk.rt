@@ -1,10 +1,10 @@
 // A disk in memory.
-ghost use Rattle.std.specs.Prelude.{◌≡◌, ◌≢◌, ◌<◌, ◌↔◌, ◌⊎◌, ◌++◌, ◌∷◌, ◌||◌, [], None, Some, IfOk, OnOk, OnErr, IsTrue, IsErr, Contains, is_err, nat_lt, option_copied};
+ghost use Rattle.std.specs.Prelude.{◌≡◌, ◌<◌, ◌↔◌, ◌⊎◌, ◌++◌, ◌∷◌, ◌||◌, [], None, Some, IfOk, OnOk, OnErr, IsErr, Contains, is_err, nat_lt, option_copied};
 ghost use Rattle.std.specs.FinMap as maps;
 ghost use Rattle.std.specs.Option.{ForSome};
-ghost use Rattle.cm_outer.specs.Causes.{HasDiskCause, Collects, HasCloseCause};
-ghost use Rattle.cm_outer.specs.Files.{IsThere, Opens, Creates, Closes, file_at};
-ghost use Rattle.cm_outer.specs.Counts.{counted, counted_if};
+ghost use Rattle.cm_io.specs.Causes.{HasDiskCause, Collects, HasCloseCause};
+ghost use Rattle.cm_io.specs.Files.{IsThere, Opens, Creates, Closes, file_at};
+ghost use Rattle.cm_io.specs.Counts.{counted, counted_if};
 ghost use Rattle.cm_outer.specs.DiskCalls.{no_calls, numbers};
 ghost use Rattle.cm_outer.specs.MemDisks.{is_failed};
 ghost use Rattle.cm_outer.specs.MemSources.{new_source};
@@ -13,7 +13,8 @@ ghost use Rattle.cm_outer.specs.MemSpills.{new_spill};
 
 use crate::listed_calls::{next_is_listed, sink_of, source_of, spill_of};
 use crate::mem_file::{MemFile, bytes_at, set_bytes};
-use crate::{Disk, DiskCall, DiskFault, Failed, MemSink, MemSource, MemSpill};
+use crate::{DiskCall, MemSink, MemSource, MemSpill};
+use cm_io::{Disk, DiskFault, Failed};
 use std::alloc::{AllocError, Global};
 use std::marker::Model;
 

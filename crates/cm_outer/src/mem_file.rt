@@ -2,7 +2,7 @@
 ghost use Rattle.std.specs.Prelude.{◌≡◌, OnOk, OnErr, IsOk, IsTrue, position, string_bytes, option_copied};
 ghost use Rattle.std.specs.FinMap as maps;
 ghost use Rattle.std.specs.Str.{bytes_eq};
-ghost use Rattle.cm_outer.specs.Files.{file_at};
+ghost use Rattle.cm_io.specs.Files.{file_at};
 ghost use Rattle.cm_outer.specs.MemFiles.{files_of};
 
 use std::alloc::{AllocError, Global};

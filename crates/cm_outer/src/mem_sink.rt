@@ -1,11 +1,11 @@
 // A sink in memory, without a buffer.
 ghost use Rattle.std.specs.Prelude.{◌≡◌, ◌≤◌, ◌<◌, ◌+◌, ◌-◌, ◌++◌, ◌↔◌, ◌⊎◌, IsTrue, IsErr, IfOk, OnOk, OnErr, Contains, Some, length, take};
-ghost use Rattle.cm_outer.specs.Causes.{HasCause, Rose};
-ghost use Rattle.cm_outer.specs.Writing.{Writes};
-ghost use Rattle.cm_outer.specs.Counts.{counted};
+ghost use Rattle.cm_io.specs.Causes.{HasCause, Rose};
+ghost use Rattle.cm_io.specs.Writing.{Writes};
+ghost use Rattle.cm_io.specs.Counts.{counted};
 ghost use Rattle.cm_outer.specs.MemSinks.{new_sink};
 
-use crate::{Failed, Sink};
+use cm_io::{Failed, Sink};
 use std::alloc::{AllocError, Global};
 use std::marker::Model;
 

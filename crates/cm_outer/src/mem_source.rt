@@ -1,12 +1,12 @@
 // A source in memory.
 ghost use Rattle.std.specs.Prelude.{◌≡◌, ◌≤◌, ◌<◌, ◌+◌, ◌-◌, ◌++◌, ◌↔◌, IsTrue, IsErr, IfOk, OnOk, OnErr, Contains, Some, length, min, take, drop};
 ghost use Rattle.std.specs.Option.{ForSome};
-ghost use Rattle.cm_outer.specs.Causes.{HasCause};
-ghost use Rattle.cm_outer.specs.Reading.{Gives};
-ghost use Rattle.cm_outer.specs.Counts.{counted};
+ghost use Rattle.cm_io.specs.Causes.{HasCause};
+ghost use Rattle.cm_io.specs.Reading.{Gives};
+ghost use Rattle.cm_io.specs.Counts.{counted};
 ghost use Rattle.cm_outer.specs.MemSources.{new_source};
 
-use crate::{Failed, Source};
+use cm_io::{Failed, Source};
 use std::marker::Model;
 
 /// Bytes in memory. Reads and rewinds fail only in the listed calls, counted from 0.

@@ -1,13 +1,14 @@
 // A spill in memory.
 ghost use Rattle.std.specs.Prelude.{◌≡◌, ◌≤◌, ◌<◌, ◌-◌, ◌++◌, ◌↔◌, ◌⊎◌, ◌+◌, IsTrue, IsErr, IfOk, OnOk, OnErr, Contains, Some, length, min, take, drop};
 ghost use Rattle.std.specs.Option.{ForSome};
-ghost use Rattle.cm_outer.specs.Causes.{HasCause};
-ghost use Rattle.cm_outer.specs.Reading.{GivesAt};
-ghost use Rattle.cm_outer.specs.Writing.{Writes};
-ghost use Rattle.cm_outer.specs.Counts.{counted};
+ghost use Rattle.cm_io.specs.Causes.{HasCause};
+ghost use Rattle.cm_io.specs.Reading.{GivesAt};
+ghost use Rattle.cm_io.specs.Writing.{Writes};
+ghost use Rattle.cm_io.specs.Counts.{counted};
 ghost use Rattle.cm_outer.specs.MemSpills.{new_spill};
 
-use crate::{Failed, MemSink, Sink, Spill};
+use crate::MemSink;
+use cm_io::{Failed, Sink, Spill};
 use std::alloc::{AllocError, Global};
 use std::marker::Model;
 

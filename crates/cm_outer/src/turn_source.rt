@@ -1,9 +1,9 @@
 // A source in memory whose contents change and are not known.
 ghost use Rattle.std.specs.Prelude.{◌≡◌, ◌≤◌, ◌<◌, ◌+◌, ◌-◌, ◌^◌, ◌++◌, IsOk, IfOk, OnOk, None, length, map, min, take, drop};
-ghost use Rattle.cm_outer.specs.Causes.{HasCause};
+ghost use Rattle.cm_io.specs.Causes.{HasCause};
 ghost use Rattle.cm_outer.specs.TurnSources.{new_turns, contents, turned};
 
-use crate::{Failed, Source};
+use cm_io::{Failed, Source};
 use std::marker::Model;
 
 /// Bytes in memory that change from pass to pass: those of the first entry, after a rewind those of the second, and so on. The last entry

@@ -4,8 +4,8 @@ use Rattle.std.specs.Prelude.{is_none}
 use Rattle.std.specs.List.{count_by}
 use Rattle.std.proofs.lemmas.List.{length-append}
 use Rattle.std.proofs.lemmas.List.Sums.{sum_by-append}
-use Rattle.cm_outer.specs.WritingLaws.{joined-append}
-use Rattle.cm_outer.specs.Writing.{joined}
+use Rattle.cm_io.specs.WritingLaws.{joined-append}
+use Rattle.cm_io.specs.Writing.{joined}
 use Rattle.cm_query.specs.Repeats.{is_repeated, repeats_of, with_earlier}
 use Rattle.cm_query.specs.Tallies.{counted, tally_of}
 use Rattle.cm_query.specs.Texts.{note_of, notes_of}

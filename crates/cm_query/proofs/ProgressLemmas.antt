@@ -3,18 +3,18 @@ use Rattle.std.proofs.Common.{◌≡◌, ◌∙◌, ℕ, ◌+◌, ◌-◌, ◌<�
 use Rattle.std.specs.Prelude.{IfSome}
 use Rattle.std.proofs.lemmas.List.{length-drop, take_all}
 use Rattle.std.proofs.Math.Seq.{take-add}
-use Rattle.cm_outer.specs.WritingLaws.{then_twice}
-use Rattle.cm_outer.specs.Noting.{Noted}
-use Rattle.cm_outer.specs.Passes.{Ends, GivesKey, Told}
-use Rattle.cm_outer.specs.Writing.{then_bytes}
-use Rattle.cm_outer.specs.declared.key_pass.KeyFault.{KeyFault}
-use Rattle.cm_outer.specs.declared.key_pass.KeyFault.TheVariants.{Read, TooLong, TooMany}
+use Rattle.cm_io.specs.WritingLaws.{then_twice}
+use Rattle.cm_io.specs.Noting.{Noted}
+use Rattle.cm_io.specs.Passes.{Ends, GivesKey, Told}
+use Rattle.cm_io.specs.Writing.{then_bytes}
+use Rattle.cm_io.specs.declared.key_pass.KeyFault.{KeyFault}
+use Rattle.cm_io.specs.declared.key_pass.KeyFault.TheVariants.{Read, TooLong, TooMany}
 use Rattle.cm_query.proofs.EarlierLemmas.{notes_of-more, tally_of-more}
 use Rattle.cm_query.proofs.MarkLemmas.{AreMarks, is_marked-same, marks_more, none_marked}
-use Rattle.cm_outer.specs.NotingLaws.{noted_more}
+use Rattle.cm_io.specs.NotingLaws.{noted_more}
 use Rattle.cm_query.proofs.TextLemmas.{text_of-more, text_of-one}
-use Rattle.cm_outer.specs.NotingLaws.{noted_nothing}
-use Rattle.cm_outer.specs.WritingLaws.{then_nothing}
+use Rattle.cm_io.specs.NotingLaws.{noted_nothing}
+use Rattle.cm_io.specs.WritingLaws.{then_nothing}
 use Rattle.cm_query.specs.Marks.{is_marked, marked}
 use Rattle.cm_query.specs.Repeats.{is_repeated}
 use Rattle.cm_query.specs.Stops.{StopsAt, TextAfter}

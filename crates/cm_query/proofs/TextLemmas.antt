@@ -3,8 +3,8 @@ use Rattle.std.proofs.Common.{◌≡◌, ◌∙◌, ℕ, ◌+◌, ◌-◌, ◌�
 use Rattle.std.proofs.lemmas.Grind.{flat_map-append}
 use Rattle.std.proofs.lemmas.List.{take_at, take_min, take-append-le}
 use Rattle.std.proofs.Math.Seq.{take-append-add}
-use Rattle.cm_outer.specs.Writing.{then_bytes}
-use Rattle.cm_outer.specs.WritingLaws.{then_nothing}
+use Rattle.cm_io.specs.Writing.{then_bytes}
+use Rattle.cm_io.specs.WritingLaws.{then_nothing}
 use Rattle.cm_query.specs.Stops.{TextAfter}
 use Rattle.cm_query.specs.Texts.{line_of, text_of}
 use Rattle.cm_query.specs.declared.fault.QueryFault.{QueryFault}

@@ -1,6 +1,6 @@
 -- Laws of where a query stops, for those who call it.
 use Rattle.std.proofs.Common.{ℕ, arith, subst, sym}
-use Rattle.cm_outer.specs.Passes.{Told}
+use Rattle.cm_io.specs.Passes.{Told}
 use Rattle.cm_query.specs.Stops.{IsReached, StopsAt}
 use Rattle.cm_query.specs.declared.fault.QueryFault.{QueryFault}
 use Rattle.cm_query.specs.declared.fault.QueryFault.TheVariants.{Memory, Key, Write}

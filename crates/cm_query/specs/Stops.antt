@@ -1,9 +1,9 @@
 -- How a query ends.
 use Rattle.std.specs.Prelude.{◌≡◌, ◌<◌, ◌≤◌, ◌-◌, ◌++◌, [], ℕ, List, length, take, drop, Option, Some, Bool, true, false, Result, Ok, Err}
-use Rattle.cm_outer.specs.Causes.{Rose}
-use Rattle.cm_outer.specs.Passes.{Told, Ends, HasKeyCause}
-use Rattle.cm_outer.specs.Writing.{then_bytes}
-use Rattle.cm_outer.specs.declared.key_pass.KeyFault.TheVariants.{Read, TooLong, TooMany}
+use Rattle.cm_io.specs.Causes.{Rose}
+use Rattle.cm_io.specs.Passes.{Told, Ends, HasKeyCause}
+use Rattle.cm_io.specs.Writing.{then_bytes}
+use Rattle.cm_io.specs.declared.key_pass.KeyFault.TheVariants.{Read, TooLong, TooMany}
 use Rattle.cm_query.specs.Texts.{text_of}
 use Rattle.cm_query.specs.declared.fault.QueryFault.{QueryFault}
 use Rattle.cm_query.specs.declared.fault.QueryFault.TheVariants.{Memory, Key, Write}

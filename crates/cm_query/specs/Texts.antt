@@ -1,7 +1,7 @@
 -- What a query writes of keys with their lines, under a function from the bytes of a key to its answer.
 use Rattle.std.specs.Prelude.{ℕ, List, [], ◌∷◌, Option, None, Some, Bool, if◌then◌else◌, codes, decimal}
 use Rattle.std.specs.List.{flat_map}
-use Rattle.cm_outer.specs.Writing.{joined}
+use Rattle.cm_io.specs.Writing.{joined}
 use Rattle.cm_query.specs.Repeats.{is_repeated, with_earlier}
 
 -- the line of a key with an answer: the key, an arrow, the answer in decimal, and the byte that ends a line

@@ -1,7 +1,7 @@
 -- Keys that were taken together, and those of them that wait for their lines.
 use Rattle.std.specs.Prelude.{◌≡◌, ◌<◌, ◌≤◌, ◌+◌, ◌-◌, ◌++◌, ℕ, List, [], length, map, take, drop, All, Option, None, IfSome, Bool, true, false, Result, Ok, Err}
-use Rattle.cm_outer.specs.Passes.{Told, Ends, GivesKey}
-use Rattle.cm_outer.specs.declared.key_pass.KeyFault.{KeyFault}
+use Rattle.cm_io.specs.Passes.{Told, Ends, GivesKey}
+use Rattle.cm_io.specs.declared.key_pass.KeyFault.{KeyFault}
 use Rattle.cm_query.specs.declared.taken.Spot.{Spot}
 
 -- a key with its line and its place

@@ -1,9 +1,9 @@
 //! The answers of a function to the keys of a pass.
 ghost use Rattle.std.specs.Prelude.{◌≡◌, ◌⊎◌, ◌<◌, ◌≤◌, ◌+◌, ℕ, List, length, Err, IsTrue, IfOk, IfErr, OnOk, None, true, false};
 ghost use Rattle.std.specs.Option.{ForSome};
-ghost use Rattle.cm_outer.specs.Causes.{IsSent};
-ghost use Rattle.cm_outer.specs.Noting.{Noted};
-ghost use Rattle.cm_outer.specs.Writing.{then_bytes};
+ghost use Rattle.cm_io.specs.Causes.{IsSent};
+ghost use Rattle.cm_io.specs.Noting.{Noted};
+ghost use Rattle.cm_io.specs.Writing.{then_bytes};
 ghost use Rattle.cm_query.specs.Stops.{HasQueryCause, IsReached, is_usable_after, StopsAt, TextAfter, noted_keys};
 ghost use Rattle.cm_query.specs.Tallies.{tally_of};
 ghost use Rattle.cm_query.specs.Texts.{text_of, notes_of};
@@ -14,7 +14,7 @@ use crate::marks::mark;
 use crate::tally::Tally;
 use crate::writing::{LINE_END, note_key, write_line};
 use cm_bits::{Bits, Cells};
-use cm_outer::{Failed, KeyBuf, KeyPass, Notes, Sink};
+use cm_io::{Failed, KeyBuf, KeyPass, Notes, Sink};
 use cm_scheme::Answers;
 use itoa::Buffer;
 use std::alloc::Global;

@@ -1,12 +1,12 @@
 //! Keys that wait for their lines.
 ghost use Rattle.std.specs.Prelude.{◌≡◌, ◌<◌, ◌≤◌, ℕ, List, [], length, drop, slice_index_or, Option, Ok, Bool, true, false, IsTrue, ◌↔◌, OnOk, OnErr};
 ghost use Rattle.std.specs.Option.{ForSome};
-ghost use Rattle.cm_outer.specs.Passes.{HasKeyCause};
+ghost use Rattle.cm_io.specs.Passes.{HasKeyCause};
 ghost use Rattle.cm_query.specs.Waiting.{AreAnswers, Refills, RefillsBy, WaitingKeys};
 
 use crate::taken::{MOST, Taken};
 use arrayvec::ArrayVec;
-use cm_outer::{KeyBuf, KeyFault, KeyPass, MAX_KEYS};
+use cm_io::{KeyBuf, KeyFault, KeyPass, MAX_KEYS};
 use cm_scheme::Answers;
 use std::marker::Model;
 

@@ -1,5 +1,5 @@
 //! Why a query failed.
-use cm_outer::KeyFault;
+use cm_io::KeyFault;
 
 /// Why a query stopped before the end of its keys.
 #[derive(Clone, Copy, Debug, PartialEq, Eq)]

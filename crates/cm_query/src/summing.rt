@@ -1,13 +1,13 @@
 //! The sum of the answers of a function to the keys of a pass.
 ghost use Rattle.std.specs.Prelude.{◌≡◌, ◌≤◌, ◌<◌, ◌+◌, ◌*◌, ◌^◌, IfOk, IfErr, IsTrue};
 ghost use Rattle.std.specs.Option.{ForSome};
-ghost use Rattle.cm_outer.specs.Passes.{HasKeyCause};
+ghost use Rattle.cm_io.specs.Passes.{HasKeyCause};
 ghost use Rattle.cm_query.specs.Stops.{StopsAt};
 ghost use Rattle.cm_query.specs.Sums.{answer_sum};
 ghost use Rattle.cm_query.specs.declared.fault.QueryFault.TheVariants.{Key};
 
 use crate::batch::Batch;
-use cm_outer::{KeyBuf, KeyFault, KeyPass, MAX_KEYS};
+use cm_io::{KeyBuf, KeyFault, KeyPass, MAX_KEYS};
 use cm_scheme::Answers;
 
 /// The sum of the answers of a function to the keys of a pass that stands at its start. A key without an answer counts 0. Buffered keys

@@ -1,11 +1,11 @@
 //! Keys that are taken together, each with its line and its place.
 ghost use Rattle.std.specs.Prelude.{◌≡◌, ◌⊎◌, ◌<◌, ◌≤◌, ◌+◌, ◌-◌, ◌++◌, ℕ, List, [], ◌∷◌, length, map, take, slice_index_or, All, Option, IfSome, Ok, IfOk, OnOk, OnErr, Bool, true, false, IsTrue};
 ghost use Rattle.std.specs.Option.{ForSome};
-ghost use Rattle.cm_outer.specs.Passes.{HasKeyCause};
+ghost use Rattle.cm_io.specs.Passes.{HasKeyCause};
 ghost use Rattle.cm_query.specs.Waiting.{ArePlaces, Refills, RefillsBy, Spotted, Takes, TakenKeys, keys_of};
 
 use arrayvec::ArrayVec;
-use cm_outer::{KeyBuf, KeyFault, KeyPass, MAX_KEY_LEN, MAX_KEYS};
+use cm_io::{KeyBuf, KeyFault, KeyPass, MAX_KEY_LEN, MAX_KEYS};
 use cm_scheme::{Answers, Place};
 use std::marker::Model;
 

@@ -1,13 +1,13 @@
 //! What a query writes of one key.
 ghost use Rattle.std.specs.Prelude.{◌≡◌, ◌+◌, ◌++◌, ◌≤◌, ◌∷◌, [], ℕ, List, Option, Some, OnOk, false, true, codes, decimal, length};
-ghost use Rattle.cm_outer.specs.Causes.{HasCause};
-ghost use Rattle.cm_outer.specs.Noting.{Noted};
-ghost use Rattle.cm_outer.specs.Writing.{Writes, joined};
+ghost use Rattle.cm_io.specs.Causes.{HasCause};
+ghost use Rattle.cm_io.specs.Noting.{Noted};
+ghost use Rattle.cm_io.specs.Writing.{Writes, joined};
 ghost use Rattle.cm_query.specs.Texts.{line_of, note_of, repeated_note, unknown_note};
 ghost use Rattle.cm_query.specs.declared.writing.TheConstants.{LINE_END, SHORT_KEY};
 
 use arrayvec::ArrayVec;
-use cm_outer::{Failed, Notes, Sink, write_pieces};
+use cm_io::{Failed, Notes, Sink, write_pieces};
 use itoa::Buffer;
 
 /// The byte that ends a line of the text on out.

@@ -4,12 +4,12 @@ ghost use Rattle.std.specs.Prelude.{◌≡◌, ◌<◌, ◌≤◌, [], None, Som
 ghost use Rattle.std.specs.Io.KnownBytes.{Consumes, IsAtEnd};
 ghost use Rattle.std.specs.Io.Seek.{MovesTo};
 ghost use Rattle.std.specs.Option.{ForSome};
-ghost use Rattle.cm_outer.specs.Causes.{HasCause, HasDiskCause, Collects};
-ghost use Rattle.cm_outer.specs.Counts.{counted, counted_if};
+ghost use Rattle.cm_io.specs.Causes.{HasCause, HasDiskCause, Collects};
+ghost use Rattle.cm_io.specs.Counts.{counted, counted_if};
 ghost use Rattle.cm_real.specs.Spills.{spill_path_of};
 
 use crate::{FileSpill, StdSink};
-use cm_outer::{Disk, DiskFault, Failed, Sink, Source, Spill};
+use cm_io::{Disk, DiskFault, Failed, Sink, Source, Spill};
 use std::alloc::{AllocError, Global};
 use std::fs::OpenFile;
 use std::io::{ErrorKind, Read, Seek, SeekFrom};

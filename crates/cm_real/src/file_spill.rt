@@ -2,12 +2,12 @@
 //! adds the piece to them, and a read returns what comes next at the offset.
 ghost use Rattle.std.specs.Prelude.{◌≡◌, ◌≤◌, None, true, false, IfOk, IfSome, OnOk, length};
 ghost use Rattle.std.specs.Io.KnownBytes.{Appends};
-ghost use Rattle.cm_outer.specs.Causes.{HasCause};
-ghost use Rattle.cm_outer.specs.Writing.{Writes};
+ghost use Rattle.cm_io.specs.Causes.{HasCause};
+ghost use Rattle.cm_io.specs.Writing.{Writes};
 ghost use Rattle.cm_real.specs.Spills.{AppendsAtEnd, GivesFrom};
 
 use crate::file_disk::read_some;
-use cm_outer::{Failed, Spill};
+use cm_io::{Failed, Spill};
 use std::io::{Read, Seek, SeekFrom, Write};
 
 /// An open file with its path.

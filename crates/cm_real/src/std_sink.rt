@@ -2,12 +2,12 @@
 //! order.
 ghost use Rattle.std.specs.Prelude.{◌≡◌, ◌≢◌, ◌≤◌, ◌+◌, ◌++◌, [], None, true, length, IsOk, OnOk};
 ghost use Rattle.std.specs.Io.KnownBytes.{Appends, append_known};
-ghost use Rattle.cm_outer.specs.Causes.{HasCause};
-ghost use Rattle.cm_outer.specs.Writing.{Writes};
+ghost use Rattle.cm_io.specs.Causes.{HasCause};
+ghost use Rattle.cm_io.specs.Writing.{Writes};
 ghost use Rattle.cm_real.specs.declared.std_sink.TheConstants.{ROOM};
 
 use arrayvec::ArrayVec;
-use cm_outer::{Failed, Sink};
+use cm_io::{Failed, Sink};
 use std::io::Write;
 
 /// How many bytes a sink buffers at most.

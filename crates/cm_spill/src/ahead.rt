@@ -1,12 +1,12 @@
 //! Bytes of a spill that are read ahead.
-ghost use Rattle.std.specs.Prelude.{◌≡◌, ◌<◌, ◌≤◌, ◌^◌, ◌+◌, ◌++◌, [], ℕ, List, Option, length, take, drop, IfOk, IfSome, IfNone, OnOk, true, false};
+ghost use Rattle.std.specs.Prelude.{◌≡◌, ◌<◌, ◌≤◌, ◌^◌, ◌+◌, [], Option, length, take, drop, IfOk, IfSome, IfNone, OnOk, true, false};
 ghost use Rattle.std.specs.Option.{ForSome};
-ghost use Rattle.cm_outer.specs.Causes.{HasCause};
+ghost use Rattle.cm_io.specs.Causes.{HasCause};
 ghost use Rattle.cm_spill.specs.Reading.{IsAhead, IsHeaderAt};
 
 use crate::header::{HEADER, Header, read_header};
 use arrayvec::ArrayVec;
-use cm_outer::{Failed, Spill};
+use cm_io::{Failed, Spill};
 use std::alloc::{AllocError, Global};
 use std::marker::Model;
 

@@ -1,7 +1,7 @@
 ghost use Rattle.std.specs.Prelude.{◌≡◌};
 ghost use Rattle.cm_spill.specs.declared.fault.SpillError.TheVariants.{Memory, Failed as SpillFailed};
 
-use cm_outer::Failed;
+use cm_io::Failed;
 use std::alloc::{AllocError, AllocFailed};
 use thiserror::Error;
 

@@ -1,5 +1,5 @@
 //! A run in a spill, read record by record.
-ghost use Rattle.std.specs.Prelude.{◌≡◌, ◌<◌, ◌≤◌, ◌^◌, ◌+◌, ◌∷◌, [], ℕ, List, IfOk, IfErr, OnOk, OnErr, IsSome, Option, None, Some, MatchResult, true, false, length};
+ghost use Rattle.std.specs.Prelude.{◌≡◌, ◌<◌, ◌≤◌, ◌^◌, ◌+◌, ◌∷◌, [], List, IfOk, IfErr, OnOk, IsSome, Option, None, Some, MatchResult, true, false, length};
 ghost use Rattle.std.specs.Option.{ForSome};
 ghost use Rattle.cm_spill.specs.Records.{Record};
 ghost use Rattle.cm_spill.specs.Reading.{AreLeft, Finds, HasHeader, IsLineOf, IsWithin, Peeks, RunLeft, Takes};
@@ -9,7 +9,7 @@ ghost use Rattle.cm_spill.specs.Stores.{HasSpillCause, IsOfChecks, IsOfEnd, IsOf
 use crate::SpillError;
 use crate::ahead::Ahead;
 use crate::header::{HEADER, Header};
-use cm_outer::{KeyBuf, Spill};
+use cm_io::{KeyBuf, Spill};
 use std::alloc::{AllocError, Global};
 use std::marker::Model;
 

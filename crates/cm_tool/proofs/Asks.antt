@@ -9,14 +9,14 @@ use Rattle.cm_dump.specs.Spelling.{spelling_of}
 use Rattle.cm_dump.specs.declared.fault.LoadFault.{LoadFault}
 use Rattle.cm_dump.specs.declared.fault.LoadFault.TheVariants as faults
 use Rattle.cm_dump.specs.declared.writer.Func.{Func}
-use Rattle.cm_outer.specs.Causes.{Collects}
-use Rattle.cm_outer.specs.NotingLaws.{noted_all, noted_front}
-use Rattle.cm_outer.specs.Files.{Files, file_at}
-use Rattle.cm_outer.specs.Noting.{HasNoted}
-use Rattle.cm_outer.specs.Writing.{then_bytes}
-use Rattle.cm_outer.specs.declared.key_pass.KeyFault.{KeyFault}
-use Rattle.cm_outer.specs.declared.key_pass.KeyFault.TheVariants as key_fault
-use Rattle.cm_outer.specs.WritingLaws.{then_nothing}
+use Rattle.cm_io.specs.Causes.{Collects}
+use Rattle.cm_io.specs.NotingLaws.{noted_all, noted_front}
+use Rattle.cm_io.specs.Files.{Files, file_at}
+use Rattle.cm_io.specs.Noting.{HasNoted}
+use Rattle.cm_io.specs.Writing.{then_bytes}
+use Rattle.cm_io.specs.declared.key_pass.KeyFault.{KeyFault}
+use Rattle.cm_io.specs.declared.key_pass.KeyFault.TheVariants as key_fault
+use Rattle.cm_io.specs.WritingLaws.{then_nothing}
 use Rattle.cm_query.specs.Stops.{StopsAt, TextAfter, noted_keys}
 use Rattle.cm_query.specs.Tallies.{tally_of}
 use Rattle.cm_query.specs.Texts.{notes_of, text_of}

@@ -11,19 +11,20 @@ use Rattle.cm_algorithm.specs.declared.algorithm.Algorithm.TheVariants as algori
 use Rattle.cm_bdz.specs.Functions.{Bdz, BdzPh}
 use Rattle.cm_bdz.specs.Numbering.{bdz_under, bdz_ph_under}
 use Rattle.cm_brz.specs.BrzOf.{IsBrzOf}
-use Rattle.cm_brz.specs.Fails.{FailsBrz, HasBrzForm, HasKeysCause, HasSpillCause, IsCoredBucket, IsDamage, IsOverfull}
+use Rattle.cm_brz.specs.Fails.{FailsBrz, HasBrzForm, IsCoredBucket, IsDamage, IsOverfull}
+use Rattle.cm_split.specs.Faults.{HasKeysCause, HasSpillCause}
 use Rattle.cm_brz.specs.Found.{AllOverfull, brz_under, bucket_report, first_cored, overfull_report}
 use Rattle.cm_brz.specs.Reports.{overfull_text}
-use Rattle.cm_brz.specs.Split.{split_of}
-use Rattle.cm_brz.specs.declared.fault.BrzFault.{BrzFault}
-use Rattle.cm_brz.specs.declared.fault.BrzFault.TheVariants as brz_fault
+use Rattle.cm_split.specs.Split.{split_of}
+use Rattle.cm_split.specs.declared.fault.BrzFault.{BrzFault}
+use Rattle.cm_split.specs.declared.fault.BrzFault.TheVariants as brz_fault
 use Rattle.cm_buckets.specs.Functions.{Brz, IsBrz, bucket_count}
 use Rattle.cm_dump.specs.declared.writer.Func.{Func}
 use Rattle.cm_dump.specs.declared.writer.Func.TheVariants as func
-use Rattle.cm_outer.specs.Causes.{Collects}
-use Rattle.cm_outer.specs.Files.{Files, file_at, with_file}
-use Rattle.cm_outer.specs.Passes.{Told}
-use Rattle.cm_outer.specs.declared.key_pass.KeyFault.TheVariants as key_fault
+use Rattle.cm_io.specs.Causes.{Collects}
+use Rattle.cm_io.specs.Files.{Files, file_at, with_file}
+use Rattle.cm_io.specs.Passes.{Told}
+use Rattle.cm_io.specs.declared.key_pass.KeyFault.TheVariants as key_fault
 use Rattle.cm_peel.specs.CoreLaws.{rest_is_core}
 use Rattle.cm_spec.specs.Bdz.{bdz_rule, bdz_ph_rule}
 use Rattle.cm_spec.specs.Built.{IsFirst, cells_under, chm_under, first_seed}

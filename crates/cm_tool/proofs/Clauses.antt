@@ -3,9 +3,9 @@ use Rattle.std.proofs.Common.{◌≡◌, ◌≢◌, ◌⊎◌, ◌↔◌, ℕ, �
 use Rattle.std.proofs.lemmas.Bool.{false≢true}
 use Rattle.cm_algorithm.specs.declared.algorithm.Algorithm.{Algorithm}
 use Rattle.cm_algorithm.specs.declared.algorithm.Algorithm.TheVariants.{Chm, Bdz, BdzPh, Brz}
-use Rattle.cm_outer.specs.Causes.{IsSent}
-use Rattle.cm_outer.specs.Writing.{then_bytes}
-use Rattle.cm_outer.specs.WritingLaws.{then_nothing}
+use Rattle.cm_io.specs.Causes.{IsSent}
+use Rattle.cm_io.specs.Writing.{then_bytes}
+use Rattle.cm_io.specs.WritingLaws.{then_nothing}
 use Rattle.cm_spec.specs.Lists.{has}
 use Rattle.cm_tool.specs.Ends.{usage_status_of}
 use Rattle.cm_tool.specs.Run.{ForBuild, ForQuery, ForTest, ForText, UnlessBrz, UnlessBuild, UnlessJob, UnlessQuery, UnlessTest}

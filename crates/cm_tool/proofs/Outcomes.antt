@@ -4,11 +4,11 @@ use Rattle.std.specs.Cmp.{eq_by_cmp_equiv}
 use Rattle.std.specs.Cmp.Lexicographic.{nat_list_cmp_total}
 use Rattle.std.specs.Option.{option_map}
 use Rattle.std.specs.FinMap as map
-use Rattle.cm_outer.specs.Causes.{Collects, Rose}
-use Rattle.cm_outer.specs.Files.{Files, file_at, with_file}
-use Rattle.cm_outer.specs.declared.key_pass.KeyFault.{KeyFault}
-use Rattle.cm_outer.specs.declared.key_pass.KeyFault.TheVariants as key_fault
-use Rattle.cm_outer.specs.WritingLaws.{then_nothing}
+use Rattle.cm_io.specs.Causes.{Collects, Rose}
+use Rattle.cm_io.specs.Files.{Files, file_at, with_file}
+use Rattle.cm_io.specs.declared.key_pass.KeyFault.{KeyFault}
+use Rattle.cm_io.specs.declared.key_pass.KeyFault.TheVariants as key_fault
+use Rattle.cm_io.specs.WritingLaws.{then_nothing}
 use Rattle.cm_tool.specs.Ends.{Says, message_of, status_of}
 use Rattle.cm_tool.specs.Faults.{HasNone, HasStopForm}
 use Rattle.cm_tool.specs.Jobs.{seeds_tried}

@@ -9,13 +9,13 @@ use Rattle.cm_keys.specs.Lines.{lines_of}
 use Rattle.cm_made.specs.Numbered.{AreMade}
 use Rattle.cm_made.specs.Texts.{made_text}
 use Rattle.cm_numbers.specs.Options.{algorithms, usual_ratio}
-use Rattle.cm_outer.specs.Causes.{IsSent}
-use Rattle.cm_outer.specs.Files.{Files}
-use Rattle.cm_outer.specs.Passes.{HasKeyCause}
-use Rattle.cm_outer.specs.Writing.{then_bytes}
-use Rattle.cm_outer.specs.WritingLaws.{front_of_first, later_front, then_nothing, then_twice}
-use Rattle.cm_outer.specs.declared.key_pass.KeyFault.{KeyFault}
-use Rattle.cm_outer.specs.declared.key_pass.KeyFault.TheVariants as key_fault
+use Rattle.cm_io.specs.Causes.{IsSent}
+use Rattle.cm_io.specs.Files.{Files}
+use Rattle.cm_io.specs.Passes.{HasKeyCause}
+use Rattle.cm_io.specs.Writing.{then_bytes}
+use Rattle.cm_io.specs.WritingLaws.{front_of_first, later_front, then_nothing, then_twice}
+use Rattle.cm_io.specs.declared.key_pass.KeyFault.{KeyFault}
+use Rattle.cm_io.specs.declared.key_pass.KeyFault.TheVariants as key_fault
 use Rattle.cm_query.specs.Stops.{StopsAt}
 use Rattle.cm_query.specs.Sums.{answer_sum}
 use Rattle.cm_query.specs.declared.fault.QueryFault.TheVariants.{Key}

@@ -2,10 +2,10 @@
 use Rattle.std.proofs.Common.{◌≡◌, ◌≢◌, ◌∙◌, ◌⊎◌, ℕ, List, [], length, take, Option, None, Some, Result, Ok, Err, inl, inr, refl, ap, sym, subst, arith}
 use Rattle.std.proofs.lemmas.List.{take_all}
 use Rattle.cm_algorithm.specs.declared.algorithm.Algorithm.TheVariants.{Chm}
-use Rattle.cm_outer.specs.Files.{Files}
-use Rattle.cm_outer.specs.Writing.{Writes, then_bytes}
-use Rattle.cm_outer.specs.declared.fault.Failed.{Failed}
-use Rattle.cm_outer.specs.WritingLaws.{then_nothing}
+use Rattle.cm_io.specs.Files.{Files}
+use Rattle.cm_io.specs.Writing.{Writes, then_bytes}
+use Rattle.cm_io.specs.declared.fault.Failed.{Failed}
+use Rattle.cm_io.specs.WritingLaws.{then_nothing}
 use Rattle.cm_tool.specs.Ends.{Says, usage_status_of}
 use Rattle.cm_tool.specs.Messages.{out_of_memory, usage_message}
 use Rattle.cm_tool.specs.Outcome.{Outcome, job_outcome, printing, refusal}

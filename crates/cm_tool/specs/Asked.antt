@@ -5,11 +5,11 @@ use Rattle.cm_dump.specs.Spelling.{spelling_of}
 use Rattle.cm_dump.specs.declared.fault.LoadFault.{LoadFault}
 use Rattle.cm_dump.specs.declared.fault.LoadFault.TheVariants as faults
 use Rattle.cm_dump.specs.declared.writer.Func.{Func}
-use Rattle.cm_outer.specs.Causes.{Rose}
-use Rattle.cm_outer.specs.Files.{Files, file_at}
-use Rattle.cm_outer.specs.Writing.{then_bytes}
-use Rattle.cm_outer.specs.declared.key_pass.KeyFault.{KeyFault}
-use Rattle.cm_outer.specs.declared.key_pass.KeyFault.TheVariants as key_fault
+use Rattle.cm_io.specs.Causes.{Rose}
+use Rattle.cm_io.specs.Files.{Files, file_at}
+use Rattle.cm_io.specs.Writing.{then_bytes}
+use Rattle.cm_io.specs.declared.key_pass.KeyFault.{KeyFault}
+use Rattle.cm_io.specs.declared.key_pass.KeyFault.TheVariants as key_fault
 use Rattle.cm_query.specs.Tallies.{tally_of}
 use Rattle.cm_query.specs.Texts.{notes_of, text_of}
 use Rattle.cm_query.specs.declared.fault.QueryFault.{QueryFault}

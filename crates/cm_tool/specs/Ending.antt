@@ -1,8 +1,8 @@
 -- What a job comes to.
 use Rattle.std.specs.Prelude.{ℕ, List, [], Option}
 use Rattle.cm_keys.specs.Lines.{lines_of}
-use Rattle.cm_outer.specs.Files.{Files}
-use Rattle.cm_outer.specs.Passes.{Told}
+use Rattle.cm_io.specs.Files.{Files}
+use Rattle.cm_io.specs.Passes.{Told}
 use Rattle.cm_tool.specs.Messages.{reason_message}
 use Rattle.cm_tool.specs.Verdict.{Shown}
 

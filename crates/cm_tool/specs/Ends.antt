@@ -1,6 +1,6 @@
 -- The status and the message of a job that stopped.
 use Rattle.std.specs.Prelude.{◌≡◌, ◌<◌, ◌^◌, ℕ, List, take, Option}
-use Rattle.cm_outer.specs.Writing.{then_bytes}
+use Rattle.cm_io.specs.Writing.{then_bytes}
 use Rattle.cm_tool.specs.declared.stop.Stop.{Stop}
 use Rattle.cm_tool.specs.declared.stop.Stop.TheVariants.{Memory, Read, Write, WriteOut, Refused, Changed, Spill, SpillDamaged, NoKeys, TooLong, TooMany}
 use Rattle.cm_tool.specs.declared.stop.QueryStop.{QueryStop}

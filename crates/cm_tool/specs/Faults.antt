@@ -1,17 +1,17 @@
 -- Why there is no function of keys.
 use Rattle.std.specs.Prelude.{◌≡◌, ◌≢◌, ◌<◌, ◌≤◌, ◌+◌, ℕ, List, [], length, Option, None, Some, Result, Ok, Err}
-use Rattle.cm_algo.specs.Fails.{IsToldFault}
+use Rattle.cm_io.specs.Passes.{IsToldFault}
 use Rattle.cm_algo.specs.declared.fault.BuildFault.{BuildFault}
 use Rattle.cm_algo.specs.declared.fault.BuildFault.TheVariants as build_fault
 use Rattle.cm_algorithm.specs.declared.algorithm.Algorithm.{Algorithm}
 use Rattle.cm_algorithm.specs.declared.algorithm.Algorithm.TheVariants.{Brz}
 use Rattle.cm_brz.specs.Reports.{overfull_text}
-use Rattle.cm_brz.specs.declared.fault.BrzFault.{BrzFault}
-use Rattle.cm_brz.specs.declared.fault.BrzFault.TheVariants as brz_fault
-use Rattle.cm_outer.specs.Causes.{Rose}
-use Rattle.cm_outer.specs.Passes.{HasKeyCause, Told}
-use Rattle.cm_outer.specs.declared.key_pass.KeyFault.{KeyFault}
-use Rattle.cm_outer.specs.declared.key_pass.KeyFault.TheVariants as key_fault
+use Rattle.cm_split.specs.declared.fault.BrzFault.{BrzFault}
+use Rattle.cm_split.specs.declared.fault.BrzFault.TheVariants as brz_fault
+use Rattle.cm_io.specs.Causes.{Rose}
+use Rattle.cm_io.specs.Passes.{HasKeyCause, Told}
+use Rattle.cm_io.specs.declared.key_pass.KeyFault.{KeyFault}
+use Rattle.cm_io.specs.declared.key_pass.KeyFault.TheVariants as key_fault
 use Rattle.cm_tool.specs.Seeds.{NoneWorks}
 use Rattle.cm_tool.specs.Verdict.{Shown, verdict_by}
 use Rattle.cm_tool.specs.declared.fault.FuncFault.{FuncFault}

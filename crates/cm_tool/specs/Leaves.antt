@@ -5,11 +5,11 @@ use Rattle.cm_algorithm.specs.declared.algorithm.Algorithm.{Algorithm}
 use Rattle.cm_dump.specs.Dumps.{dump_of}
 use Rattle.cm_dump.specs.Functions.{IsFunction}
 use Rattle.cm_dump.specs.declared.writer.Func.{Func}
-use Rattle.cm_outer.specs.Causes.{Rose}
-use Rattle.cm_outer.specs.Files.{Files, file_at, with_file}
-use Rattle.cm_outer.specs.Passes.{Told}
-use Rattle.cm_outer.specs.Writing.{then_bytes}
-use Rattle.cm_outer.specs.declared.key_pass.KeyFault.TheVariants as key_fault
+use Rattle.cm_io.specs.Causes.{Rose}
+use Rattle.cm_io.specs.Files.{Files, file_at, with_file}
+use Rattle.cm_io.specs.Passes.{Told}
+use Rattle.cm_io.specs.Writing.{then_bytes}
+use Rattle.cm_io.specs.declared.key_pass.KeyFault.TheVariants as key_fault
 use Rattle.cm_spec.specs.Built.{cells_under, first_seed, IsFirst}
 use Rattle.cm_spec.specs.Rule.{IsCount, Rule}
 use Rattle.cm_tool.specs.Faults.{HasNone, shown_core, shown_overfull, stop_for}

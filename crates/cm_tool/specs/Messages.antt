@@ -5,7 +5,7 @@ use Rattle.cm_algorithm.specs.declared.algorithm.Algorithm.{Algorithm}
 use Rattle.cm_algorithm.specs.declared.algorithm.Algorithm.TheVariants.{Brz}
 use Rattle.cm_dump.specs.declared.fault.LoadFault.{LoadFault}
 use Rattle.cm_dump.specs.declared.fault.LoadFault.TheVariants as faults
-use Rattle.cm_outer.specs.Writing.{joined}
+use Rattle.cm_io.specs.Writing.{joined}
 use Rattle.cm_tool.specs.declared.built.Summary.{Summary}
 use Rattle.cm_tool.specs.declared.stop.Reason.{Reason}
 use Rattle.cm_tool.specs.declared.stop.Reason.TheVariants.{NoSeed, NoSeedFor, NoSplit}

@@ -7,9 +7,9 @@ use Rattle.cm_dump.specs.Functions.{answer_by}
 use Rattle.cm_dump.specs.Spelling.{spelling_of}
 use Rattle.cm_dump.specs.declared.fault.LoadFault.{LoadFault}
 use Rattle.cm_dump.specs.declared.writer.Func.{Func}
-use Rattle.cm_outer.specs.Files.{Files, file_at}
-use Rattle.cm_outer.specs.declared.key_pass.KeyFault.{KeyFault}
-use Rattle.cm_outer.specs.declared.key_pass.KeyFault.TheVariants.{Read, TooLong, TooMany}
+use Rattle.cm_io.specs.Files.{Files, file_at}
+use Rattle.cm_io.specs.declared.key_pass.KeyFault.{KeyFault}
+use Rattle.cm_io.specs.declared.key_pass.KeyFault.TheVariants.{Read, TooLong, TooMany}
 use Rattle.cm_query.specs.Texts.{notes_of, text_of}
 pub use Rattle.cm_tool.specs.Ending.{Outcome, keys_in, printing, refusal, reporting}
 use Rattle.cm_tool.specs.Jobs.{summary_of}

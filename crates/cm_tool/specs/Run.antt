@@ -11,9 +11,9 @@ use Rattle.cm_dump.specs.Spelling.{spelling_of}
 use Rattle.cm_dump.specs.declared.fault.LoadFault.{LoadFault}
 use Rattle.cm_dump.specs.declared.writer.Func.{Func}
 use Rattle.cm_dump.specs.declared.writer.Func.TheVariants as func
-use Rattle.cm_outer.specs.Causes.{Rose}
-use Rattle.cm_outer.specs.Files.{Files, file_at, with_file}
-use Rattle.cm_outer.specs.Writing.{then_bytes}
+use Rattle.cm_io.specs.Causes.{Rose}
+use Rattle.cm_io.specs.Files.{Files, file_at, with_file}
+use Rattle.cm_io.specs.Writing.{then_bytes}
 use Rattle.cm_spec.specs.Lists.{has}
 use Rattle.cm_tool.specs.Asked.{AskedPart, GotNothing, Spells, keys_at}
 use Rattle.cm_tool.specs.Ends.{Says}

@@ -2,8 +2,8 @@
 use Rattle.std.specs.Prelude.{◌≡◌, ℕ, List, length, Option, Some}
 use Rattle.cm_algorithm.specs.declared.algorithm.Algorithm.{Algorithm}
 use Rattle.cm_algorithm.specs.declared.algorithm.Algorithm.TheVariants.{Brz}
-use Rattle.cm_brz.specs.Puts.{records_under}
-use Rattle.cm_brz.specs.Spilled.{AreSpilled}
+use Rattle.cm_split.specs.Puts.{records_under}
+use Rattle.cm_split.specs.Spilled.{AreSpilled}
 use Rattle.cm_dump.specs.declared.writer.Func.{Func}
 use Rattle.cm_dump.specs.declared.writer.Func.TheVariants as func
 

@@ -2,9 +2,9 @@
 use Rattle.std.specs.Prelude.{◌≡◌, ◌≢◌, ◌⊎◌, ◌++◌, ℕ, List, [], ◌∷◌, codes, take, Option, Result, Ok, Err}
 use Rattle.cm_algorithm.specs.declared.algorithm.Algorithm.{Algorithm}
 use Rattle.cm_algorithm.specs.declared.algorithm.Algorithm.TheVariants.{Chm, Bdz, BdzPh}
-use Rattle.cm_outer.specs.Causes.{Rose}
-use Rattle.cm_outer.specs.Files.{Files}
-use Rattle.cm_outer.specs.Writing.{then_bytes}
+use Rattle.cm_io.specs.Causes.{Rose}
+use Rattle.cm_io.specs.Files.{Files}
+use Rattle.cm_io.specs.Writing.{then_bytes}
 use Rattle.cm_tool.specs.Faults.{HasStopForm, IsReasonBy, UsesSpill, shown_core, shown_overfull}
 use Rattle.cm_tool.specs.Messages.{cannot_use_spill, cannot_write_out, keys_changed, line_too_long, no_keys, out_of_memory, reason_message, spill_damaged, too_many_keys}
 use Rattle.cm_tool.specs.Ending.{Outcome}

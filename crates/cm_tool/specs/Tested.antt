@@ -8,9 +8,9 @@ use Rattle.cm_dump.specs.Functions.{answer_by}
 use Rattle.cm_dump.specs.declared.writer.Func.{Func}
 use Rattle.cm_made.specs.Texts.{made_text}
 use Rattle.cm_numbers.specs.Options.{algorithms, usual_ratio}
-use Rattle.cm_outer.specs.Files.{Files}
-use Rattle.cm_outer.specs.Passes.{Told}
-use Rattle.cm_outer.specs.Writing.{joined}
+use Rattle.cm_io.specs.Files.{Files}
+use Rattle.cm_io.specs.Passes.{Told}
+use Rattle.cm_io.specs.Writing.{joined}
 use Rattle.cm_query.specs.Sums.{answer_sum}
 use Rattle.cm_tool.specs.Ending.{Outcome, keys_in, printing, reporting}
 use Rattle.cm_tool.specs.Jobs.{seeds_of}

@@ -1,6 +1,6 @@
 -- What is printed if arguments ask for the help or the version.
 use Rattle.std.specs.Prelude.{ℕ, List, [], ◌∷◌, codes}
-use Rattle.cm_outer.specs.Writing.{joined}
+use Rattle.cm_io.specs.Writing.{joined}
 
 abbrev pub help_text : List ℕ
 help_text = joined (

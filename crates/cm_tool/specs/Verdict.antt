@@ -4,7 +4,7 @@ use Rattle.cm_algorithm.specs.declared.algorithm.Algorithm.{Algorithm}
 use Rattle.cm_algorithm.specs.declared.algorithm.Algorithm.TheVariants.{Chm, Bdz, BdzPh, Brz}
 use Rattle.cm_bdz.specs.Numbering.{bdz_under, bdz_ph_under}
 use Rattle.cm_brz.specs.Found.{brz_under, bucket_report, first_cored, overfull_report}
-use Rattle.cm_brz.specs.Split.{split_of}
+use Rattle.cm_split.specs.Split.{split_of}
 use Rattle.cm_buckets.specs.Functions.{bucket_count}
 use Rattle.cm_dump.specs.declared.writer.Func.{Func}
 use Rattle.cm_dump.specs.declared.writer.Func.TheVariants as func

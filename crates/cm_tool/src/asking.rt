@@ -2,16 +2,16 @@
 ghost use Rattle.std.specs.Prelude.{◌≡◌, ◌+◌, ◌≤◌, ℕ, List, Err, IfOk, false};
 ghost use Rattle.std.specs.Option.{ForSome};
 ghost use Rattle.cm_dump.specs.Functions.{answer_by};
-ghost use Rattle.cm_outer.specs.Causes.{IsSent};
-ghost use Rattle.cm_outer.specs.Noting.{Noted};
+ghost use Rattle.cm_io.specs.Causes.{IsSent};
+ghost use Rattle.cm_io.specs.Noting.{Noted};
 ghost use Rattle.cm_tool.specs.Asked.{EndsKeys, HasQueryStopCause, stop_from_query};
 ghost use Rattle.cm_tool.specs.declared.stop.QueryStop.{QueryStop};
 ghost use Rattle.cm_words.specs.declared.jobs.QueryJob.{QueryJob};
 
 use crate::stop::QueryStop;
 use cm_dump::Func;
+use cm_io::{Disk, DiskFault, KeyFault, Notes, Sink};
 use cm_keys::Keys;
-use cm_outer::{Disk, DiskFault, KeyFault, Notes, Sink};
 use cm_query::{QueryFault, Tally, query};
 use cm_words::QueryJob;
 use std::alloc::Global;

@@ -4,7 +4,7 @@ ghost use Rattle.cm_tool.specs.Faults.{fault_from_build, fault_from_brz};
 
 use cm_algo::BuildFault;
 use cm_brz::BrzFault;
-use cm_outer::KeyFault;
+use cm_io::KeyFault;
 use cm_witness::{Certificate, Pair};
 
 /// Why there is no function of the keys of a pass.

@@ -21,7 +21,7 @@ use cm_brz::verdicts;
 use cm_chm::{Chm, ChmScheme};
 use cm_dump::Func;
 use cm_graph::{Steps, Xored};
-use cm_outer::{Disk, DiskFault, KeyPass};
+use cm_io::{Disk, DiskFault, KeyPass};
 use cm_words::Text;
 use std::alloc::Global;
 use std::sync::ledger::{Blank, Ledger};

@@ -1,6 +1,6 @@
 //! A law of builds. Its body calls the laws that it follows from, and does nothing else.
 ghost use Rattle.std.specs.Prelude.{◌≡◌, ℕ, List, Option, Ok, Some};
-ghost use Rattle.cm_outer.specs.Files.{Files};
+ghost use Rattle.cm_io.specs.Files.{Files};
 ghost use Rattle.cm_tool.specs.Leaves.{Leaves};
 ghost use Rattle.cm_tool.specs.Run.{SavedNumbers};
 ghost use Rattle.cm_tool.specs.declared.built.Summary.{Summary};

@@ -5,7 +5,7 @@ ghost use Rattle.cm_tool.specs.Asked.{HasQueryStopCause, RefusesDump, Spells, st
 
 use crate::stop::QueryStop;
 use cm_dump::{Func, LoadFault, load};
-use cm_outer::{Disk, DiskFault};
+use cm_io::{Disk, DiskFault};
 use std::alloc::Global;
 
 /// Why a failed load stops a query.

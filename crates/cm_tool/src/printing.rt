@@ -1,13 +1,13 @@
 //! The help and the version.
 ghost use Rattle.std.specs.Prelude.{◌≡◌, ◌<◌, ◌≤◌, ◌^◌, ◌↔◌, ◌⊎◌, ℕ, List, OnOk, Option, take};
-ghost use Rattle.cm_outer.specs.Causes.{HasCause, IsSent};
-ghost use Rattle.cm_outer.specs.Writing.{Writes, then_bytes};
+ghost use Rattle.cm_io.specs.Causes.{HasCause, IsSent};
+ghost use Rattle.cm_io.specs.Writing.{Writes, then_bytes};
 ghost use Rattle.cm_tool.specs.Ends.{Says};
 ghost use Rattle.cm_tool.specs.Run.{IsPrintMessage};
 ghost use Rattle.cm_tool.specs.Texts.{help_text, version_text};
 
 use crate::report::say;
-use cm_outer::{Failed, Sink, write_pieces};
+use cm_io::{Failed, Sink, write_pieces};
 
 /// Prints how the program is used. Fails exactly if out does, which has then taken a prefix of the text. Allocates no memory.
 pub fn print_help<O: Sink>(out: &mut O) -> Result<(), Failed>

@@ -1,8 +1,8 @@
 //! Queries.
 ghost use Rattle.std.specs.Prelude.{◌≡◌, ◌≢◌, ◌<◌, ◌≤◌, ◌^◌, ◌⊎◌, ◌↔◌, ◌+◌, ◌++◌, ℕ, List, Ok, Err, None, false};
 ghost use Rattle.std.specs.Option.{ForSome};
-ghost use Rattle.cm_outer.specs.Causes.{IsSent};
-ghost use Rattle.cm_outer.specs.Noting.{Noted};
+ghost use Rattle.cm_io.specs.Causes.{IsSent};
+ghost use Rattle.cm_io.specs.Noting.{Noted};
 ghost use Rattle.cm_tool.specs.Asked.{EndsQuery, HasQueryStopCause};
 ghost use Rattle.cm_tool.specs.Ends.{Says};
 ghost use Rattle.cm_tool.specs.Outcome.{job_outcome};
@@ -14,7 +14,7 @@ use crate::asking::ask_keys;
 use crate::loading::load_file;
 use crate::report::report_query;
 use crate::stop::QueryStop;
-use cm_outer::{Disk, Notes, Sink};
+use cm_io::{Disk, Notes, Sink};
 use cm_query::{Tally, noted_exactly};
 use cm_words::QueryJob;
 use std::alloc::Global;

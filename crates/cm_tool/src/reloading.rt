@@ -5,7 +5,8 @@ ghost use Rattle.cm_dump.specs.Functions.{IsFunction};
 
 use cm_dump::laws::dumps_spell;
 use cm_dump::{Func, LoadFault, load, save, saved_len};
-use cm_outer::{Failed, MemSink, MemSource};
+use cm_io::Failed;
+use cm_outer::{MemSink, MemSource};
 use std::alloc::{AllocError, Global};
 
 /// The dump of a function, in a buffer of its size.

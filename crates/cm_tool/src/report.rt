@@ -1,8 +1,8 @@
 //! What is said on err.
 ghost use Rattle.std.specs.Prelude.{◌≡◌, List, [], ◌∷◌, ℕ, codes, false, map, Result};
-ghost use Rattle.cm_outer.specs.Causes.{IsSent};
-ghost use Rattle.cm_outer.specs.Noting.{Noted};
-ghost use Rattle.cm_outer.specs.Writing.{joined};
+ghost use Rattle.cm_io.specs.Causes.{IsSent};
+ghost use Rattle.cm_io.specs.Noting.{Noted};
+ghost use Rattle.cm_io.specs.Writing.{joined};
 ghost use Rattle.cm_tool.specs.Ends.{Says, status_of, message_of, query_status_of, query_message_of, usage_status_of};
 ghost use Rattle.cm_tool.specs.Messages.{bad_dump, built, built_message, cannot_read, cannot_write_out, counted, fault_place, fault_words, keys_changed, line_too_long, out_of_memory, reason_message, spill_damaged, too_many_keys, usage_message};
 
@@ -10,7 +10,7 @@ use crate::built::Summary;
 use crate::stop::{QueryStop, Reason, Stop};
 use cm_algorithm::Algorithm;
 use cm_dump::LoadFault;
-use cm_outer::{Notes, Sink};
+use cm_io::{Notes, Sink};
 use cm_words::{BuildJob, QueryJob, UsageFault};
 use itoa::Buffer;
 

@@ -1,11 +1,11 @@
 //! A function, saved as a file.
 ghost use Rattle.std.specs.Prelude.{◌≡◌};
 ghost use Rattle.cm_dump.specs.Dumps.{dump_of};
-ghost use Rattle.cm_outer.specs.Causes.{HasDiskCause};
+ghost use Rattle.cm_io.specs.Causes.{HasDiskCause};
 ghost use Rattle.cm_tool.specs.Stores.{Stores};
 
 use cm_dump::{Func, save};
-use cm_outer::{Disk, DiskFault, Failed};
+use cm_io::{Disk, DiskFault, Failed};
 
 /// Makes the path hold the dump of a function.
 pub(crate) fn store<D: Disk>(path: &str, function: &Func, disk: &mut D) -> Result<(), DiskFault>

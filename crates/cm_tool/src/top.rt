@@ -1,8 +1,8 @@
 //! The top call.
 ghost use Rattle.std.specs.Prelude.{[], ◌≡◌, ◌≢◌, ◌<◌, ◌^◌, ◌⊎◌, ◌↔◌, ◌++◌, ℕ, List, None, map, string_bytes, take};
 ghost use Rattle.std.specs.Option.{ForSome};
-ghost use Rattle.cm_outer.specs.Causes.{IsSent};
-ghost use Rattle.cm_outer.specs.Writing.{then_bytes};
+ghost use Rattle.cm_io.specs.Causes.{IsSent};
+ghost use Rattle.cm_io.specs.Writing.{then_bytes};
 ghost use Rattle.cm_tool.specs.Ends.{Says};
 ghost use Rattle.cm_tool.specs.Outcome.{outcome_of};
 ghost use Rattle.cm_tool.specs.Run.{IsStatus, ForBuild, ForQuery, ForTest, ForText, IfBuild, IsEmptied, UnlessBrz, UnlessBuild, UnlessJob, UnlessQuery, UnlessTest, LacksFile, Reaches, TookFirst, SavedNumbers, KeysSpilled, IsCored, IsUnfinished, IsCutShort, IsMessage};
@@ -15,7 +15,7 @@ use crate::printing::{end_of_text, print_help, print_version};
 use crate::querying::run_query;
 use crate::report::report_usage;
 use crate::testing::run_test;
-use cm_outer::{Disk, Sink};
+use cm_io::{Disk, Sink};
 use cm_words::{Job, read_words};
 use std::alloc::Global;
 

@@ -3,9 +3,9 @@ use Rattle.std.proofs.Common.{◌≡◌, ◌∙◌, ℕ, ◌+◌, ◌<◌, ◌�
 use Rattle.std.proofs.lemmas.Bool.{false≢true}
 use Rattle.std.proofs.lemmas.List.{get_or-drop, map_more, take_all, take_more}
 use Rattle.std.proofs.lemmas.Option.{get_or_from_slice_get}
-use Rattle.cm_outer.specs.Passes.{Told, GivesKey}
-use Rattle.cm_outer.specs.declared.key_pass.KeyFault.{KeyFault}
-use Rattle.cm_outer.specs.declared.key_pass.KeyFault.TheVariants.{Read, TooLong, TooMany}
+use Rattle.cm_io.specs.Passes.{Told, GivesKey}
+use Rattle.cm_io.specs.declared.key_pass.KeyFault.{KeyFault}
+use Rattle.cm_io.specs.declared.key_pass.KeyFault.TheVariants.{Read, TooLong, TooMany}
 use Rattle.cm_spec.specs.Graph.{ends_at}
 use Rattle.cm_witness.specs.Candidates.{FindsEqual, is_twice}
 use Rattle.cm_witness.specs.Cores.{EqualKeysMeet, core_edge, core_edges, keys_at}

@@ -2,9 +2,9 @@
 use Rattle.std.proofs.Common.{◌≡◌, ◌∙◌, ℕ, ◌+◌, ◌<◌, List, ◌∷◌, [], ◌++◌, length, take, drop, get_or, map, ap, sym, append_assoc, append-nil, Option, Result}
 use Rattle.std.proofs.lemmas.List.{map-append, take-append-drop, take_more}
 use Rattle.std.specs.Prelude.{IsErr}
-use Rattle.cm_outer.specs.declared.fault.Failed.{Failed}
-use Rattle.cm_outer.specs.Writing.{Writes, joined, then_bytes}
-use Rattle.cm_outer.specs.WritingLaws.{then_twice, writes_then, front_of_first, writes_front, joined-append}
+use Rattle.cm_io.specs.declared.fault.Failed.{Failed}
+use Rattle.cm_io.specs.Writing.{Writes, joined, then_bytes}
+use Rattle.cm_io.specs.WritingLaws.{then_twice, writes_then, front_of_first, writes_front, joined-append}
 
 -- the lines of some items and then of others
 lines-append : {X : Type 0} (f : X → List ℕ) (xs ys : List X) → joined (map f (xs ++ ys)) ≡ joined (map f xs) ++ joined (map f ys)

@@ -2,7 +2,7 @@
 use Rattle.std.specs.Prelude.{ℕ, List, [], ◌∷◌, ◌++◌, length, map, Option, None, Some, codes, decimal}
 use Rattle.cm_algorithm.specs.Names.{name_of}
 use Rattle.cm_algorithm.specs.declared.algorithm.Algorithm.{Algorithm}
-use Rattle.cm_outer.specs.Writing.{joined}
+use Rattle.cm_io.specs.Writing.{joined}
 use Rattle.cm_spec.specs.Rule.{Rule}
 use Rattle.cm_witness.specs.Cores.{edges_left, pairs_left}
 use Rattle.cm_witness.specs.declared.certificate.CoreEdge.{CoreEdge}

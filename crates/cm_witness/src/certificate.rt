@@ -1,7 +1,7 @@
 //! What a failed build shows.
 
 use cm_algorithm::Algorithm;
-use cm_outer::KeyFault;
+use cm_io::KeyFault;
 
 /// A bucket of keys: the seed that split the keys into buckets, and the bucket's number, from 0.
 #[derive(Clone, Copy, Debug, PartialEq, Eq)]

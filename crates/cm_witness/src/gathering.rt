@@ -2,7 +2,7 @@
 ghost use Rattle.std.specs.Prelude.{◌≡◌, ◌<◌, ◌≤◌, ◌+◌, ℕ, List, [], length, All, is_some, Some, None, Ok, true, false, if◌then◌else◌, IfOk, IfErr, OnOk, IsTrue};
 ghost use Rattle.std.specs.List.Sorted.{IsStrictlyIncreasing};
 ghost use Rattle.std.specs.Option.{ForSome};
-ghost use Rattle.cm_outer.specs.Passes.{HasKeyCause, GivesKey};
+ghost use Rattle.cm_io.specs.Passes.{HasKeyCause, GivesKey};
 ghost use Rattle.cm_witness.specs.Candidates.{FindsEqual, is_twice};
 ghost use Rattle.cm_witness.specs.Cores.{EqualKeysMeet, core_edge as core_edge_of, core_edges, keys_at};
 ghost use Rattle.cm_witness.specs.Gathers.{FailsGather, HasGatherCause, HasOther, ends_of, has_buckets, has_third};
@@ -15,7 +15,7 @@ use crate::certificate::{Certificate, CoreEdge, GatherFault, InBucket};
 use crate::firsts::EqualKeys;
 use cm_algorithm::Algorithm;
 use cm_edges::Edges;
-use cm_outer::{KeyBuf, KeyFault, KeyPass};
+use cm_io::{KeyBuf, KeyFault, KeyPass};
 use std::alloc::{AllocError, Global};
 
 impl From<KeyFault> for GatherFault {

@@ -1,12 +1,12 @@
 //! A certificate as text.
 ghost use Rattle.std.specs.Prelude.{◌≡◌, ◌+◌, ◌++◌, ◌≤◌, length, decimal, map};
-ghost use Rattle.cm_outer.specs.Causes.{HasCause};
-ghost use Rattle.cm_outer.specs.Writing.{Writes, joined};
+ghost use Rattle.cm_io.specs.Causes.{HasCause};
+ghost use Rattle.cm_io.specs.Writing.{Writes, joined};
 ghost use Rattle.cm_witness.specs.Reports.{edge_line, head_line, pair_line, report_text};
 
 use crate::{Certificate, CoreEdge, Pair};
 use arrayvec::ArrayVec;
-use cm_outer::{Failed, Sink};
+use cm_io::{Failed, Sink};
 use itoa::Buffer;
 
 /// Room for any first line.

@@ -1,7 +1,7 @@
 use Rattle.std.proofs.Common.{arith, ◌≡◌, ◌∙◌, ℕ, ◌+◌, [], ◌∷◌, ◌++◌, List, length, length-append, map, drop, true, vec_len, ap, append_assoc, inl, refl, sym}
 use Rattle.std.proofs.lemmas.List.{length-drop}
 use Rattle.cm_edges.specs.Graph.{Graph}
-use Rattle.cm_outer.specs.Passes.{Told}
+use Rattle.cm_io.specs.Passes.{Told}
 use Rattle.cm_witness.specs.Gathers.{AreOthers}
 use Rattle.cm_algo.proofs.passes.hash_all.Goals as goal
 

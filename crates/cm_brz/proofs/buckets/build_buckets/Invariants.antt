@@ -1,7 +1,7 @@
 use Rattle.std.proofs.Common.{◌≡◌, ◌≤◌, ◌+◌, ◌*◌, ℕ, List, true, length, sum, take}
 use Rattle.cm_brz.specs.BrzOf.{AreBuilt}
-use Rattle.cm_brz.specs.Puts.{keys_in_bucket}
-use Rattle.cm_brz.specs.Records.{Record}
+use Rattle.cm_split.specs.Puts.{keys_in_bucket}
+use Rattle.cm_split.specs.Records.{Record}
 use Rattle.cm_buckets.specs.Functions.{keys_in}
 use Rattle.cm_brz.proofs.buckets.build_buckets.Given as goal
 

@@ -1,5 +1,5 @@
 use Rattle.std.proofs.Common.{◌≡◌, take}
-use Rattle.cm_outer.specs.Writing.{then_bytes}
+use Rattle.cm_io.specs.Writing.{then_bytes}
 use Rattle.cm_dump.specs.Dumps.{buckets_image}
 use Rattle.cm_dump.specs.Forms.{version_1}
 use Rattle.cm_dump.proofs.buckets.save_buckets.Given as goal

@@ -1,6 +1,6 @@
 use Rattle.std.proofs.Common.{rules, arith, ◌≡◌, ◌∙◌, ◌-◌, ◌+◌, ◌≤◌, ℕ, List, length, map, take, ap}
 use Rattle.std.specs.List.{range_with_len}
-use Rattle.cm_outer.specs.Writing.{then_bytes}
+use Rattle.cm_io.specs.Writing.{then_bytes}
 use Rattle.cm_dump.proofs.Pieces.{piece_wrote, piece_stopped}
 use Rattle.cm_dump.proofs.image.save_image.Goals as goal
 

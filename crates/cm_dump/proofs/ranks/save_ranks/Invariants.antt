@@ -1,5 +1,5 @@
 use Rattle.std.proofs.Common.{◌≡◌, ◌-◌, ◌≤◌, take}
-use Rattle.cm_outer.specs.Writing.{then_bytes}
+use Rattle.cm_io.specs.Writing.{then_bytes}
 use Rattle.cm_dump.specs.Dumps.{ranks_image}
 use Rattle.cm_dump.proofs.ranks.save_ranks.Given as goal
 

@@ -1,5 +1,5 @@
 use Rattle.std.proofs.Common.{◌≡◌, ◌++◌}
-use Rattle.cm_outer.specs.WritingLaws.{writes_then, front_of_first, writes_front}
+use Rattle.cm_io.specs.WritingLaws.{writes_then, front_of_first, writes_front}
 use Rattle.cm_rank.specs.Ranks.{sampled}
 use Rattle.cm_dump.specs.Dumps.{header, bdz_dump, packed_image, ranks_image}
 use Rattle.cm_dump.specs.Forms.{version_1}

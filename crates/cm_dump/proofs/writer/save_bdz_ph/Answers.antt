@@ -1,4 +1,4 @@
-use Rattle.cm_outer.specs.WritingLaws.{writes_then, front_of_first, writes_front}
+use Rattle.cm_io.specs.WritingLaws.{writes_then, front_of_first, writes_front}
 use Rattle.cm_dump.specs.Dumps.{header, bdz_ph_dump, packed_image}
 use Rattle.cm_dump.specs.Forms.{version_1}
 use Rattle.cm_dump.proofs.writer.save_bdz_ph.Goals as goal

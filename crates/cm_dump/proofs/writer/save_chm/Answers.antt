@@ -1,4 +1,4 @@
-use Rattle.cm_outer.specs.WritingLaws.{writes_then, front_of_first, writes_front}
+use Rattle.cm_io.specs.WritingLaws.{writes_then, front_of_first, writes_front}
 use Rattle.cm_spec.specs.Dump.{fields_image}
 use Rattle.cm_dump.specs.Dumps.{chm_dump, header}
 use Rattle.cm_dump.specs.Forms.{version_1}

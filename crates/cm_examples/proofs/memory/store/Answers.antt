@@ -1,4 +1,4 @@
-use Rattle.cm_outer.specs.FilesLaws.{is_there}
+use Rattle.cm_io.specs.FilesLaws.{is_there}
 use Rattle.cm_examples.proofs.memory.store.Goals as goal
 
 pub close-requires : goal.close-requires

@@ -1,8 +1,8 @@
 use Rattle.std.proofs.Common.{◌≡◌, ◌⊎◌, ◌<◌, ◌+◌, ◌-◌, ◌≤◌, ◌++◌, ℕ, List, length, take, drop, true, false}
 use Rattle.std.specs.Option.{ForSome}
 use Rattle.cm_bits.specs.Held.{packed_cells}
-use Rattle.cm_outer.specs.Noting.{Noted}
-use Rattle.cm_outer.specs.Writing.{then_bytes}
+use Rattle.cm_io.specs.Noting.{Noted}
+use Rattle.cm_io.specs.Writing.{then_bytes}
 use Rattle.cm_query.proofs.ProgressLemmas.{SoFar}
 use Rattle.cm_query.specs.Waiting.{AreAnswers}
 use Rattle.cm_query.proofs.answering.query.Given as goal

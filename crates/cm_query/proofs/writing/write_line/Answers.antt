@@ -1,4 +1,4 @@
-use Rattle.cm_outer.specs.WritingLaws.{writes_nothing}
+use Rattle.cm_io.specs.WritingLaws.{writes_nothing}
 use Rattle.cm_query.specs.Texts.{line_of}
 use Rattle.cm_query.proofs.writing.write_line.Goals as goal
 

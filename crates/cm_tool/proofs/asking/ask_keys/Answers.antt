@@ -1,7 +1,7 @@
 use Rattle.std.proofs.Common.{[], ◌≡◌, ◌∙◌, ℕ, List, Option, refl, ap}
 use Rattle.std.specs.Option.{option_map}
 use Rattle.cm_dump.specs.Functions.{answer_by}
-use Rattle.cm_outer.specs.NotingLaws.{noted_nothing}
+use Rattle.cm_io.specs.NotingLaws.{noted_nothing}
 use Rattle.cm_query.specs.QueryLaws.{stops_reached}
 use Rattle.cm_query.specs.Stops.{noted_keys}
 use Rattle.cm_query.specs.Texts.{notes_of}

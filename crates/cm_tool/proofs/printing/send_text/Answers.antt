@@ -1,4 +1,4 @@
-use Rattle.cm_outer.specs.WritingLaws.{writes_nothing}
+use Rattle.cm_io.specs.WritingLaws.{writes_nothing}
 use Rattle.cm_tool.proofs.printing.send_text.Goals as goal
 
 pub returns-in-Ok-clause-text : goal.returns-in-Ok-clause-text

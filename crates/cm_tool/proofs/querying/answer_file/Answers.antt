@@ -1,5 +1,5 @@
 use Rattle.std.proofs.Common.{[], ◌≡◌, ◌∙◌}
-use Rattle.cm_outer.specs.NotingLaws.{noted_nothing}
+use Rattle.cm_io.specs.NotingLaws.{noted_nothing}
 use Rattle.cm_tool.proofs.Asks.{with_function, without_function}
 use Rattle.cm_tool.proofs.querying.answer_file.Goals as goal
 

@@ -1,5 +1,5 @@
 use Rattle.std.proofs.Common.{◌≡◌}
-use Rattle.cm_outer.specs.NotingLaws.{noted_first, noted_sent}
+use Rattle.cm_io.specs.NotingLaws.{noted_first, noted_sent}
 use Rattle.cm_tool.proofs.Asks.{says_all}
 use Rattle.cm_tool.proofs.report.report.Goals as goal
 

@@ -1,4 +1,4 @@
-use Rattle.cm_outer.specs.NotingLaws.{noted_first, noted_sent}
+use Rattle.cm_io.specs.NotingLaws.{noted_first, noted_sent}
 use Rattle.cm_tool.proofs.Asks.{says_all}
 use Rattle.cm_tool.proofs.report.say.Goals as goal
 

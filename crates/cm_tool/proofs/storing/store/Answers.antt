@@ -1,6 +1,6 @@
 use Rattle.std.proofs.Common.{List, ℕ, take, inr}
 use Rattle.cm_dump.specs.Dumps.{dump_of}
-use Rattle.cm_outer.specs.FilesLaws.{is_there, holds, front_closed, holds_front}
+use Rattle.cm_io.specs.FilesLaws.{is_there, holds, front_closed, holds_front}
 use Rattle.cm_tool.proofs.storing.store.Goals as goal
 
 pub close-requires : goal.close-requires

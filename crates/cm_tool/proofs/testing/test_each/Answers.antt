@@ -2,7 +2,7 @@ use Rattle.std.proofs.Common.{[], ◌∷◌, ◌++◌, ◌∙◌, ◌+◌, List,
 use Rattle.std.proofs.lemmas.List.{drop_all, drop_more, take-append-drop, take_more}
 use Rattle.cm_algorithm.specs.declared.algorithm.Algorithm.{Algorithm}
 use Rattle.cm_algorithm.specs.declared.algorithm.Algorithm.TheVariants.{Chm}
-use Rattle.cm_outer.specs.WritingLaws.{then_nothing}
+use Rattle.cm_io.specs.WritingLaws.{then_nothing}
 use Rattle.cm_tool.specs.TestEnds.{EndsTest}
 use Rattle.cm_tool.specs.Tested.{tested_by}
 use Rattle.cm_tool.proofs.Tests.{next_ends, one_more, sent_on, stop_ends, stops_spilling}

@@ -1,7 +1,7 @@
 use Rattle.std.proofs.Common.{◌≡◌, ◌++◌, ℕ, List, Option, Result, take}
 use Rattle.std.specs.Option.{ForSome}
 use Rattle.cm_algorithm.specs.declared.algorithm.Algorithm.{Algorithm}
-use Rattle.cm_outer.specs.Causes.{IsSent}
+use Rattle.cm_io.specs.Causes.{IsSent}
 use Rattle.cm_tool.specs.TestEnds.{EndsTest}
 use Rattle.cm_tool.specs.Tested.{tested_by}
 use Rattle.cm_tool.specs.declared.stop.Stop.{Stop}

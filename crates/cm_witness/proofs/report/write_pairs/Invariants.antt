@@ -1,5 +1,5 @@
 use Rattle.std.proofs.Common.{◌≡◌, map, take}
-use Rattle.cm_outer.specs.Writing.{joined, then_bytes}
+use Rattle.cm_io.specs.Writing.{joined, then_bytes}
 use Rattle.cm_witness.specs.Reports.{pair_line}
 use Rattle.cm_witness.proofs.report.write_pairs.Given as goal
 

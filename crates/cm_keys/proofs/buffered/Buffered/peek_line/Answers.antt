@@ -1,5 +1,5 @@
 use Rattle.std.proofs.Common.{◌+◌}
-use Rattle.cm_outer.specs.declared.key_pass.TheConstants.{MAX_KEY_LEN}
+use Rattle.cm_io.specs.declared.key_pass.TheConstants.{MAX_KEY_LEN}
 use Rattle.cm_keys.proofs.PieceLemmas.{no_end, line_taken}
 use Rattle.cm_keys.specs.Buffering.{ready_in}
 use Rattle.cm_keys.proofs.buffered.Buffered.peek_line.Goals as goal

@@ -1,6 +1,6 @@
 use Rattle.std.proofs.Common.{◌≡◌, ◌≤◌, [], length, true}
 use Rattle.std.specs.Option.{option_map}
-use Rattle.cm_outer.specs.declared.key_pass.TheConstants.{MAX_KEY_LEN}
+use Rattle.cm_io.specs.declared.key_pass.TheConstants.{MAX_KEY_LEN}
 use Rattle.cm_keys.specs.Lines.{pieces}
 use Rattle.cm_keys.specs.Buffering.{ready_in, left_bytes, with_front}
 use Rattle.cm_keys.proofs.buffered.Buffered.read_line.Given as goal

@@ -1,7 +1,7 @@
 use Rattle.std.proofs.Common.{◌+◌, ◌∙◌, ap, arith, length, drop, subst, sym}
 use Rattle.memchr.specs.Find.{is_byte}
 use Rattle.memchr.proofs.lemmas.CallerLemmas.{length-places}
-use Rattle.cm_outer.specs.declared.key_pass.TheConstants.{MAX_KEY_LEN}
+use Rattle.cm_io.specs.declared.key_pass.TheConstants.{MAX_KEY_LEN}
 use Rattle.cm_keys.specs.Buffering.{TakesLines, HasNoEnd, ready_in}
 use Rattle.cm_keys.proofs.PieceLemmas.{no_end, ready_after}
 use Rattle.cm_keys.proofs.WholeLemmas.{lines_taken, nowhere_after, some_counted}

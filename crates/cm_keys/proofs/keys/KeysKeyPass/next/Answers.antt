@@ -1,5 +1,5 @@
 use Rattle.std.proofs.Common.{◌<◌, ◌∙◌, ap, arith}
-use Rattle.cm_outer.specs.declared.key_pass.TheConstants.{MAX_KEYS}
+use Rattle.cm_io.specs.declared.key_pass.TheConstants.{MAX_KEYS}
 use Rattle.cm_keys.proofs.NextLemmas.{key_leaves, key_gives, long_gives, many_gives, none_gives, ready_some}
 use Rattle.cm_keys.proofs.keys.KeysKeyPass.next.Goals as goal
 

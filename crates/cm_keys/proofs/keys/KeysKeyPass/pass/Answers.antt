@@ -1,5 +1,5 @@
 use Rattle.std.proofs.Common.{[], ◌∙◌, ap, arith, refl}
-use Rattle.cm_outer.specs.declared.key_pass.TheConstants.{MAX_KEY_LEN}
+use Rattle.cm_io.specs.declared.key_pass.TheConstants.{MAX_KEY_LEN}
 use Rattle.cm_keys.specs.Buffering.{left_bytes, ready_in}
 use Rattle.cm_keys.specs.declared.keys.TheConstants.{LINE_END}
 use Rattle.cm_keys.proofs.PieceLemmas.{line_inside, line_passed, read_whole}

@@ -1,5 +1,5 @@
 use Rattle.std.proofs.Common.{◌∙◌, ap, arith}
-use Rattle.cm_outer.specs.declared.key_pass.TheConstants.{MAX_KEYS, MAX_KEY_LEN}
+use Rattle.cm_io.specs.declared.key_pass.TheConstants.{MAX_KEYS, MAX_KEY_LEN}
 use Rattle.cm_keys.specs.declared.buffered.TheConstants.{ROOM}
 use Rattle.cm_keys.specs.declared.keys.TheConstants.{LINE_END}
 use Rattle.cm_keys.proofs.NextLemmas.{lines_give, lines_leave}

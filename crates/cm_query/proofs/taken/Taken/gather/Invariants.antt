@@ -1,6 +1,6 @@
 use Rattle.std.proofs.Common.{◌≡◌, ◌+◌, ◌-◌, ◌≤◌, length, true}
 use Rattle.std.specs.Option.{ForSome}
-use Rattle.cm_outer.specs.declared.key_pass.TheConstants.{MAX_KEYS}
+use Rattle.cm_io.specs.declared.key_pass.TheConstants.{MAX_KEYS}
 use Rattle.cm_query.specs.Waiting.{ArePlaces, Takes, keys_of}
 use Rattle.cm_query.specs.declared.taken.TheConstants.{MOST}
 use Rattle.cm_query.proofs.taken.Taken.gather.Given as goal

@@ -1,6 +1,6 @@
 use Rattle.std.proofs.Common.{ℕ, List, ◌++◌, length, map}
-use Rattle.cm_outer.specs.Writing.{joined}
-use Rattle.cm_outer.specs.WritingLaws.{writes_then}
+use Rattle.cm_io.specs.Writing.{joined}
+use Rattle.cm_io.specs.WritingLaws.{writes_then}
 use Rattle.cm_witness.specs.Reports.{edge_line, head_line, pair_line}
 use Rattle.cm_witness.specs.declared.certificate.Certificate.{Certificate}
 use Rattle.cm_witness.proofs.LineLemmas.{first_failed, part_failed}

@@ -1,0 +1,10 @@
+pub mod Causes
+pub mod Counts
+pub mod Reading
+pub mod Writing
+pub mod WritingLaws
+pub mod Files
+pub mod FilesLaws
+pub mod Noting
+pub mod NotingLaws
+pub mod Passes

@@ -1,0 +1,128 @@
+ghost use Rattle.std.specs.Prelude.{◌≡◌, ◌<◌, ◌≤◌, ◌+◌, ℕ, List, length, Option, Ok, Bool, true, false, OnOk, OnErr, IfOk, IfSome, IfNone, IsTrue, IsOkUnless, if◌then◌else◌};
+ghost use Rattle.std.specs.Option.{ForSome};
+ghost use Rattle.cm_io.specs.Passes.{Told, HasKeyCause, GivesKey, PassesKeys};
+
+use arrayvec::ArrayVec;
+use thiserror::Error;
+
+/// How many keys a pass yields at most.
+pub const MAX_KEYS: u32 = 16_777_216;
+
+/// How many bytes a key has at most.
+pub const MAX_KEY_LEN: usize = 65_535;
+
+/// Room for one key.
+pub type KeyBuf = ArrayVec<u8, MAX_KEY_LEN>;
+
+/// Why a pass stopped before the end of its keys. Lines are counted from 1.
+#[derive(Clone, Copy, Debug, PartialEq, Eq, Error)]
+pub enum KeyFault {
+    /// What the keys are read from failed.
+    #[error("the keys cannot be read")]
+    Read,
+    /// A line has more bytes than a key.
+    #[error("line {line} is too long")]
+    TooLong { line: u32 },
+    /// There are more than `MAX_KEYS` keys.
+    #[error("there are too many keys")]
+    TooMany,
+}
+
+/// A list of keys that can be passed again.
+pub trait KeyPass {
+    /// The keys with their lines and the fault at their end, if they are known.
+    ghost told: { Self → Option Told };
+
+    /// How many keys it has yielded since the last rewind.
+    ghost place: { Self → ℕ };
+
+    /// The line of the key yielded last, and 0 before the first.
+    ghost last: { Self → ℕ };
+
+    /// No call has failed since the last rewind.
+    ghost usable: { Self → Bool };
+
+    /// How often what it reads from has failed.
+    ghost faults: { Self → ℕ };
+
+    /// The next key is buffered, and has these bytes.
+    ghost stands: { Self → List ℕ → Type 0 };
+
+    /// False from a call that failed until a rewind that doesn't.
+    fn usable(&self) -> bool
+        ensures usable { result ≡ usable self.now };
+
+    /// Puts the next key into the buffer and returns true, or returns false at the end. Fails with `Read` exactly if the count of
+    /// faults rises, and with another fault if the keys have come to it.
+    fn next(&mut self, key: &mut KeyBuf) -> Result<bool, KeyFault>
+        requires usable { IsTrue (usable self.old) }
+        ensures told { told self.new ≡ told self.old }
+        ensures gives { ForSome (told self.old) (λ told.
+            GivesKey told (place self.old) (place self.new) (last self.new) key.new.items result) }
+        ensures cause { HasKeyCause (faults self.old) (faults self.new) result }
+
+        // A key is one more, of a later line.
+        ensures counts { IfOk result (λ more. place self.new ≡ place self.old + (if more then 1 else 0)) }
+        ensures few { place self.new ≤ MAX_KEYS }
+        ensures rises { IfOk result (λ more. more ≡ true → last self.old < last self.new) }
+
+        // The end and a failure leave the place and the line as they are.
+        ensures ended { IfOk result (λ more. more ≡ false → last self.new ≡ last self.old) }
+        ensures refused { OnErr result ((place self.new ≡ place self.old) × (last self.new ≡ last self.old)) }
+        ensures usable { OnOk result (usable self.new ≡ true) }
+        ensures unusable { OnErr result (usable self.new ≡ false) };
+
+    /// The next key with its line, if it is buffered: no read can fail before it. None says that it isn't, and nothing of what comes.
+    fn peek(&self) -> Option<(u32, &[u8])>
+        requires usable { IsTrue (usable self.now) }
+        ensures gives { IfSome result (λ key. ForSome (told self.now) (λ told.
+            GivesKey told (place self.now) (place self.now + 1) key.0 key.1.now (Ok true))) }
+        ensures short { IfSome result (λ key. length key.1.now ≤ MAX_KEY_LEN) }
+        ensures stands { IfSome result (λ key. stands self.now key.1.now) }
+        ensures none_stands { IfNone result ((key : List ℕ) → stands self.now key → ⊥) };
+
+    /// Passes the next key without returning it. The key is buffered, as `peek` shows, and has `len` bytes. No read can fail then, and
+    /// it does what a `next` that returns true does.
+    fn pass(&mut self, len: usize)
+        requires usable { IsTrue (usable self.old) }
+        requires stands { (key : List ℕ) × stands self.old key × (length key ≡ len) }
+        ensures told { told self.new ≡ told self.old }
+        ensures gives { (key : List ℕ) → stands self.old key → length key ≡ len → ForSome (told self.old) (λ told.
+            GivesKey told (place self.old) (place self.new) (last self.new) key (Ok true)) }
+        ensures cause { faults self.new ≡ faults self.old }
+        ensures counts { place self.new ≡ place self.old + 1 }
+        ensures few { place self.new ≤ MAX_KEYS }
+        ensures rises { last self.old < last self.new }
+        ensures usable { usable self.new ≡ true };
+
+    /// Passes some of the next keys without returning them, if they are buffered, and returns how many. 0 says nothing of what comes:
+    /// nothing has changed then, and `next` shows what comes.
+    fn skip(&mut self) -> u32
+        requires usable { IsTrue (usable self.old) }
+        ensures told { told self.new ≡ told self.old }
+        ensures gives { 0 < result → ForSome (told self.old) (λ told. PassesKeys told (place self.new) (last self.new)) }
+        ensures cause { faults self.new ≡ faults self.old }
+        ensures counts { place self.new ≡ place self.old + result }
+        ensures few { 0 < result → place self.new ≤ MAX_KEYS }
+        ensures rises { 0 < result → last self.old < last self.new }
+        ensures usable { usable self.new ≡ true }
+        ensures unchanged { result ≡ 0 → self.new ≡ self.old }
+    {
+        0
+    }
+
+    /// Goes back to the start. Fails only with `Read`, exactly if the count of faults rises.
+    fn rewind(&mut self) -> Result<(), KeyFault>
+        ensures told { told self.new ≡ told self.old }
+        ensures start { OnOk result ((place self.new ≡ 0) × (last self.new ≡ 0)) }
+        ensures read { IsOkUnless result KeyFault.Read }
+        ensures cause { HasKeyCause (faults self.old) (faults self.new) result }
+        ensures refused { OnErr result ((place self.new ≡ place self.old) × (last self.new ≡ last self.old)) }
+        ensures usable { OnOk result (usable self.new ≡ true) }
+        ensures unusable { OnErr result (usable self.new ≡ false) };
+
+    /// The line of the key yielded last, from 1.
+    fn line(&self) -> u32
+        requires given { 0 < place self.now }
+        ensures last { result ≡ last self.now };
+}

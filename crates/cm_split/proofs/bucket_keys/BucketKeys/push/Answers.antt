@@ -1,0 +1,24 @@
+use Rattle.std.proofs.Common.{◌≡◌, ◌∙◌, ◌∷◌, [], ◌++◌, ◌<◌, ℕ, List, length, map, ap, subst, sym, arith}
+use Rattle.std.proofs.lemmas.List.{length-map}
+use Rattle.cm_split.proofs.PassLemmas.{keyed_more, pass_more}
+use Rattle.cm_split.specs.BucketPass.{BucketPass, keyed_in, last_line}
+use Rattle.cm_split.specs.declared.bucket_keys.TheConstants.{MOST}
+use Rattle.cm_split.proofs.bucket_keys.BucketKeys.push.Goals as goal
+
+pub invariant_of-self-2 : goal.invariant_of-self-2
+invariant_of-self-2 c =
+    let self = c.self.inside in
+    let from : c.len-from.result ≡ length self.bytes.items = omega (arith, c.len-from.ensures, self.bytes.ok.0) in
+    let until : c.len.result ≡ length c.extend_from_slice.new.self.items = omega (arith, c.len.ensures, c.extend_from_slice.new.self.ok.0) in
+    let keys = ap (λ (b : BucketPass). b.keys) c.self.view_is in
+    let few : length self.spots.items < MOST = omega (arith, c.requires.few, ap length keys, length-map self.spots.items (keyed_in self.bytes.items)) in
+    let later : last_line (map (keyed_in self.bytes.items) self.spots.items) < c.args.line = subst (λ (l : List (ℕ × List ℕ)). last_line l < c.args.line) (sym keys) c.requires.rises in
+    pass_more MOST self.bytes.items c.args.key.now _ self.spots.items _ _ self.given c.self.invariant c.in_ok-extend_from_slice.ensures.items c.push.ensures.items from until few c.requires.short later
+
+pub returns-clause-keys : goal.returns-clause-keys
+returns-clause-keys c =
+    let self = c.self.inside in
+    let from : c.len-from.result ≡ length self.bytes.items = omega (arith, c.len-from.ensures, self.bytes.ok.0) in
+    let until : c.len.result ≡ length c.extend_from_slice.new.self.items = omega (arith, c.len.ensures, c.extend_from_slice.new.self.ok.0) in
+    keyed_more self.bytes.items c.args.key.now _ self.spots.items _ _ c.self.invariant.stand c.in_ok-extend_from_slice.ensures.items c.push.ensures.items from until
+    ∙ ap (λ (b : BucketPass). b.keys ++ (c.args.line, c.args.key.now) ∷ []) c.self.view_is

@@ -1,0 +1,29 @@
+use Rattle.std.proofs.Common.{arith, rules, ◌∙◌, ℕ, ◌+◌, ap}
+use Rattle.cm_split.proofs.Equal.{byte_is, byte_most, noted_more}
+use Rattle.cm_split.proofs.Passing.{past_end}
+use Rattle.cm_split.proofs.overfull.gather_equal.Goals as goal
+
+pub returns-in-None-clause-fault : goal.returns-in-None-clause-fault
+returns-in-None-clause-fault g c = λ told is.
+    let gone = rw c.in-None.is at c.in_ok-here.ensures.ends in
+    let ends = gone told (c.loop-count.invariant.same ∙ is) in
+    omega (arith, ends.all, (c.requires.counted told is).many, c.loop-count.invariant.at, c.loop-count-test.true)
+
+pub loop-count-preserved : goal.loop-count-preserved
+loop-count-preserved g c =
+    let before = c.loop-count.invariant in
+    let notes = rw c.in-Some.is at c.in_ok-here.ensures.notes in
+    let counts = rw c.in-Some.is at c.in_ok-here.ensures.counts in
+    record {
+      ready = search rules;
+      same = search rules;
+      quiet = search rules;
+      at = omega (arith, counts, before.at);
+      few = omega (arith, byte_most c.in-Some.here, before.few);
+      noted = λ told is. noted_more c.loop-count.found _ _ _ _ _ told.keys _ _ _ _ _ c.in-Some.here (before.noted told is) (notes told (before.same ∙ is)) (ap (λ (n : ℕ). c.loop-count.found + n) (byte_is c.in-Some.here));
+    }
+
+pub returns-then-branch-clause-fault : goal.returns-then-branch-clause-fault
+returns-then-branch-clause-fault g c = λ told is.
+    let P = g.P.KeyPass in
+    past_end told (P.place c.loop-count.keys) (P.place c.next.new.self) (P.last c.next.new.self) c.args.m c.next.new.key.items c.in_ok-next.field-0 (c.in_ok-next.ensures.gives told (c.loop-count.invariant.same ∙ is)) c.if-branch.true (omega (arith, c.loop-count.invariant.at, c.loop-count-test.false, c.loop-count.auto.count-end)) (c.requires.counted told is).many

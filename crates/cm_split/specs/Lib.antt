@@ -1,0 +1,11 @@
+pub mod BucketPass
+pub mod Faults
+pub mod Passes
+pub mod Puts
+pub mod PutsLaws
+pub mod Records
+pub mod SizesLaws
+pub mod Spilled
+pub mod SpilledLaws
+pub mod Split
+pub mod Stores

@@ -1,0 +1,17 @@
+//! How keys are split into buckets for BRZ (Botelho, Pagh, Ziviani 2007), and how they wait there, in a spill.
+#![tactic(auto)]
+
+mod bucket_keys;
+mod fault;
+mod overfull;
+mod putting;
+mod runs;
+mod split;
+mod store;
+
+pub use bucket_keys::BucketKeys;
+pub use fault::BrzFault;
+pub use overfull::gather_equal;
+pub use putting::put_all;
+pub use split::{Overfull, Split, Splitting, choose_split};
+pub use store::{Store, StoreFault};

@@ -1,0 +1,82 @@
+//! Keys that wait for their buckets in a spill.
+ghost use Rattle.std.specs.Prelude.{is_some};
+ghost use Rattle.cm_split.specs.Spilled.{HoldsKnown};
+ghost use Rattle.cm_split.specs.Stores.{IsFaultOf};
+ghost use Rattle.cm_spill.specs.Stores.{IsNextBucket, given_last_of, given_of};
+
+use crate::store::{Store, StoreFault};
+use cm_io::{KeyBuf, Spill};
+use cm_spill::{Runs, SpillError};
+use std::alloc::Global;
+
+/// The fault of a store over a spill.
+fn fault_of(error: SpillError) -> StoreFault
+    ensures same { IsFaultOf error result }
+{
+    match error {
+        SpillError::Memory => StoreFault::Memory,
+        SpillError::Failed => StoreFault::Failed,
+        SpillError::Damaged {
+            offset,
+            expected,
+            found,
+        } => StoreFault::Damaged {
+            offset,
+            expected,
+            found,
+        },
+    }
+}
+
+impl<P: Spill> Store for Runs<P> {
+    ghost holds = { HoldsKnown };
+
+    ghost known = { λ s. is_some s.known };
+
+    ghost faults = { λ s. s.faults };
+
+    ghost usable = { λ s. s.usable };
+
+    ghost sealed = { λ s. s.sealed };
+
+    ghost put_last = { λ s. s.last };
+
+    ghost may_ask = { IsNextBucket };
+
+    ghost given = { given_of };
+
+    ghost given_last = { given_last_of };
+
+    ghost end = { λ s. s.read_end };
+
+    fn put(
+        &mut self,
+        _alloc: Global,
+        bucket: u32,
+        line: u32,
+        key: &[u8],
+    ) -> Result<(), StoreFault> {
+        match Runs::put(self, bucket, line, key) {
+            Ok(()) => Ok(()),
+            Err(error) => Err(fault_of(error)),
+        }
+    }
+
+    fn seal(&mut self, _alloc: Global) -> Result<(), StoreFault> {
+        match Runs::seal(self) {
+            Ok(()) => Ok(()),
+            Err(error) => Err(fault_of(error)),
+        }
+    }
+
+    fn next_of(&mut self, bucket: u32, key: &mut KeyBuf) -> Result<Option<u32>, StoreFault> {
+        match Runs::next_of(self, bucket, key) {
+            Ok(line) => Ok(line),
+            Err(error) => Err(fault_of(error)),
+        }
+    }
+
+    fn read_end(&self) -> u64 {
+        Runs::read_end(self)
+    }
+}
