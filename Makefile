@@ -1,4 +1,4 @@
-# make            proves and builds bin/cmph: a line for each crate, and all else in out/prove.log
+# make            proves and builds bin/cmph: names each crate with its time, and puts all else into out/prove.log
 # make demo       builds a function over a word list, queries it, and tries all algorithms over generated keys
 # make check      the gate: proves everything from nothing, and runs all tests
 # make install    installs the program, its man page, and completions for bash and zsh below $(PREFIX)
@@ -20,7 +20,7 @@ SOURCES := crates.txt $(wildcard crates/*/src/*.rt crates/*/specs/*.antt) $(shel
 
 all: bin/cmph
 
-# A run that was stopped goes on from where it was.
+# A run that was stopped goes on with the crates that were not proved.
 bin/cmph: $(SOURCES)
 	@python3 tools/prove.py cmph
 	@mkdir -p bin

@@ -3,15 +3,17 @@
 
     tools/prove.py [--jobs N] CRATE
 
-It prints a line for each crate that is done: its name, the seconds that it took, and how many are left. All else goes to
-out/prove.log. N crates are proved at a time, as many as there are processors and memory for if it is left out. What was
-proved before is kept by `rt`, so a run that was stopped is resumed by running it again.
+It prints the name of each crate that is done and the seconds that it took, two crates a line, and how many are left. All
+else goes to out/prove.log. N crates are proved at a time, as many as there are processors and memory for if it is left out. A crate is
+not proved again if its files, those of the crates below it and the kit are as they were, so a run that was stopped is
+resumed by running it again.
 
-A run of `rt` keeps all others out of the crates below its own, so each crate is proved in a tree of links to its files and
-to what is built of those below.
+Each crate is proved over the statements of those below it, which they leave in their folders, in out/statements: near the
+top, reading all proofs took as long as proving. The gate does the same. The commands of `rt` keep libraries of their own.
 """
 import argparse
 import contextlib
+import hashlib
 import os
 import shutil
 import signal
@@ -24,12 +26,10 @@ from pathlib import Path
 
 TOP = Path(__file__).resolve().parent.parent
 LOG = TOP / "out" / "prove.log"
-TREES = TOP / "out" / "trees"
 PARTS = ("src", "specs", "proofs")  # what a proof reads of a crate
 MEMORY = 3 << 30  # bytes for the proof of a crate
-JOBS = 2  # processes for the proof of a crate, at most: each reads all that is proved below, so near the top four took longer than two
 SHOWN = 6  # lines that are shown of a crate that is not proved
-DULL = (": proved", "modules loaded=", "begins with what a check kept")  # of lines that are never shown
+DULL = (": proved", "modules loaded=")  # of lines that are never shown
 
 
 def listed():
@@ -38,16 +38,20 @@ def listed():
     return {line.split(":")[0].split()[0]: line for line in lines if ":" in line}
 
 
+def named_by(crate):
+    """What a crate names in crates.txt: crates, and libraries of the kit."""
+    return listed()[crate].partition(":")[2].split()
+
+
 def crates_below(crate):
     """The crate and those that it stands on, each with those that it names itself. The kit's own are left out."""
-    named = {name: line.partition(":")[2].split() for name, line in listed().items()}
-    if crate not in named:
+    if crate not in listed():
         sys.exit(f"crates.txt has no crate {crate}")
     found, waiting = {}, [crate]
     while waiting:
         name = waiting.pop()
         if name not in found:
-            found[name] = [it for it in named[name] if it in named]
+            found[name] = [it for it in named_by(name) if it in listed()]
             waiting += found[name]
     return found
 
@@ -57,46 +61,18 @@ def all_below(crate, crates):
     return set().union(*({it} | all_below(it, crates) for it in crates[crate]))
 
 
-def link(source, copy):
-    """Links the files of a folder into a copy of it, if there is such a folder."""
-    if source.is_dir():
-        shutil.copytree(source, copy, copy_function=os.link)
+def folder(crate):
+    return TOP / "crates" / crate
 
 
-def clear(crate):
-    """Removes the tree of a crate, if there is one. What a proof left in it goes back to the crate's own folder."""
-    tree, out = TREES / crate, TOP / "crates" / crate / "out"
-    made = tree / "crates" / crate / "out"
-    if made.is_dir() and not out.exists():
-        made.rename(out)
-    shutil.rmtree(tree, ignore_errors=True)
-
-
-@contextlib.contextmanager
-def tree_for(crate, below):
-    """A tree to prove a crate in, over what is built of those below."""
-    clear(crate)
-    tree, out = TREES / crate, TOP / "crates" / crate / "out"
-    for name in (crate, *below):
-        for part in PARTS if name == crate else (*PARTS, "out/rlib"):
-            link(TOP / "crates" / name / part, tree / "crates" / name / part)
-    (tree / "crates.txt").write_text("".join(f"{listed()[name]}\n" for name in (crate, *below)))
-    os.link(TOP / "HANDLES", tree / "HANDLES")
-    if out.is_dir():
-        out.rename(tree / "crates" / crate / "out")
-    try:
-        yield tree / "crates" / crate
-    finally:
-        clear(crate)
+def files_of(crate):
+    """The files that a proof reads of a crate."""
+    return sorted(it for part in PARTS for it in (folder(crate) / part).rglob("*") if it.is_file())
 
 
 def sizes_of(crates):
     """How many bytes of code, definitions and proofs each crate has: what it takes to prove it, about."""
-    def size(name):
-        folders = [TOP / "crates" / name / part for part in PARTS]
-        return sum(it.stat().st_size for folder in folders for it in folder.rglob("*") if it.is_file())
-
-    return {name: size(name) for name in crates}
+    return {name: sum(it.stat().st_size for it in files_of(name)) for name in crates}
 
 
 def chains_of(crates):
@@ -112,14 +88,37 @@ def chains_of(crates):
 
 
 def is_program(crate):
-    return (TOP / "crates" / crate / "src" / "main.rt").exists()
+    return (folder(crate) / "src" / "main.rt").exists()
+
+
+def made_of(crate):
+    """What the proof of a crate makes."""
+    return folder(crate) / "out" / (crate if is_program(crate) else f"statements/{crate}.rlib")
+
+
+def sum_of(crate, crates, kit):
+    """A checksum of all that the proof of a crate reads."""
+    read = hashlib.sha256((kit / "KIT-ID").read_bytes())
+    for name in (crate, *sorted(all_below(crate, crates))):
+        read.update(listed()[name].encode())
+        for file in files_of(name):
+            read.update(f"{file.relative_to(TOP)} ".encode() + hashlib.sha256(file.read_bytes()).digest())
+    return read.hexdigest()
+
+
+def is_first(name, others, chains):
+    """Whether the longest chain of crates waits for this one, and not for another that is proved now."""
+    return all(chains[name] >= chains[other] for other in others)
 
 
 def jobs_for(name, others, most, chains):
-    """How many processes prove a crate beside others: the one that the longest chain waits for has as many as help, even if they are one too many. A
-    program has little to prove and much to read."""
-    is_first = all(chains[name] >= chains[other] for other in others)
-    return min(JOBS, most) if (is_first or len(others) < most) and not is_program(name) else 1
+    """How many processes prove a crate beside others: all if it is alone, and else two for the one that the longest chain waits for, even if they are
+    one too many, or if a processor is left. A program has little to prove."""
+    if is_program(name):
+        return 1
+    if len(others) == 1:
+        return most
+    return min(2, most) if is_first(name, others, chains) or len(others) < most else 1
 
 
 def room():
@@ -128,25 +127,50 @@ def room():
     return max(1, min(len(os.sched_getaffinity(0)), memory // MEMORY))
 
 
+def commands_for(crate, crates, jobs, kit):
+    """The commands that prove a crate over the statements of those below it, and make the program or the statements."""
+    made = made_of(crate)
+    libraries = [(name, made_of(name) if name in crates else kit / "rlibs" / f"{name}.rlib") for name in ("std", *named_by(crate))]
+    folders = [kit / "rlibs", *(made_of(name).parent for name in sorted(all_below(crate, crates)))]
+    build = [kit / "bin" / "rattle", "build", "--crate-name", crate, "src/main.rt" if is_program(crate) else "src/lib.rt"]
+    build += [word for name, library in libraries for word in ("--extern", f"{name}={library}")]
+    build += [word for it in folders for word in ("-L", f"dependency={it}")]
+    build += ["--antt-project", kit / "rattle" / "logic" / "antt-project.json", "--logic-built", kit / "logic_built", "--jobs", str(jobs)]
+    if not is_program(crate):
+        return [[*build, "--statements", "-o", made]]
+    toolchain = ["--toolchain", kit / "toolchain"]
+    link = [kit / "bin" / "rattle-link", "--target", "x86_64-unknown-linux-gnu", *toolchain, "-o", made, f"{made}.o"]
+    return [[*build, *toolchain, "-o", f"{made}.o"], [*link, kit / "c" / "libos_c.a", kit / "c" / "liblibc_c.a"]]
+
+
 class Proof:
     """A run over some crates."""
 
-    def __init__(self, crates, log):
-        self.crates, self.log, self.lock, self.running, self.stopped = crates, log, threading.Lock(), {}, False
+    def __init__(self, crates, log, kit):
+        self.crates, self.log, self.kit, self.lock, self.running, self.stopped = crates, log, kit, threading.Lock(), {}, False
 
-    def prove(self, name, jobs):
-        """Proves a crate over those below it, and gives the status, the seconds, and the first lines that may say what is wrong."""
-        with tree_for(name, all_below(name, self.crates)) as folder:
-            return self.run(name, folder, jobs)
+    def prove(self, name, jobs, waits):
+        """Proves a crate, unless it is proved, and gives the status, the seconds, and the first lines that may say what is wrong. A crate that waits
+        leaves the processors to others."""
+        start, said, made = time.monotonic(), [], made_of(name)
+        kept, now = made.with_suffix(".sum"), sum_of(name, self.crates, self.kit)
+        if made.exists() and kept.exists() and kept.read_text() == now:
+            return 0, 0.0, said
+        made.parent.mkdir(parents=True, exist_ok=True)
+        kept.unlink(missing_ok=True)
+        for command in commands_for(name, self.crates, jobs, self.kit):
+            status = self.run(name, ["nice", *command] if waits else command, said)
+            if status != 0:
+                return status, time.monotonic() - start, said
+        kept.write_text(now)
+        return 0, time.monotonic() - start, said
 
-    def run(self, name, folder, jobs):
-        """Proves a crate in a folder."""
-        command = ["rt", "run", "--jobs", str(jobs), "--", "-V"] if is_program(name) else ["rt", "lib", "--jobs", str(jobs)]
-        start, said = time.monotonic(), []
+    def run(self, name, command, said):
+        """Runs a command in the folder of a crate, and gives its status."""
         with self.lock:
             if self.stopped:
-                return 1, 0.0, said
-            ran = subprocess.Popen(command, cwd=folder, stdin=subprocess.DEVNULL, stdout=subprocess.PIPE,
+                return 1
+            ran = subprocess.Popen(command, cwd=folder(name), stdin=subprocess.DEVNULL, stdout=subprocess.PIPE,
                                    stderr=subprocess.STDOUT, text=True, errors="replace", start_new_session=True)
             self.running[name] = ran
         for line in ran.stdout:
@@ -158,7 +182,7 @@ class Proof:
         status = ran.wait()
         with self.lock:
             del self.running[name]
-        return status, time.monotonic() - start, said
+        return status
 
     def stop(self):
         """Ends what is running; what was proved so far stays."""
@@ -169,9 +193,15 @@ class Proof:
                     os.killpg(ran.pid, signal.SIGTERM)
 
 
+def show(took, left):
+    """Prints how long crates took, and how many are left."""
+    print(*(f"{name:<14}{seconds:6.0f} s   " for name, seconds in took.items()), f"{left:2} left", sep="", flush=True)
+    took.clear()
+
+
 def prove_all(crates, most, proof):
     """Proves each crate once those below it are, first the one that the longest chain waits for. Gives whether all are proved."""
-    chains, done, running = chains_of(crates), set(), {}
+    chains, done, running, took = chains_of(crates), set(), {}, {}
     with ThreadPoolExecutor(most) as pool:
         try:
             while len(done) < len(crates):
@@ -179,7 +209,8 @@ def prove_all(crates, most, proof):
                 ready = sorted(ready, key=chains.get, reverse=True)[: most - len(running)]
                 others = [*running.values(), *ready]
                 for name in ready:
-                    running[pool.submit(proof.prove, name, jobs_for(name, others, most, chains))] = name
+                    jobs, waits = jobs_for(name, others, most, chains), not is_first(name, others, chains)
+                    running[pool.submit(proof.prove, name, jobs, waits)] = name
                 for ended in wait(running, return_when=FIRST_COMPLETED).done:
                     name, (status, seconds, said) = running.pop(ended), ended.result()
                     if status != 0:
@@ -187,7 +218,9 @@ def prove_all(crates, most, proof):
                         proof.stop()
                         return False
                     done.add(name)
-                    print(f"{name:<14}{seconds:6.0f} s   {len(crates) - len(done):2} left", flush=True)
+                    took[name] = seconds
+                    if len(took) == 2 or len(done) == len(crates):
+                        show(took, len(crates) - len(done))
         except KeyboardInterrupt:
             proof.stop()
             print("stopped; run it again to go on")
@@ -203,12 +236,14 @@ def main():
     signal.signal(signal.SIGTERM, signal.default_int_handler)
     crates = crates_below(asked.crate)
     most = max(1, asked.jobs)
-    if shutil.which("rt") is None:
+    rt = shutil.which("rt")
+    if rt is None:
         sys.exit("there is no rt on the path: it is the command of the Rattle kit")
+    kit = Path(rt).resolve().parent.parent
     LOG.parent.mkdir(exist_ok=True)
     print(f"Proving {len(crates)} crates, up to {most} at a time; the first time takes many minutes. Log: {LOG.relative_to(TOP)}", flush=True)
     with open(LOG, "w") as log:
-        return 0 if prove_all(crates, most, Proof(crates, log)) else 1
+        return 0 if prove_all(crates, most, Proof(crates, log, kit)) else 1
 
 
 if __name__ == "__main__":
