@@ -38,24 +38,12 @@ bare_app = let app = new_app (codes "cmph") in record app {
   top = record app.top { disable_help_flag = true; disable_version_flag = true };
 }
 
-abbrev pub flags : List Rule
-flags =
+abbrev pub options : List Rule
+options =
     flag_rule (codes "help") 104 ∷  -- h
     flag_rule (codes "version") 86 ∷  -- V
     counted_rule (codes "verbose") 118 ∷  -- v
     flag_rule (codes "generate") 103 ∷  -- g
-    []
-
--- the options of which a query makes use, too
-abbrev pub file_options : List Rule
-file_options =
-    value_rule (codes "first") 107 ∷  -- k
-    value_rule (codes "function") 109 ∷  -- m
-    file_rule (codes "keys") ∷
-    []
-
-abbrev pub build_options : List Rule
-build_options =
     value_rule (codes "algorithm") 97 ∷  -- a
     value_rule (codes "bits") 98 ∷  -- b
     value_rule (codes "ratio") 99 ∷  -- c
@@ -65,8 +53,10 @@ build_options =
     value_rule (codes "count") 114 ∷  -- r
     value_rule (codes "seed") 115 ∷  -- s
     value_rule (codes "test") 84 ∷  -- T
+    value_rule (codes "first") 107 ∷  -- k
+    value_rule (codes "function") 109 ∷  -- m
     []
 
--- the whole command
+-- the whole command: the options, and the keys file
 abbrev pub cmph_app : App
-cmph_app = with_arguments (with_arguments (with_arguments bare_app flags) build_options) file_options
+cmph_app = with_argument (with_arguments bare_app options) (file_rule (codes "keys"))

@@ -1,7 +1,7 @@
 //! The command that parses the arguments.
 ghost use Rattle.std.specs.Prelude.{◌≡◌, IfOk, map};
 ghost use Rattle.clap.specs.Words.{app_of};
-ghost use Rattle.cm_words.specs.Command.{bare_app, build_options, cmph_app, file_options, file_rule, flags, option_rule, with_argument, with_arguments};
+ghost use Rattle.cm_words.specs.Command.{bare_app, cmph_app, file_rule, option_rule, with_argument, with_arguments};
 
 use clap::{Arg, ArgAction, Command};
 use std::alloc::{AllocError, Global};
@@ -54,22 +54,15 @@ fn with_options<'a>(
     Ok(command)
 }
 
-fn with_flags<'a>(alloc: Global, command: Command<'a>) -> Result<Command<'a>, AllocError>
-    ensures { IfOk result (λ r. app_of r ≡ with_arguments (app_of command.entry) flags) }
+/// The command of `cmph`, with its arguments.
+pub fn command<'a>(alloc: Global) -> Result<Command<'a>, AllocError>
+    ensures { IfOk result (λ r. app_of r ≡ cmph_app) }
 {
-    let flags = [
+    let options = [
         ("help", 'h', ArgAction::SetTrue),
         ("version", 'V', ArgAction::SetTrue),
         ("verbose", 'v', ArgAction::Count),
         ("generate", 'g', ArgAction::SetTrue),
-    ];
-    with_options(alloc, command, &flags)
-}
-
-fn with_build_options<'a>(alloc: Global, command: Command<'a>) -> Result<Command<'a>, AllocError>
-    ensures { IfOk result (λ r. app_of r ≡ with_arguments (app_of command.entry) build_options) }
-{
-    let options = [
         ("algorithm", 'a', ArgAction::Set),
         ("bits", 'b', ArgAction::Set),
         ("ratio", 'c', ArgAction::Set),
@@ -79,26 +72,9 @@ fn with_build_options<'a>(alloc: Global, command: Command<'a>) -> Result<Command
         ("count", 'r', ArgAction::Set),
         ("seed", 's', ArgAction::Set),
         ("test", 'T', ArgAction::Set),
-    ];
-    with_options(alloc, command, &options)
-}
-
-fn with_file_options<'a>(alloc: Global, command: Command<'a>) -> Result<Command<'a>, AllocError>
-    ensures { IfOk result (λ r. app_of r ≡ with_arguments (app_of command.entry) file_options) }
-{
-    let options = [
         ("first", 'k', ArgAction::Set),
         ("function", 'm', ArgAction::Set),
     ];
-    let command = with_options(alloc, command, &options)?;
+    let command = with_options(alloc, bare(alloc), &options)?;
     with_file(alloc, command, "keys")
-}
-
-/// The command of `cmph`, with its arguments.
-pub fn command<'a>(alloc: Global) -> Result<Command<'a>, AllocError>
-    ensures { IfOk result (λ r. app_of r ≡ cmph_app) }
-{
-    let command = with_flags(alloc, bare(alloc))?;
-    let command = with_build_options(alloc, command)?;
-    with_file_options(alloc, command)
 }
