@@ -1,7 +1,7 @@
 -- What holds when a round would remove nothing.
-use Rattle.std.proofs.Common.{◌≡◌, ◌⊎◌, ℕ, zero, suc, ◌+◌, ◌-◌, ◌*◌, ◌%◌, ◌<◌, ◌≤◌, Bool, true, false, cond, not, ltb, ◌&&◌, List, [], ◌∷◌, ◌++◌, length, get_or, map, sym, refl, ap, ◌∙◌, inl, inr, arith, append-nil}
+use Rattle.std.proofs.Common.{◌≡◌, ◌⊎◌, ℕ, zero, suc, ◌+◌, ◌-◌, ◌*◌, ◌%◌, ◌<◌, ◌≤◌, Bool, true, false, cond, leb, not, ltb, ◌&&◌, List, [], ◌∷◌, ◌++◌, length, get_or, map, sym, refl, ap, ◌∙◌, inl, inr, arith, append-nil}
 use Rattle.std.specs.List.{filter, list_all}
-use Rattle.std.proofs.lemmas.Bool.{cases_Bool, and_from, cond-true, cond-false, lt-ltb, le-ltb}
+use Rattle.std.proofs.lemmas.Bool.{cases_Bool, cases_lt, and_from, cond-true, cond-false, le-leb, le-ltb, lt-leb, lt-ltb}
 use Rattle.std.proofs.Math.Nat.{mul-le-mul_left}
 use Rattle.std.proofs.lemmas.List.{get_or-map, length-map}
 use Rattle.std.proofs.lemmas.Grind.{same_number_lists, get_or_default_zero}
@@ -11,7 +11,6 @@ use Rattle.cm_spec.specs.Rounds.{is_left, is_held, left_after, removed_after, re
 use Rattle.cm_edges.specs.Graph.{Graph, Links}
 use Rattle.cm_peel.specs.AtRound.{AtRound, byte_of}
 use Rattle.cm_peel.specs.Peeling.{IsPeelingOf, levels_of, is_taken, pivots_in, untaken_of}
-use Rattle.cm_peel.proofs.First.{kept_next}
 use Rattle.cm_peel.proofs.Unlinking.{pivot_small}
 use Rattle.cm_peel.specs.SetLaws.{filter_agree_on}
 use Rattle.cm_peel.specs.CoreLaws.{left_after_is, IsStable, stable_stays, stable_next}
@@ -138,12 +137,15 @@ steps_next k s₀ s s' m start at a b h =
 pub steps_end : (k s₀ s m at : ℕ) → s ≤ s₀ + 4 * (k * m) + 3 * (k * at) → at ≤ m → s ≤ s₀ + 8 * (k * m)
 steps_end k s₀ s m at a few = omega (arith, mul-le-mul_left k few)
 
--- one more edge
-pub untaken_more : (bytes now new : List ℕ) (e : ℕ) → now ≡ filter (is_untaken bytes) (numbers_from 0 e) → new ≡ now ++ cond (is_untaken bytes e) (e ∷ []) [] → new ≡ filter (is_untaken bytes) (numbers_from 0 (e + 1))
-untaken_more bytes now new e was is = is ∙ (ap (λ (xs : List ℕ). xs ++ cond (is_untaken bytes e) (e ∷ []) []) was ∙ sym (kept_next (is_untaken bytes) e))
-
-pub untaken_here : (bytes : List ℕ) (e x : ℕ) → e < length bytes → x ≡ get_or bytes e x → 8 ≤ x → is_untaken bytes e ≡ true
+-- whether the byte of an edge says that it isn't taken
+untaken_here : (bytes : List ℕ) (e x : ℕ) → e < length bytes → x ≡ get_or bytes e x → 8 ≤ x → is_untaken bytes e ≡ true
 untaken_here bytes e x h read far = ap not (ap (λ y. ltb y 8) (sym (read ∙ get_or_default_zero bytes e x h)) ∙ le-ltb x 8 far)
 
-pub taken_here : (bytes : List ℕ) (e x : ℕ) → e < length bytes → x ≡ get_or bytes e x → x < 8 → is_untaken bytes e ≡ false
+taken_here : (bytes : List ℕ) (e x : ℕ) → e < length bytes → x ≡ get_or bytes e x → x < 8 → is_untaken bytes e ≡ false
 taken_here bytes e x h read low = ap not (ap (λ y. ltb y 8) (sym (read ∙ get_or_default_zero bytes e x h)) ∙ lt-ltb x 8 low)
+
+pub untaken_byte : (bytes : List ℕ) (e x : ℕ) → e < length bytes → x ≡ get_or bytes e x → leb 8 x ≡ is_untaken bytes e
+untaken_byte bytes e x h read = elim (cases_lt x 8) [
+  | inl low ↦ lt-leb 8 x low ∙ sym (taken_here bytes e x h read low)
+  | inr far ↦ le-leb 8 x far ∙ sym (untaken_here bytes e x h read far)
+]

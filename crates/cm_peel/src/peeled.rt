@@ -63,22 +63,22 @@ impl<const K: usize> Peeled<K> {
     }
 }
 
-/// The edges that aren't taken, of which there are `many`.
+/// The edges that aren't taken by rising number. There are `many`.
 fn untaken(alloc: Global, bytes: &Vec<u8>, many: usize) -> Result<Vec<u32>, AllocError>
     requires few { length bytes.now.items ≤ 67108864 }
     requires many { many ≡ length (untaken_of bytes.now.items) }
     ensures { IfOk result (λ v. v.items ≡ untaken_of bytes.now.items) }
 {
-    let mut v = Vec::new(alloc);
-    if many == 0 {
-        return Ok(v);
+    let mut list = vec![in alloc; 0; many]?;
+    let mut at = 0;
+    let mut e = 0;
+    // Each edge is written, and the next one over it if it is taken, so that no branch depends on that.
+    'edges: while at < many {
+        list[at] = e;
+        at += (bytes[e as usize] >= UNTAKEN) as usize;
+        e += 1;
     }
-    for e in 0..bytes.len() as u32 {
-        if bytes[e as usize] >= UNTAKEN {
-            v.push(e)?;
-        }
-    }
-    Ok(v)
+    Ok(list)
 }
 
 /// Peels the edges by rounds, and notes the level of each in `levels`, which has a 0 for each edge, or is empty.

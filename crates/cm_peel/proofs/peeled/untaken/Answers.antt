@@ -1,15 +1,24 @@
-use Rattle.std.proofs.Common.{ℕ, ◌<◌, ◌∙◌, [], ◌∷◌, ◌++◌, length, cond, Bool, sym, ap, arith, append-nil, Vec, Global}
-use Rattle.cm_peel.proofs.Ending.{untaken_more, untaken_here, taken_here}
+use Rattle.std.proofs.Common.{◌<◌, ◌+◌, Bool, leb, length, set, take, ap, ◌∙◌, arith}
+use Rattle.std.proofs.Math.ListN.{length-set}
+use Rattle.cm_peel.proofs.Chunks.{byte_small}
+use mir.Val.{bool_byte}
+use Rattle.cm_peel.proofs.Ending.{is_untaken, untaken_byte}
+use Rattle.cm_peel.proofs.Listing.{kept_written, kept_more, kept_all}
 use Rattle.cm_peel.proofs.peeled.untaken.Goals as goal
-use Rattle.cm_peel.proofs.peeled.untaken.Goals.{then-index-ge-UNTAKEN+in_ok-push, else-index-ge-UNTAKEN}
 
-pub loop-e-preserved : goal.loop-e-preserved
-loop-e-preserved c =
-    let within : c.loop-e.e < length c.args.bytes.now.items = omega (arith, c.loop-e.invariant.end) in
+pub edges-preserved : goal.edges-preserved
+edges-preserved c =
+    let inv = c.edges.invariant in
+    let more : c.edges.e < length c.args.bytes.now.items = kept_more (is_untaken c.args.bytes.now.items) c.edges.list.items c.edges.at c.edges.e _ (omega (arith, c.edges-test.true, inv.long)) inv.within (inv.long ∙ c.requires.many) inv.listed in
     record {
-      end = c.loop-e.invariant.end;
-      v = untaken_more c.args.bytes.now.items c.loop-e.v.items _ c.loop-e.e c.loop-e.invariant.v (elim c.if-index-ge-UNTAKEN.branch [
-        | then-index-ge-UNTAKEN+in_ok-push w ↦ ap (λ (x : Vec ℕ Global). x.items) w.v-is ∙ (w.in_ok-push.ensures.items ∙ ap (λ (b : Bool). c.loop-e.v.items ++ cond b (c.loop-e.e ∷ []) []) (sym (untaken_here c.args.bytes.now.items c.loop-e.e c.index.result.now within c.index.ensures w.if-index-ge-UNTAKEN.true)))
-        | else-index-ge-UNTAKEN w ↦ ap (λ (x : Vec ℕ Global). x.items) w.v-is ∙ sym (ap (λ (b : Bool). c.loop-e.v.items ++ cond b (c.loop-e.e ∷ []) []) (taken_here c.args.bytes.now.items c.loop-e.e c.index.result.now within c.index.ensures (omega (arith, w.if-index-ge-UNTAKEN.false))) ∙ append-nil _)
-      ]);
+      long = length-set _ _ _ ∙ inv.long;
+      place = omega (arith, c.edges-test.true, byte_small (leb 8 c.index.result.now));
+      within = omega arith;
+      listed = ap (λ (b : Bool). take (c.edges.at + bool_byte b) (set c.edges.list.items c.edges.at c.edges.e)) (untaken_byte c.args.bytes.now.items c.edges.e c.index.result.now more c.index.ensures)
+          ∙ kept_written (is_untaken c.args.bytes.now.items) c.edges.list.items c.edges.at c.edges.e (omega (arith, c.edges-test.true, inv.long)) inv.listed;
     }
+
+pub returns : goal.returns
+returns c =
+    let inv = c.edges.invariant in
+    kept_all (is_untaken c.args.bytes.now.items) c.edges.list.items c.edges.at c.edges.e _ (omega (arith, c.edges-test.false, inv.place, inv.long)) inv.within (inv.long ∙ c.requires.many) inv.listed

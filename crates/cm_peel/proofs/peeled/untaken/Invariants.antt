@@ -1,10 +1,15 @@
-use Rattle.std.proofs.Common.{◌≡◌, filter, length, not}
+use Rattle.std.proofs.Common.{◌≡◌, ◌-◌, ◌≤◌, filter, length, take}
 use Rattle.cm_spec.specs.Lists.{numbers_from}
-use Rattle.cm_peel.specs.Peeling.{is_taken}
+use Rattle.cm_peel.proofs.Ending.{is_untaken}
 use Rattle.cm_peel.proofs.peeled.untaken.Given as goal
 
-abbrev pub invariant-loop-e : goal.invariant-loop-e
-invariant-loop-e l = record {
-  end : l.e-end ≡ length l.bytes.items;
-  v : l.v.items ≡ filter (λ e. not (is_taken l.bytes.items e)) (numbers_from 0 l.e);
+abbrev pub invariant-edges : goal.invariant-edges
+invariant-edges l = record {
+  long : length l.list.items ≡ l.many;
+  place : l.at ≤ l.many;
+  within : l.e ≤ length l.bytes.items;
+  listed : take l.at l.list.items ≡ filter (is_untaken l.bytes.items) (numbers_from 0 l.e);
 }
+
+abbrev pub decreases-edges : goal.decreases-edges
+decreases-edges l = length l.bytes.items - l.e
