@@ -1,4 +1,4 @@
-ghost use Rattle.std.specs.Prelude.{◌≡◌, ◌<◌, ◌≤◌, None, length};
+ghost use Rattle.std.specs.Prelude.{◌≡◌, ◌<◌, ◌≤◌, ◌+◌, None, length};
 
 use crate::equal::{expect_equal, expect_true};
 use cm_algo::{BuildFault, Built, assign, build};
@@ -56,6 +56,8 @@ impl KeyPass for Changing<'_> {
     ghost faults = { λ p. p.faults };
 
     ghost stands = { λ p _. (0 < p.ready) × (p.given < 16777216) };
+
+    ghost next_line = { λ p. p.given + 1 };
 
     fn usable(&self) -> bool {
         self.usable

@@ -32,6 +32,8 @@ impl<P: KeyPass> KeyPass for Counting<P> {
 
     ghost stands = { λ s key. P.stands s.pass key };
 
+    ghost next_line = { λ s. P.next_line s.pass };
+
     fn usable(&self) -> bool {
         self.pass.usable()
     }

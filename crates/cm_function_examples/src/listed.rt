@@ -1,5 +1,5 @@
 //! A pass over the keys of a list.
-ghost use Rattle.std.specs.Prelude.{◌≡◌, ◌<◌, ◌≤◌, None, length, true};
+ghost use Rattle.std.specs.Prelude.{◌≡◌, ◌<◌, ◌≤◌, ◌+◌, None, length, true};
 
 use cm_io::{KeyBuf, KeyFault, KeyPass, MAX_KEY_LEN, MAX_KEYS};
 
@@ -47,6 +47,8 @@ impl KeyPass for Listed<'_> {
     ghost faults = { λ p. p.faults };
 
     ghost stands = { λ p _. (0 < p.ready) × (p.given < length p.keys.now) × (p.given < 16777216) };
+
+    ghost next_line = { λ p. p.given + 1 };
 
     fn usable(&self) -> bool {
         self.usable

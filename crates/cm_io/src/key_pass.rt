@@ -48,6 +48,9 @@ pub trait KeyPass {
     /// The next key is buffered, and has these bytes.
     ghost stands: { Self → List ℕ → Type 0 };
 
+    /// The line of the next key, if it is buffered.
+    ghost next_line: { Self → ℕ };
+
     /// False from a call that failed until a rewind that doesn't.
     fn usable(&self) -> bool
         ensures usable { result ≡ usable self.now };
@@ -78,6 +81,7 @@ pub trait KeyPass {
         ensures gives { IfSome result (λ key. ForSome (told self.now) (λ told.
             GivesKey told (place self.now) (place self.now + 1) key.0 key.1.now (Ok true))) }
         ensures short { IfSome result (λ key. length key.1.now ≤ MAX_KEY_LEN) }
+        ensures line { IfSome result (λ key. (key.0 ≡ next_line self.now) × (last self.now < key.0)) }
         ensures stands { IfSome result (λ key. stands self.now key.1.now) }
         ensures none_stands { IfNone result ((key : List ℕ) → stands self.now key → ⊥) };
 
@@ -92,6 +96,7 @@ pub trait KeyPass {
         ensures cause { faults self.new ≡ faults self.old }
         ensures counts { place self.new ≡ place self.old + 1 }
         ensures few { place self.new ≤ MAX_KEYS }
+        ensures line { last self.new ≡ next_line self.old }
         ensures rises { last self.old < last self.new }
         ensures usable { usable self.new ≡ true };
 

@@ -132,6 +132,8 @@ impl<S: Source> KeyPass for Keys<S> {
 
     ghost stands = { λ k key. IsAtHand MAX_KEYS MAX_KEY_LEN LINE_END k key };
 
+    ghost next_line = { λ k. k.given + 1 };
+
     fn usable(&self) -> bool {
         self.usable
     }
@@ -197,6 +199,7 @@ impl<S: Source> KeyPass for Keys<S> {
         ensures gives { IfSome result (λ key. ForSome (keys_of MAX_KEYS MAX_KEY_LEN LINE_END self.now) (λ told.
             GivesKey told self.now.given (self.now.given + 1) key.0 key.1.now (Ok true))) }
         ensures short { IfSome result (λ key. length key.1.now ≤ MAX_KEY_LEN) }
+        ensures line { IfSome result (λ key. (key.0 ≡ self.now.given + 1) × (self.now.given < key.0)) }
         ensures stands { IfSome result (λ key. IsAtHand MAX_KEYS MAX_KEY_LEN LINE_END self.now key.1.now) }
         ensures none_stands { IfNone result ((key : List ℕ) → IsAtHand MAX_KEYS MAX_KEY_LEN LINE_END self.now key → ⊥) }
 

@@ -89,7 +89,7 @@ impl BucketKeys {
 }
 
 impl KeyPass for BucketKeys {
-    ghost use Rattle.std.specs.Prelude.{◌≡◌, ◌<◌, [], length, true, None, Some, slice_index_or};
+    ghost use Rattle.std.specs.Prelude.{◌≡◌, ◌<◌, ◌+◌, [], length, true, None, Some, slice_index_or};
     ghost use Rattle.cm_split.specs.BucketPass.{line_before};
 
     ghost told = { λ b. Some (record { keys = b.keys; fault = None }) };
@@ -103,6 +103,8 @@ impl KeyPass for BucketKeys {
     ghost faults = { λ _. 0 };
 
     ghost stands = { λ b key. (b.given < length b.keys) × (key ≡ (slice_index_or b.keys b.given (0, [])).1) };
+
+    ghost next_line = { λ b. line_before b.keys (b.given + 1) };
 
     fn usable(&self) -> bool {
         true

@@ -17,7 +17,8 @@ use cm_buckets::MAX_BUCKET;
 use cm_io::{KeyBuf, KeyPass};
 use std::alloc::Global;
 
-/// Puts the next key into the store, and returns its bucket, or none at the end. The buffer is scratch space.
+/// Puts the next key into the store, and returns its bucket, or none at the end. A buffered key is put where it stands, and any other is
+/// copied into the buffer, which is scratch space.
 fn put_next<P: KeyPass, B: Store>(
     alloc: Global,
     keys: &mut P,
@@ -45,11 +46,22 @@ fn put_next<P: KeyPass, B: Store>(
     ensures undamaged { IfErr result IsPutFault }
     ensures fault { IfErr result (λ e. ForSome (P.told keys.old) (λ told. FailsPut told e)) }
 {
-    if !keys.next(key)? {
-        return Ok(None);
-    }
-    let bucket = split.bucket_of(key.as_slice());
-    store.put(alloc, bucket, keys.line(), key.as_slice())?;
+    let (bucket, len) = match keys.peek() {
+        Some((line, next)) => {
+            let bucket = split.bucket_of(next);
+            store.put(alloc, bucket, line, next)?;
+            (bucket, next.len())
+        }
+        None => {
+            if !keys.next(key)? {
+                return Ok(None);
+            }
+            let bucket = split.bucket_of(key.as_slice());
+            store.put(alloc, bucket, keys.line(), key.as_slice())?;
+            return Ok(Some(bucket));
+        }
+    };
+    keys.pass(len);
     Ok(Some(bucket))
 }
 

@@ -1,36 +1,26 @@
-use Rattle.std.proofs.Common.{◌≡◌, ◌∙◌, ℕ, List, ap, refl}
+use Rattle.std.proofs.Common.{◌∙◌, ℕ, List, ap, refl, sym}
 use Rattle.cm_buckets.specs.Functions.{bucket_of}
 use Rattle.cm_split.specs.Records.{Record}
 use Rattle.cm_split.proofs.putting.put_next.Goals as goal
 
-pub returns-clause-last : goal.returns-clause-last
-returns-clause-last g c = c.in_ok-put.ensures.last ∙ c.line.ensures.last
-
 pub returns-clause-gives : goal.returns-clause-gives
-returns-clause-gives g c = λ told is.
-    let gives = rw c.if-not-branch.false at c.in_ok-next.ensures.gives in (
-      (g.P.KeyPass.last c.next.new.self, c.next.new.key.items),
-      gives told is,
-      c.bucket_of-bucket.ensures.bucket ∙ ap (λ (key : List ℕ). bucket_of key c.args.split.now.seed c.args.split.now.buckets) c.as_slice.ensures.value,
-    )
+returns-clause-gives g c = λ told is. (
+  (g.P.KeyPass.last c.pass.new.self, c.in-Some.next.now),
+  c.pass.ensures.gives c.in-Some.next.now c.in-Some.ensures.stands refl told is,
+  c.bucket_of-bucket.ensures.bucket,
+)
 
 pub returns-clause-puts : goal.returns-clause-puts
 returns-clause-puts g c = λ records held.
-    let gives = rw c.if-not-branch.false at c.in_ok-next.ensures.gives in
-    let k : ℕ = c.args.split.now.buckets in
-    let split : ℕ = c.args.split.now.seed in
-    let bucket : ℕ = c.bucket_of-bucket.result in
+    let key : List ℕ = c.in-Some.next.now in
     record {
-      put = record { bucket = bucket; line = c.line.result; key = c.as_slice-2.result.now };
-      held = c.in_ok-put.ensures.holds records held;
+      put = record { bucket = c.bucket_of-bucket.result; line = c.in-Some.line; key = key };
+      held = c.in_ok-put-in-Some.ensures.holds records held;
       here = refl;
       next = λ told is. record {
-        key = (g.P.KeyPass.last c.next.new.self, c.next.new.key.items);
-        is = gives told is;
-        put_is =
-            let here : bucket ≡ bucket_of c.next.new.key.items split k = c.bucket_of-bucket.ensures.bucket ∙ ap (λ (key : List ℕ). bucket_of key split k) c.as_slice.ensures.value in
-            ap (λ (b : ℕ). let r : Record = record { bucket = b; line = c.line.result; key = c.as_slice-2.result.now } in r) here
-            ∙ (ap (λ (l : ℕ). let r : Record = record { bucket = bucket_of c.next.new.key.items split k; line = l; key = c.as_slice-2.result.now } in r) c.line.ensures.last
-            ∙ ap (λ (key : List ℕ). let r : Record = record { bucket = bucket_of c.next.new.key.items split k; line = g.P.KeyPass.last c.next.new.self; key = key } in r) c.as_slice-2.ensures.value);
+        key = (g.P.KeyPass.last c.pass.new.self, key);
+        is = c.pass.ensures.gives key c.in-Some.ensures.stands refl told is;
+        put_is = ap (λ (b : ℕ). let r : Record = record { bucket = b; line = c.in-Some.line; key = key } in r) c.bucket_of-bucket.ensures.bucket
+            ∙ ap (λ (l : ℕ). let r : Record = record { bucket = bucket_of key c.args.split.now.seed c.args.split.now.buckets; line = l; key = key } in r) (c.in-Some.ensures.line.0 ∙ sym c.pass.ensures.line);
       };
     }
