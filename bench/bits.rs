@@ -1,6 +1,6 @@
 //! The packed tables in plain Rust, measured as the program `bench_bits` measures the proved ones.
 //!
-//! Built by `bench/bits.sh`. It takes the same arguments as `bench_bits` and prints the same lines, but for the times.
+//! Built by `bench/bits.sh`. It takes the same arguments as `bench_bits` and prints the same lines, except for the times.
 
 use std::env;
 use std::time::Instant;

@@ -171,7 +171,7 @@ fn find_end(bytes: &[u8]) -> Option<usize> {
     bytes.iter().position(|byte| *byte == b'\n')
 }
 
-/// Calls `each` with the lines of a file, where they stand in the buffer but for those that lie across two reads.
+/// Calls `each` with the lines of a file, where they stand in the buffer except those that lie across two reads.
 pub fn for_lines(path: &str, mut each: impl FnMut(&[u8])) -> io::Result<()> {
     let mut reader = open(path)?;
     let mut part = Vec::new();
@@ -255,7 +255,7 @@ impl Batch {
 
 // A build
 
-/// Tells what has passed since the last time, and begins anew.
+/// Tells what has passed since the last time, and begins again.
 fn tell(timed: bool, part: &str, start: &mut Instant) {
     if timed {
         println!("{part} {:.1}", start.elapsed().as_secs_f64() * 1000.0);

@@ -111,14 +111,10 @@ def is_first(name, others, chains):
     return all(chains[name] >= chains[other] for other in others)
 
 
-def jobs_for(name, others, most, chains):
-    """How many processes prove a crate beside others: all if it is alone, and else two for the one that the longest chain waits for, even if they are
-    one too many, or if a processor is left. A program has little to prove."""
-    if is_program(name):
-        return 1
-    if len(others) == 1:
-        return most
-    return min(2, most) if is_first(name, others, chains) or len(others) < most else 1
+def jobs_for(name, others, most):
+    """How many processes prove a crate beside others: one, and those of the processors that are left. Each process reads what stands
+    below, so they have more to do together than one. A program has little to prove."""
+    return 1 if is_program(name) else 1 + max(0, most - len(others))
 
 
 def room():
@@ -209,7 +205,7 @@ def prove_all(crates, most, proof):
                 ready = sorted(ready, key=chains.get, reverse=True)[: most - len(running)]
                 others = [*running.values(), *ready]
                 for name in ready:
-                    jobs, waits = jobs_for(name, others, most, chains), not is_first(name, others, chains)
+                    jobs, waits = jobs_for(name, others, most), not is_first(name, others, chains)
                     running[pool.submit(proof.prove, name, jobs, waits)] = name
                 for ended in wait(running, return_when=FIRST_COMPLETED).done:
                     name, (status, seconds, said) = running.pop(ended), ended.result()

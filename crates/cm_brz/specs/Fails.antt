@@ -1,6 +1,5 @@
 -- Why a build by BRZ fails.
 use Rattle.std.specs.Prelude.{◌≡◌, ◌≢◌, ℕ, ◌<◌, List, [], All, length, slice_index, is_some, true, None, Some}
-use Rattle.cm_algo.specs.Fails.{ShowsCore}
 use Rattle.cm_io.specs.Passes.{IsToldFault}
 use Rattle.cm_algorithm.specs.declared.algorithm.Algorithm.TheVariants as algorithm
 use Rattle.cm_brz.specs.BrzOf.{bucket_from}
@@ -10,6 +9,7 @@ use Rattle.cm_split.specs.declared.fault.BrzFault.TheVariants.{Memory, NoKeys, O
 use Rattle.cm_buckets.specs.Functions.{bucket_count}
 use Rattle.cm_buckets.specs.declared.limits.TheConstants.{MAX_BUCKET}
 use Rattle.cm_io.specs.Passes.{Told}
+use Rattle.cm_seeds.specs.Fails.{ShowsCore}
 use Rattle.cm_spec.specs.Bdz.{bdz_rule}
 use Rattle.cm_spec.specs.Built.{AllCored, first_seed}
 use Rattle.cm_witness.specs.Pairs.{pairs}

@@ -18,7 +18,6 @@ ghost use Rattle.cm_spec.specs.Built.{IsFirst};
 ghost use Rattle.cm_spec.specs.Cells.{is_busy};
 ghost use Rattle.cm_spec.specs.Rule.{IsRatio};
 
-use cm_algo::{BuildFault, build_with};
 use cm_algorithm::Algorithm;
 use cm_bdz::{BdzScheme, PartsFault};
 use cm_bits::{Cells, Crumbs};
@@ -26,6 +25,7 @@ use cm_buckets::BrzParts;
 use cm_graph::{Steps, Xored};
 use cm_io::KeyBuf;
 use cm_scheme::Built;
+use cm_seeds::{BuildFault, build_with};
 use cm_split::{BrzFault, BucketKeys, Store, StoreFault};
 use cm_witness::{Certificate, InBucket};
 use std::alloc::Global;

@@ -13,11 +13,11 @@ ghost use Rattle.cm_buckets.specs.declared.limits.TheConstants.{MAX_BUCKET, MAX_
 ghost use Rattle.cm_spec.specs.Rule.{IsRatio};
 
 use crate::buckets::build_buckets;
-use cm_algo::count_all;
 use cm_buckets::{Brz, BrzParts, MAX_BUCKET};
 use cm_graph::Steps;
 use cm_io::{KeyBuf, KeyPass};
 use cm_scheme::Divisor;
+use cm_seeds::count_all;
 use cm_split::{BrzFault, Overfull, Split, Splitting, Store, choose_split, gather_equal, put_all};
 use std::alloc::Global;
 use std::sync::ledger::Ledger;

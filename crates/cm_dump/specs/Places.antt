@@ -10,6 +10,6 @@ IsPlace place image.Memory = Unit {0}
 IsPlace place (image.BadCell i) = (i < MAX_CELLS) × (place i < 2 ^ 62)
 IsPlace place (image.BadPadding q) = q < 2 ^ 62
 
--- the faults of so many bytes are at such places
+-- the faults of `size` bytes are at such places
 abbrev pub AreNear : ℕ → (ℕ → ℕ) → (List ℕ → Option ImageFault) → Type 0
 AreNear size place fault = (bytes : List ℕ) (f : ImageFault) → length bytes ≡ size → fault bytes ≡ Some f → IsPlace place f

@@ -23,7 +23,7 @@ const MIN_RATIO: u32 = 1_000_000;
 const MAX_RATIO: u32 = 10_000_000;
 
 /// By what a function was built.
-#[derive(Clone, Copy, Debug, PartialEq, Eq)]
+#[derive(Clone, Copy)]
 pub enum Algorithm {
     Chm,
     Bdz,

@@ -4,6 +4,7 @@ ghost use Rattle.cm_spec.specs.Rule.{IsRatio};
 
 use crate::answering::expect_answers;
 use crate::equal::{expect_equal, expect_true};
+use cm_assign::cells_solve;
 use cm_bdz::{Bdz, BdzPh, PartsFault, answers_apart, chosen};
 use cm_bits::{Cells, Crumbs, Trits};
 use cm_scheme::Built;
@@ -35,6 +36,7 @@ fn function(alloc: Global, m: u32, zeros: &[u32]) -> Result<Result<Bdz, PartsFau
 
 #[test]
 fn ranked_answers(rt: HostRuntime) -> Result<(), Fail> {
+    cells_solve();
     answers_apart();
     let Ok(two) = function(rt.alloc(), 2, &[1, 2])? else {
         panic!(rt; "refused");

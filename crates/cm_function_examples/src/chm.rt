@@ -5,6 +5,7 @@ ghost use Rattle.cm_spec.specs.Rule.{IsRatio};
 
 use crate::answering::expect_answers;
 use crate::equal::expect_equal;
+use cm_assign::cells_solve;
 use cm_bits::{Cells, Fields};
 use cm_chm::{Chm, answers_numbers};
 use cm_scheme::{Built, answer};
@@ -36,6 +37,7 @@ fn function(
 #[test]
 fn worked_functions(rt: HostRuntime) -> Result<(), Fail> {
     let alloc = rt.alloc();
+    cells_solve();
     answers_numbers();
     let one_key = function(alloc, 1, 2_090_000, 0, 3, None)?;
     expect_answers(&rt, &one_key, &(1, Some(0), Some(0)));

@@ -1,6 +1,3 @@
-pub mod MemSources
-pub mod MemSinks
-pub mod MemSpills
 pub mod DiskCalls
 pub mod MemDisks
 pub mod MemFiles

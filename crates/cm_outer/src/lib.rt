@@ -1,4 +1,5 @@
-//! Fakes in memory of what `cm_io` names: sources, sinks, spills and disks. What they stand for is exported too.
+//! Fakes of what `cm_io` names, in memory: disks, and sources and spills whose contents are not known. What they stand for, and the source, sink
+//! and spill in memory that they are made of, are exported too.
 #![tactic(auto)]
 
 mod bent_disk;
@@ -7,9 +8,6 @@ mod disk_call;
 mod listed_calls;
 mod mem_disk;
 mod mem_file;
-mod mem_sink;
-mod mem_source;
-mod mem_spill;
 mod turn_source;
 
 pub use bent_disk::BentDisk;
@@ -18,9 +16,7 @@ pub use cm_io::{
     Disk, DiskFault, Failed, KeyBuf, KeyFault, KeyPass, MAX_KEY_LEN, MAX_KEYS, Notes, Sink, Source,
     Spill, write_pieces,
 };
+pub use cm_memory::{MemSink, MemSource, MemSpill};
 pub use disk_call::DiskCall;
 pub use mem_disk::MemDisk;
-pub use mem_sink::MemSink;
-pub use mem_source::MemSource;
-pub use mem_spill::MemSpill;
 pub use turn_source::TurnSource;

@@ -1,4 +1,1 @@
-pub mod Alone
-pub mod InPlace
 pub mod Remainders
-pub mod Solving

@@ -40,14 +40,3 @@ less_is x n q near high =
     let more : (q + 1) * n ≡ q * n + n = omega arith in
     let same : x - (q + 1) * n ≡ x - q * n - n = omega (arith, more) in
     sym same ∙ left_is x n (q + 1) (omega (arith, more, high)) (omega (arith, more, high, near.left))
-
--- the number below n that brings a sum to the target, by the remainder of the sum
-pub from_above : (n target left : ℕ) → target < n → left ≤ target → target - left ≡ (target + (n - left)) % n
-from_above n target left low h =
-    let is : 1 * n + (target - left) ≡ target + (n - left) = omega arith in
-    sym (mod-mul-add 1 n (target - left) (omega arith)) ∙ ap (λ (k : ℕ). k % n) is
-
-pub from_below : (n target left : ℕ) → left < n → target < left → n - (left - target) ≡ (target + (n - left)) % n
-from_below n target left low h =
-    let is : 0 * n + (n - (left - target)) ≡ target + (n - left) = omega arith in
-    sym (mod-mul-add 0 n (n - (left - target)) (omega arith)) ∙ ap (λ (k : ℕ). k % n) is

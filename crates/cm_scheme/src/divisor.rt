@@ -53,11 +53,8 @@ impl Divisor {
         // The quotient is the true one, or one less.
         let quotient = (x as u64 * self.scaled) >> 32;
         let left = x as u64 - quotient * n;
-        if left >= n {
-            (left - n) as u32
-        } else {
-            left as u32
-        }
+        // A difference below zero wraps around, and is then the greater of the two: no branch depends on the remainder.
+        left.min(left.wrapping_sub(n)) as u32
     }
 
     /// The remainder of any `x` by this number. Divides only if `x` is `2^32` or more.

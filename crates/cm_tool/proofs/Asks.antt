@@ -1,85 +1,31 @@
 -- From the parts of a query to what it promises.
-use Rattle.std.proofs.Common.{◌≡◌, ◌≢◌, ◌∙◌, ◌⊎◌, ◌↔◌, ℕ, ◌+◌, ◌-◌, ◌≤◌, List, [], ◌∷◌, ◌++◌, length, take, Option, None, Some, Result, Ok, Err, inl, inr, refl, ap, sym, subst, arith, append-nil, Bool}
+use Rattle.std.proofs.Common.{◌≡◌, ◌≢◌, ◌∙◌, ◌⊎◌, ◌↔◌, ℕ, ◌+◌, ◌≤◌, List, [], ◌∷◌, ◌++◌, Option, None, Some, Ok, Err, inl, inr, refl, ap, sym, subst, arith, append-nil, Bool}
 use Rattle.std.specs.Option.{option_map}
 use Rattle.std.proofs.Math.Seq.{take-nil}
-use Rattle.std.proofs.lemmas.List.{take_all}
 use Rattle.cm_dump.specs.Functions.{answer_by}
-use Rattle.cm_dump.specs.Reading.{Fails, HasLoadCause}
-use Rattle.cm_dump.specs.Spelling.{spelling_of}
 use Rattle.cm_dump.specs.declared.fault.LoadFault.{LoadFault}
-use Rattle.cm_dump.specs.declared.fault.LoadFault.TheVariants as faults
 use Rattle.cm_dump.specs.declared.writer.Func.{Func}
-use Rattle.cm_io.specs.Causes.{Collects}
-use Rattle.cm_io.specs.NotingLaws.{noted_all, noted_front}
 use Rattle.cm_io.specs.Files.{Files, file_at}
 use Rattle.cm_io.specs.Noting.{HasNoted}
 use Rattle.cm_io.specs.Writing.{then_bytes}
 use Rattle.cm_io.specs.declared.key_pass.KeyFault.{KeyFault}
 use Rattle.cm_io.specs.declared.key_pass.KeyFault.TheVariants as key_fault
 use Rattle.cm_io.specs.WritingLaws.{then_nothing}
-use Rattle.cm_query.specs.Stops.{StopsAt, TextAfter, noted_keys}
 use Rattle.cm_query.specs.Tallies.{tally_of}
 use Rattle.cm_query.specs.Texts.{notes_of, text_of}
-use Rattle.cm_query.specs.declared.fault.QueryFault.{QueryFault}
-use Rattle.cm_query.specs.declared.fault.QueryFault.TheVariants as query_fault
 use Rattle.cm_query.specs.declared.tally.Tally.{Tally}
-use Rattle.cm_tool.specs.Asked.{AskedAll, AskedPart, EndsKeys, EndsQuery, IsBadDump, IsStopCause, RefusesDump, Spells, keys_at, keys_or_none, stop_from_load, stop_from_query}
-use Rattle.cm_tool.specs.Ends.{Says, query_message_of, query_status_of}
-use Rattle.cm_words.specs.declared.jobs.QueryJob.{QueryJob}
-use Rattle.cm_words.specs.declared.jobs.Job.TheVariants.{Query}
-use Rattle.cm_tool.specs.Messages.{bad_dump}
+use Rattle.cm_steps.specs.Asked.{AskedAll, AskedPart, EndsQuery, IsBadDump, Spells, keys_at, keys_or_none}
+use Rattle.cm_steps.specs.EndLaws.{says_all}
+use Rattle.cm_steps.specs.Ends.{Says, query_message_of, query_status_of}
+use Rattle.cm_steps.specs.Messages.{bad_dump}
+use Rattle.cm_steps.specs.declared.stop.QueryStop.TheVariants.{Memory, NoFunction, BadDump, Read, Write, TooLong, TooMany}
+use Rattle.cm_steps.specs.declared.stop.QueryStop.{QueryStop}
 use Rattle.cm_tool.specs.Outcome as outcomes
 use Rattle.cm_tool.specs.Outcome.{Outcome, dump_outcome, fault_message, job_outcome, keys_in, loaded_outcome, noted_status, query_over, refusal}
 use Rattle.cm_tool.specs.Run.{IsCutShort, IsQueryMessage, LacksFile, Reaches}
-use Rattle.cm_tool.proofs.Outcomes.{collected, none_some}
-use Rattle.cm_tool.specs.declared.stop.QueryStop.{QueryStop}
-use Rattle.cm_tool.specs.declared.stop.QueryStop.TheVariants.{Memory, NoFunction, BadDump, Read, Write, TooLong, TooMany}
-
--- a refused pass, by the bytes of the keys file
-take_keys : (keys : List (ℕ × List ℕ)) (given : ℕ) → given ≡ length keys → take given keys ≡ keys
-take_keys keys given all = take_all given keys (omega (arith, all))
-
--- the keys that were asked for until a refusal
-pub asked_until : (f : List ℕ → Option ℕ) (files : Files) (job : QueryJob) (bytes : List ℕ) (old new : Option (List ℕ)) (given : ℕ) (fault : QueryFault) → file_at files job.keys ≡ Some bytes
-    → StopsAt (keys_in job.first bytes) given fault → TextAfter 10 f (keys_in job.first bytes).keys given old new fault → EndsKeys f files job old new (notes_of f (noted_keys (keys_in job.first bytes).keys given fault)) (Err (stop_from_query fault))
-asked_until f files job bytes old new given query_fault.Memory there stops text = (text, refl)
-asked_until f files job bytes old new given (query_fault.Key key_fault.Read) there stops text =
-    let here : keys_at files job ≡ (keys_in job.first bytes).keys = ap (keys_or_none job.first) there in
-    (given, rw here (record { out = text ∙ ap (then_bytes old) (sym (append-nil _)); notes_are = refl }))
-asked_until f files job bytes old new given (query_fault.Key (key_fault.TooLong line)) there stops text =
-    let all = take_keys (keys_in job.first bytes).keys given stops.all in
-    record { bytes = bytes; there = there; fault_is = stops.fault_is; out = text ∙ ap (λ (ks : List (ℕ × List ℕ)). then_bytes old (text_of 10 f ks)) all; notes_are = ap (notes_of f) all }
-asked_until f files job bytes old new given (query_fault.Key key_fault.TooMany) there stops text =
-    let all = take_keys (keys_in job.first bytes).keys given stops.all in
-    record { bytes = bytes; there = there; fault_is = stops.fault_is; out = text ∙ ap (λ (ks : List (ℕ × List ℕ)). then_bytes old (text_of 10 f ks)) all; notes_are = ap (notes_of f) all }
-asked_until f files job bytes old new given query_fault.Write there stops text =
-    let here : keys_at files job ≡ (keys_in job.first bytes).keys = ap (keys_or_none job.first) there in
-    (bytes, given - 1, text.0, there, rw here (record { out = text.1; notes_are = refl }))
-
--- a keys file that can't be opened
-pub asked_none : (f : List ℕ → Option ℕ) (files : Files) (job : QueryJob) (old : Option (List ℕ)) → EndsKeys f files job old old [] (Err Read)
-asked_none f files job old = (0, record { out = then_nothing old; notes_are = refl })
-
--- a query with its function
-pub with_function : (function : Func) (files : Files) (job : QueryJob) (old new : Option (List ℕ)) (notes : List ℕ) (asked : Result Tally QueryStop) → Spells files job.function function → EndsKeys (answer_by function) files job old new notes asked → EndsQuery files job old new notes asked
-with_function function files job old new notes (Ok tally) spells ends = (function, spells, ends)
-with_function function files job old new notes (Err Memory) spells ends = ends
-with_function function files job old new notes (Err NoFunction) spells ends = absurd ends
-with_function function files job old new notes (Err (BadDump fault)) spells ends = absurd ends
-with_function function files job old new notes (Err Read) spells ends = (function, spells, ends)
-with_function function files job old new notes (Err Write) spells ends = (function, spells, ends)
-with_function function files job old new notes (Err (TooLong line)) spells ends = (function, spells, ends)
-with_function function files job old new notes (Err TooMany) spells ends = (function, spells, ends)
-
--- and one without
-pub without_function : (files : Files) (job : QueryJob) (old : Option (List ℕ)) (stop : QueryStop) → RefusesDump files job.function stop → EndsQuery files job old old [] (Err stop)
-without_function files job old Memory refuses = (refl, refl)
-without_function files job old NoFunction refuses = (refl, refl)
-without_function files job old (BadDump fault) refuses = (refuses, (refl, refl))
-without_function files job old Read refuses = absurd refuses
-without_function files job old Write refuses = absurd refuses
-without_function files job old (TooLong line) refuses = absurd refuses
-without_function files job old TooMany refuses = absurd refuses
+use Rattle.cm_tool.proofs.Outcomes.{none_some}
+use Rattle.cm_words.specs.declared.jobs.QueryJob.{QueryJob}
+use Rattle.cm_words.specs.declared.jobs.Job.TheVariants.{Query}
 
 -- the outcome of a query whose function file spells a function and whose keys file is there
 asked_outcome : (job : QueryJob) (files : Files) (f : Func) (bytes : List ℕ) (fault : Option KeyFault) (o : Outcome) → Spells files job.function f → file_at files job.keys ≡ Some bytes → (keys_in job.first bytes).fault ≡ fault
@@ -95,7 +41,7 @@ asked_outcome job files f bytes fault o spells there fault_is is =
 bad_outcome : (job : QueryJob) (files : Files) (fault : LoadFault) → IsBadDump files job.function fault → job_outcome files (Ok (Query job)) ≡ Some (refusal 3 (bad_dump job.function fault) files)
 bad_outcome job files fault bad = ap (dump_outcome job files) bad.1 ∙ ap (loaded_outcome job files) bad.2
 
--- the status by the notes, of which there are none exactly where so many keys count for nothing
+-- the status by the notes, of which there are none exactly if n is 0
 status_noted : (notes : List ℕ) (n status : ℕ) → ((notes ≡ []) ↔ (n ≡ 0)) → (n ≡ 0 → status ≡ 0) → (n ≢ 0 → status ≡ 1) → status ≡ noted_status notes
 status_noted [] n status exact none some = none (exact.0 refl)
 status_noted (b ∷ notes) n status exact none some = some (λ zero. absurd (let e : b ∷ notes ≡ [] = exact.1 zero in cc))
@@ -198,38 +144,5 @@ cut_short job files old new err err_new before now notes Write ends says either 
 cut_short job files old new err err_new before now notes (TooLong line) ends says either = absurd (omega (arith, either))
 cut_short job files old new err err_new before now notes TooMany ends says either = absurd (omega (arith, either))
 
--- all that was noted is said
-pub says_all : {f : Bool} {a b : Option (List ℕ)} {i j : ℕ} {text : List ℕ} → HasNoted f a b i j text → Says text a b i j
-says_all noted = record { front = noted_front noted; whole = noted_all noted }
-
 pub says_more : {f : Bool} {a b : Option (List ℕ)} {i j : ℕ} {text : List ℕ} → HasNoted f a b i j text → Says (text ++ []) a b i j
 says_more {a = a} {b = b} {i = i} {j = j} {text = text} noted = subst (λ (t : List ℕ). Says t a b i j) (sym (append-nil text)) (says_all noted)
-
--- which counts a failed load has raised: those of reading, if the reader that was given back has failed
-pub load_cause : (fault : LoadFault) (count count_now reads opened reads_now writes writes_now out : ℕ) → HasLoadCause {T = Func} count count_now (Err fault) → count ≡ 0 → Collects count_now opened reads_now → opened ≡ reads → writes_now ≡ writes
-    → IsStopCause reads reads_now writes writes_now out out (stop_from_load fault)
-load_cause faults.Memory count count_now reads opened reads_now writes writes_now out cause fresh shut begun same = (shut.none (cause ∙ fresh) ∙ begun, same, refl)
-load_cause faults.Read count count_now reads opened reads_now writes writes_now out cause fresh shut begun same = (omega (arith, shut.later, begun), collected count count_now reads opened reads_now cause fresh shut begun, same, refl)
-load_cause (faults.Truncated at) count count_now reads opened reads_now writes writes_now out cause fresh shut begun same = (shut.none (cause ∙ fresh) ∙ begun, same, refl)
-load_cause faults.BadMagic count count_now reads opened reads_now writes writes_now out cause fresh shut begun same = (shut.none (cause ∙ fresh) ∙ begun, same, refl)
-load_cause faults.BadAlgorithm count count_now reads opened reads_now writes writes_now out cause fresh shut begun same = (shut.none (cause ∙ fresh) ∙ begun, same, refl)
-load_cause (faults.BadField at) count count_now reads opened reads_now writes writes_now out cause fresh shut begun same = (shut.none (cause ∙ fresh) ∙ begun, same, refl)
-load_cause (faults.BadPadding at) count count_now reads opened reads_now writes writes_now out cause fresh shut begun same = (shut.none (cause ∙ fresh) ∙ begun, same, refl)
-load_cause (faults.BadCell at) count count_now reads opened reads_now writes writes_now out cause fresh shut begun same = (shut.none (cause ∙ fresh) ∙ begun, same, refl)
-load_cause (faults.BadCount at) count count_now reads opened reads_now writes writes_now out cause fresh shut begun same = (shut.none (cause ∙ fresh) ∙ begun, same, refl)
-load_cause (faults.BadRank at) count count_now reads opened reads_now writes writes_now out cause fresh shut begun same = (shut.none (cause ∙ fresh) ∙ begun, same, refl)
-load_cause faults.Trailing count count_now reads opened reads_now writes writes_now out cause fresh shut begun same = (shut.none (cause ∙ fresh) ∙ begun, same, refl)
-
--- why no function was loaded
-pub refused_dump : (files : Files) (path dump : List ℕ) (fault : LoadFault) → file_at files path ≡ Some dump → Fails fault (spelling_of dump) → RefusesDump files path (stop_from_load fault)
-refused_dump files path dump faults.Memory there fails = tt
-refused_dump files path dump faults.Read there fails = tt
-refused_dump files path dump (faults.Truncated at) there fails = (dump, there, fails)
-refused_dump files path dump faults.BadMagic there fails = (dump, there, fails)
-refused_dump files path dump faults.BadAlgorithm there fails = (dump, there, fails)
-refused_dump files path dump (faults.BadField at) there fails = (dump, there, fails)
-refused_dump files path dump (faults.BadPadding at) there fails = (dump, there, fails)
-refused_dump files path dump (faults.BadCell at) there fails = (dump, there, fails)
-refused_dump files path dump (faults.BadCount at) there fails = (dump, there, fails)
-refused_dump files path dump (faults.BadRank at) there fails = (dump, there, fails)
-refused_dump files path dump faults.Trailing there fails = (dump, there, fails)

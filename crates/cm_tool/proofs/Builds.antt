@@ -3,9 +3,6 @@ use Rattle.std.proofs.Common.{◌≡◌, ◌∙◌, ◌⊎◌, ℕ, ◌<◌, ◌
 use Rattle.std.specs.Prelude.{slice_index}
 use Rattle.std.specs.Option.{ForSome}
 use Rattle.std.specs.Result.{IsErrAnd}
-use Rattle.cm_algo.specs.Fails.{FailsBuild, HasBuildCause, HasForm, HasNumbers, ShowsCore}
-use Rattle.cm_algo.specs.declared.fault.BuildFault.{BuildFault}
-use Rattle.cm_algo.specs.declared.fault.BuildFault.TheVariants as build_fault
 use Rattle.cm_algorithm.specs.declared.algorithm.Algorithm.{Algorithm}
 use Rattle.cm_algorithm.specs.declared.algorithm.Algorithm.TheVariants as algorithms
 use Rattle.cm_bdz.specs.Functions.{Bdz, BdzPh}
@@ -26,10 +23,18 @@ use Rattle.cm_io.specs.Files.{Files, file_at, with_file}
 use Rattle.cm_io.specs.Passes.{Told}
 use Rattle.cm_io.specs.declared.key_pass.KeyFault.TheVariants as key_fault
 use Rattle.cm_peel.specs.CoreLaws.{rest_is_core}
+use Rattle.cm_seeds.specs.Fails.{FailsBuild, HasBuildCause, HasForm, HasNumbers, ShowsCore}
+use Rattle.cm_seeds.specs.declared.fault.BuildFault.{BuildFault}
+use Rattle.cm_seeds.specs.declared.fault.BuildFault.TheVariants as build_fault
 use Rattle.cm_spec.specs.Bdz.{bdz_rule, bdz_ph_rule}
 use Rattle.cm_spec.specs.Built.{IsFirst, cells_under, chm_under, first_seed}
 use Rattle.cm_spec.specs.Chm.{Chm, chm_rule}
 use Rattle.cm_spec.specs.Rule.{Rule}
+use Rattle.cm_steps.specs.EndLaws.{collected}
+use Rattle.cm_steps.specs.declared.stop.Reason.TheVariants.{NoSeed, NoSeedFor, NoSplit}
+use Rattle.cm_steps.specs.declared.stop.Reason.{Reason}
+use Rattle.cm_steps.specs.declared.stop.Stop.TheVariants.{Memory, Read, Write, WriteOut, Refused, Changed, Spill, SpillDamaged, NoKeys, TooLong, TooMany}
+use Rattle.cm_steps.specs.declared.stop.Stop.{Stop}
 use Rattle.cm_tool.specs.Faults.{FailsFunc, HasFuncCause, HasNone, HasStopForm, IsChange, IsChangeBy, IsReasonBy, fault_from_brz, fault_from_build, reason_of, shown_core, shown_overfull, stop_for}
 use Rattle.cm_tool.specs.Jobs.{seeds_tried}
 use Rattle.cm_tool.specs.Leaves.{GotReport, HasStopCause, IsBuiltFrom, IsFuncOf, IsRefused, Leaves, Refuses, Saves, StopsFor}
@@ -39,11 +44,6 @@ use Rattle.cm_tool.specs.Verdict as verdicts
 use Rattle.cm_tool.specs.Verdict.{Shown, filled, seeded, split_into, verdict_by}
 use Rattle.cm_tool.specs.declared.fault.FuncFault.{FuncFault}
 use Rattle.cm_tool.specs.declared.fault.FuncFault.TheVariants as func_fault
-use Rattle.cm_tool.specs.declared.stop.Reason.{Reason}
-use Rattle.cm_tool.specs.declared.stop.Reason.TheVariants.{NoSeed, NoSeedFor, NoSplit}
-use Rattle.cm_tool.specs.declared.stop.Stop.{Stop}
-use Rattle.cm_tool.specs.declared.stop.Stop.TheVariants.{Memory, Read, Write, WriteOut, Refused, Changed, Spill, SpillDamaged, NoKeys, TooLong, TooMany}
-use Rattle.cm_tool.proofs.Outcomes.{collected}
 use Rattle.cm_witness.specs.Reports.{report_text}
 use Rattle.cm_witness.specs.declared.certificate.Certificate.{Certificate}
 use Rattle.cm_witness.specs.declared.certificate.Pair.{Pair}

@@ -1,36 +1,29 @@
 -- From the end of a job to what the top call promises.
-use Rattle.std.proofs.Common.{◌≡◌, ◌≢◌, ◌∙◌, ◌⊎◌, ◌↔◌, ℕ, ◌<◌, ◌≤◌, ◌^◌, lit<, List, [], ◌∷◌, length, Option, None, Some, Ok, Err, inl, inr, refl, ap, sym, subst, arith, Bool, cond}
+use Rattle.std.proofs.Common.{◌≡◌, ◌≢◌, ◌∙◌, ◌⊎◌, ◌↔◌, ℕ, ◌<◌, ◌^◌, List, [], ◌∷◌, length, Option, None, Some, Ok, Err, inl, inr, refl, ap, sym, subst, arith, Bool, cond}
 use Rattle.std.specs.Cmp.{eq_by_cmp_equiv}
 use Rattle.std.specs.Cmp.Lexicographic.{nat_list_cmp_total}
 use Rattle.std.specs.Option.{option_map}
 use Rattle.std.specs.FinMap as map
-use Rattle.cm_io.specs.Causes.{Collects, Rose}
 use Rattle.cm_io.specs.Files.{Files, file_at, with_file}
 use Rattle.cm_io.specs.declared.key_pass.KeyFault.{KeyFault}
 use Rattle.cm_io.specs.declared.key_pass.KeyFault.TheVariants as key_fault
 use Rattle.cm_io.specs.WritingLaws.{then_nothing}
-use Rattle.cm_tool.specs.Ends.{Says, message_of, status_of}
+use Rattle.cm_steps.specs.Ends.{Says, message_of, status_of}
+use Rattle.cm_steps.specs.Messages.{built_message, no_keys, reason_message}
+use Rattle.cm_steps.specs.declared.built.Summary.{Summary}
+use Rattle.cm_steps.specs.declared.stop.Reason.{Reason}
+use Rattle.cm_steps.specs.declared.stop.Stop.TheVariants.{Memory, Read, Write, WriteOut, Refused, Changed, Spill, SpillDamaged, NoKeys, TooLong, TooMany}
+use Rattle.cm_steps.specs.declared.stop.Stop.{Stop}
 use Rattle.cm_tool.specs.Faults.{HasNone, HasStopForm}
 use Rattle.cm_tool.specs.Jobs.{seeds_tried}
 use Rattle.cm_tool.specs.Leaves.{HasStopCause, IsOutCause, IsPart, KeepsOut, Leaves, Saves}
-use Rattle.cm_tool.specs.Messages.{built_message, no_keys, reason_message}
 use Rattle.cm_tool.specs.Outcome as outcomes
 use Rattle.cm_tool.specs.Outcome.{Outcome, build_over, built_or_refused, fault_message, job_outcome, keys_in, refusal, reporting, saving}
 use Rattle.cm_tool.specs.Run.{IsBuildMessage, IsCored, IsEmptied, IsStatus, IsUnfinished, KeysSpilled, LacksFile, Reaches, TookFirst}
-use Rattle.cm_tool.specs.declared.built.Summary.{Summary}
 use Rattle.cm_tool.specs.Spills.{HasSpilled}
 use Rattle.cm_tool.specs.Verdict.{Shown, verdict_of}
-use Rattle.cm_tool.specs.declared.stop.Reason.{Reason}
-use Rattle.cm_tool.specs.declared.stop.Stop.{Stop}
-use Rattle.cm_tool.specs.declared.stop.Stop.TheVariants.{Memory, Read, Write, WriteOut, Refused, Changed, Spill, SpillDamaged, NoKeys, TooLong, TooMany}
 use Rattle.cm_words.specs.declared.jobs.BuildJob.{BuildJob}
 use Rattle.cm_words.specs.declared.jobs.Job.TheVariants.{Build}
-
--- a disk's count rose, if what it took back has failed
-pub collected : (count count_now before middle now : ℕ) → (count ≤ count_now) × Rose count count_now → count ≡ 0 → Collects count_now middle now → middle ≡ before → Rose before now
-collected count count_now before middle now failed fresh back same =
-    let low : count < 2 ^ 63 = rw fresh (lit< tt) in
-    rw same at (back.some (omega (arith, failed.1 low)))
 
 pub nothing_said : (known : Option (List ℕ)) (count : ℕ) → Says [] known known count count
 nothing_said known count = record { front = (0, then_nothing known); whole = λ _ _. then_nothing known }

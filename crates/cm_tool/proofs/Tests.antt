@@ -19,11 +19,13 @@ use Rattle.cm_io.specs.declared.key_pass.KeyFault.TheVariants as key_fault
 use Rattle.cm_query.specs.Stops.{StopsAt}
 use Rattle.cm_query.specs.Sums.{answer_sum}
 use Rattle.cm_query.specs.declared.fault.QueryFault.TheVariants.{Key}
-use Rattle.cm_tool.specs.Ends.{Says, message_of, status_of}
+use Rattle.cm_steps.specs.Ends.{Says, message_of, status_of}
+use Rattle.cm_steps.specs.Messages.{reason_message}
+use Rattle.cm_steps.specs.declared.stop.Stop.TheVariants.{Memory, Read, Write, WriteOut, Refused, Changed, Spill, SpillDamaged, NoKeys, TooLong, TooMany}
+use Rattle.cm_steps.specs.declared.stop.Stop.{Stop}
 use Rattle.cm_tool.specs.Faults.{FailsFunc, HasFuncCause, HasStopForm, IsChangeBy, IsReasonBy, UsesSpill, shown_core, shown_overfull, stop_for}
 use Rattle.cm_tool.specs.Jobs.{seeds_of}
 use Rattle.cm_tool.specs.Leaves.{GotReport, IsFuncOf, IsOutCause, KeepsOut, StopsFor}
-use Rattle.cm_tool.specs.Messages.{reason_message}
 use Rattle.cm_tool.specs.Ending.{Outcome, printing, reporting}
 use Rattle.cm_tool.specs.Run.{IsStatus, Reaches}
 use Rattle.cm_tool.specs.TestEnds.{EndsTest, FailsTest, GotPrefix, HasTestForm, IsTestMessage, IsUnfinishedTest, StopsSpilling, test_name}
@@ -33,8 +35,6 @@ use Rattle.cm_tool.specs.Verdict.{Shown}
 use Rattle.cm_tool.specs.declared.fault.FuncFault.{FuncFault}
 use Rattle.cm_tool.specs.declared.fault.FuncFault.TheVariants as func_fault
 use Rattle.cm_tool.specs.declared.plan.Plan.{Plan}
-use Rattle.cm_tool.specs.declared.stop.Stop.{Stop}
-use Rattle.cm_tool.specs.declared.stop.Stop.TheVariants.{Memory, Read, Write, WriteOut, Refused, Changed, Spill, SpillDamaged, NoKeys, TooLong, TooMany}
 use Rattle.cm_tool.proofs.Outcomes.{nothing_said}
 use Rattle.cm_words.specs.declared.jobs.Job.TheVariants.{Test}
 use Rattle.cm_words.specs.declared.jobs.TestJob.{TestJob}

@@ -1,19 +1,17 @@
 -- From what the words ask for to what the top call promises.
-use Rattle.std.proofs.Common.{◌≡◌, ◌≢◌, ◌∙◌, ◌⊎◌, ℕ, List, [], length, take, Option, None, Some, Result, Ok, Err, inl, inr, refl, ap, sym, subst, arith}
-use Rattle.std.proofs.lemmas.List.{take_all}
+use Rattle.std.proofs.Common.{◌≡◌, ◌≢◌, ◌∙◌, ◌⊎◌, ℕ, List, [], Option, None, Some, Ok, Err, inl, inr, refl, ap, sym, subst, arith}
 use Rattle.cm_algorithm.specs.declared.algorithm.Algorithm.TheVariants.{Chm}
 use Rattle.cm_io.specs.Files.{Files}
-use Rattle.cm_io.specs.Writing.{Writes, then_bytes}
-use Rattle.cm_io.specs.declared.fault.Failed.{Failed}
+use Rattle.cm_io.specs.Writing.{then_bytes}
 use Rattle.cm_io.specs.WritingLaws.{then_nothing}
-use Rattle.cm_tool.specs.Ends.{Says, usage_status_of}
-use Rattle.cm_tool.specs.Messages.{out_of_memory, usage_message}
+use Rattle.cm_steps.specs.Ends.{Says, usage_status_of}
+use Rattle.cm_steps.specs.Messages.{out_of_memory, usage_message}
+use Rattle.cm_steps.specs.declared.stop.QueryStop.TheVariants as query_stop
+use Rattle.cm_steps.specs.declared.stop.Stop.TheVariants as stop
 use Rattle.cm_tool.specs.Outcome.{Outcome, job_outcome, printing, refusal}
 use Rattle.cm_tool.specs.Run.{ForQuery, ForTest, IsCutShort, IsMessage, IsStatus, LacksFile, Reaches, UnlessQuery, UnlessTest}
 use Rattle.cm_tool.specs.TestEnds.{GotPrefix}
 use Rattle.cm_tool.specs.Tested.{test_outcome}
-use Rattle.cm_tool.specs.declared.stop.QueryStop.TheVariants as query_stop
-use Rattle.cm_tool.specs.declared.stop.Stop.TheVariants as stop
 use Rattle.cm_tool.proofs.Asks.{query_message_is}
 use Rattle.cm_tool.proofs.Outcomes.{message_is, none_some, nothing_said}
 use Rattle.cm_tool.proofs.Tests.{got_nothing, test_message}
@@ -66,11 +64,6 @@ early_message (Ok Version) out now same = record { done = λ e. absurd (omega ar
 early_message (Ok (Build job)) out now same = message_is job out now stop.Memory tt same
 early_message (Ok (Query job)) out now same = query_message_is job query_stop.Memory
 early_message (Ok (Test job)) out now same = test_message job Chm out now stop.Memory tt same
-
--- out has a prefix of a text that was written, whole or in part
-pub front_of : (r : Result (Unit {0}) Failed) (old new : Option (List ℕ)) (text : List ℕ) → Writes old new text r → (n : ℕ) × (new ≡ then_bytes old (take n text))
-front_of (Ok _) old new text wrote = (length text, wrote ∙ ap (then_bytes old) (sym (take_all (length text) text (omega arith))))
-front_of (Err _) old new text wrote = wrote
 
 -- arguments that ask for no job
 misused : (fault : UsageFault) (files : Files) (old : Option Files) (out err err_new : Option (List ℕ)) (before now : ℕ) → Says (usage_message fault) err err_new before now → old ≡ Some files → Reaches (job_outcome files (Err fault)) 2 out out err err_new before now old

@@ -1,9 +1,7 @@
 -- What a job comes to.
-use Rattle.std.specs.Prelude.{ℕ, List, [], Option}
-use Rattle.cm_keys.specs.Lines.{lines_of}
+use Rattle.std.specs.Prelude.{ℕ, List, []}
 use Rattle.cm_io.specs.Files.{Files}
-use Rattle.cm_io.specs.Passes.{Told}
-use Rattle.cm_tool.specs.Messages.{reason_message}
+use Rattle.cm_steps.specs.Messages.{reason_message}
 use Rattle.cm_tool.specs.Verdict.{Shown}
 
 -- the status, what out and err get, and the files that are left
@@ -20,10 +18,6 @@ printing text files = record { status = 0; out = text; err = []; files = files }
 -- a failure: a status and a message, and nothing else
 abbrev pub refusal : ℕ → List ℕ → Files → Outcome
 refusal status text files = record { status = status; out = []; err = text; files = files }
-
--- the keys of a file: its lines without their ends, the first ones or all, at most 16,777,216 of them, of at most 65,535 bytes each
-abbrev pub keys_in : Option ℕ → List ℕ → Told
-keys_in first bytes = lines_of 16777216 65535 10 first bytes
 
 -- out gets the report, and err says why there is no function
 abbrev pub reporting : Files → Shown → Outcome

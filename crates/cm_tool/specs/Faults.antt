@@ -1,8 +1,6 @@
 -- Why there is no function of keys.
 use Rattle.std.specs.Prelude.{◌≡◌, ◌≢◌, ◌<◌, ◌≤◌, ◌+◌, ℕ, List, [], length, Option, None, Some, Result, Ok, Err}
 use Rattle.cm_io.specs.Passes.{IsToldFault}
-use Rattle.cm_algo.specs.declared.fault.BuildFault.{BuildFault}
-use Rattle.cm_algo.specs.declared.fault.BuildFault.TheVariants as build_fault
 use Rattle.cm_algorithm.specs.declared.algorithm.Algorithm.{Algorithm}
 use Rattle.cm_algorithm.specs.declared.algorithm.Algorithm.TheVariants.{Brz}
 use Rattle.cm_brz.specs.Reports.{overfull_text}
@@ -12,14 +10,16 @@ use Rattle.cm_io.specs.Causes.{Rose}
 use Rattle.cm_io.specs.Passes.{HasKeyCause, Told}
 use Rattle.cm_io.specs.declared.key_pass.KeyFault.{KeyFault}
 use Rattle.cm_io.specs.declared.key_pass.KeyFault.TheVariants as key_fault
+use Rattle.cm_seeds.specs.declared.fault.BuildFault.{BuildFault}
+use Rattle.cm_seeds.specs.declared.fault.BuildFault.TheVariants as build_fault
+use Rattle.cm_steps.specs.declared.stop.Reason.TheVariants.{NoSeed, NoSeedFor, NoSplit}
+use Rattle.cm_steps.specs.declared.stop.Reason.{Reason}
+use Rattle.cm_steps.specs.declared.stop.Stop.TheVariants as stops
+use Rattle.cm_steps.specs.declared.stop.Stop.{Stop}
 use Rattle.cm_tool.specs.Seeds.{NoneWorks}
 use Rattle.cm_tool.specs.Verdict.{Shown, verdict_by}
 use Rattle.cm_tool.specs.declared.fault.FuncFault.{FuncFault}
 use Rattle.cm_tool.specs.declared.fault.FuncFault.TheVariants.{Memory, NoKeys, Cored, Overfull, Key, Changed, Spill, SpillDamaged}
-use Rattle.cm_tool.specs.declared.stop.Reason.{Reason}
-use Rattle.cm_tool.specs.declared.stop.Reason.TheVariants.{NoSeed, NoSeedFor, NoSplit}
-use Rattle.cm_tool.specs.declared.stop.Stop.{Stop}
-use Rattle.cm_tool.specs.declared.stop.Stop.TheVariants as stops
 use Rattle.cm_witness.specs.Reports.{report_text}
 use Rattle.cm_witness.specs.declared.certificate.Certificate.{Certificate}
 use Rattle.cm_witness.specs.declared.certificate.InBucket.{InBucket}

@@ -12,16 +12,17 @@ use Rattle.cm_io.specs.Writing.{then_bytes}
 use Rattle.cm_io.specs.declared.key_pass.KeyFault.TheVariants as key_fault
 use Rattle.cm_spec.specs.Built.{cells_under, first_seed, IsFirst}
 use Rattle.cm_spec.specs.Rule.{IsCount, Rule}
+use Rattle.cm_steps.specs.Summaries.{summary_of}
+use Rattle.cm_steps.specs.declared.built.Summary.{Summary}
+use Rattle.cm_steps.specs.declared.stop.Stop.TheVariants.{Memory, Read, Write, WriteOut, Refused, Spill, NoKeys, TooLong, TooMany}
+use Rattle.cm_steps.specs.declared.stop.Stop.{Stop}
 use Rattle.cm_tool.specs.Faults.{HasNone, shown_core, shown_overfull, stop_for}
-use Rattle.cm_tool.specs.Jobs.{seeds_tried, summary_of}
+use Rattle.cm_tool.specs.Jobs.{seeds_tried}
 use Rattle.cm_tool.specs.Outcome.{keys_in}
 use Rattle.cm_tool.specs.Seeds.{IsMadeBy}
 use Rattle.cm_tool.specs.Verdict.{Shown, verdict_by}
-use Rattle.cm_tool.specs.declared.built.Summary.{Summary}
 use Rattle.cm_tool.specs.declared.fault.FuncFault.{FuncFault}
 use Rattle.cm_tool.specs.declared.fault.FuncFault.TheVariants as func_fault
-use Rattle.cm_tool.specs.declared.stop.Stop.{Stop}
-use Rattle.cm_tool.specs.declared.stop.Stop.TheVariants.{Memory, Read, Write, WriteOut, Refused, Spill, NoKeys, TooLong, TooMany}
 use Rattle.cm_words.specs.declared.jobs.BuildJob.{BuildJob}
 
 -- which counts of the disk an end has raised: that of reading, and that of writing

@@ -4,14 +4,9 @@ pub mod Verdict
 pub mod Seeds
 pub mod Faults
 pub mod Spills
-pub mod Messages
-pub mod Texts
-pub mod Ends
-pub mod Stores
 pub mod Ending
 pub mod Tested
 pub mod Outcome
 pub mod TestEnds
 pub mod Leaves
-pub mod Asked
 pub mod Run

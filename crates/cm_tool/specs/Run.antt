@@ -15,20 +15,20 @@ use Rattle.cm_io.specs.Causes.{Rose}
 use Rattle.cm_io.specs.Files.{Files, file_at, with_file}
 use Rattle.cm_io.specs.Writing.{then_bytes}
 use Rattle.cm_spec.specs.Lists.{has}
-use Rattle.cm_tool.specs.Asked.{AskedPart, GotNothing, Spells, keys_at}
-use Rattle.cm_tool.specs.Ends.{Says}
+use Rattle.cm_steps.specs.Asked.{AskedPart, GotNothing, Spells, keys_at}
+use Rattle.cm_steps.specs.Ends.{IsPrintMessage, Says}
+use Rattle.cm_steps.specs.Messages.{bad_dump, built_message, out_of_memory, cannot_read, cannot_use_spill, cannot_write, cannot_write_out, keys_changed, no_keys, line_too_long, reason_message, spill_damaged, too_many_keys, usage_message}
+use Rattle.cm_steps.specs.Texts.{help_text, version_text}
+use Rattle.cm_steps.specs.declared.built.Summary.{Summary}
+use Rattle.cm_steps.specs.declared.stop.Reason.{Reason}
 use Rattle.cm_tool.specs.Faults.{IsChangeBy, IsReasonBy, UsesSpill}
 use Rattle.cm_tool.specs.Jobs.{seeds_tried}
 use Rattle.cm_tool.specs.Leaves.{IsPart}
-use Rattle.cm_tool.specs.Messages.{bad_dump, built_message, out_of_memory, cannot_read, cannot_use_spill, cannot_write, cannot_write_out, keys_changed, no_keys, line_too_long, reason_message, spill_damaged, too_many_keys, usage_message}
 use Rattle.cm_tool.specs.Outcome.{Outcome, job_outcome, keys_in, reporting, saving}
 use Rattle.cm_tool.specs.Seeds.{IsMadeBy, NoneWorks}
 use Rattle.cm_tool.specs.Spills.{HasSpilled, UnlessSpilled}
 use Rattle.cm_tool.specs.TestEnds.{IsTestMessage}
-use Rattle.cm_tool.specs.Texts.{help_text, version_text}
 use Rattle.cm_tool.specs.Verdict.{Shown}
-use Rattle.cm_tool.specs.declared.built.Summary.{Summary}
-use Rattle.cm_tool.specs.declared.stop.Reason.{Reason}
 use Rattle.cm_algorithm.specs.declared.algorithm.Algorithm.{Algorithm}
 use Rattle.cm_algorithm.specs.declared.algorithm.Algorithm.TheVariants.{Chm, Bdz, BdzPh, Brz}
 use Rattle.cm_words.specs.Options.{Read as Reading}
@@ -225,13 +225,7 @@ pub record IsCutShort (files : Files) (status : ℕ) (out_old out_new err_old er
   pub write : status ≡ 5 → StoppedWriting files out_old out_new notes text job
   pub memory : status ≡ 6 → GotNothing out_old out_new notes × (text ≡ out_of_memory)
 
--- that of a text that is printed
-pub record IsPrintMessage (status : ℕ) (text : List ℕ) : Type 0 where
-  pub done : status ≡ 0 → text ≡ []
-  pub write : status ≡ 5 → text ≡ cannot_write_out
-  pub memory : status ≡ 6 → text ≡ out_of_memory
-
--- that of arguments that ask for no job
+-- the message of arguments that ask for no job
 pub record IsUsageMessage (fault : UsageFault) (status : ℕ) (text : List ℕ) : Type 0 where
   pub refused : status ≡ 2 → text ≡ usage_message fault
   pub memory : status ≡ 6 → text ≡ out_of_memory

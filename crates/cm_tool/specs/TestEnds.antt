@@ -5,16 +5,16 @@ use Rattle.cm_algorithm.specs.declared.algorithm.Algorithm.TheVariants.{Chm, Bdz
 use Rattle.cm_io.specs.Causes.{Rose}
 use Rattle.cm_io.specs.Files.{Files}
 use Rattle.cm_io.specs.Writing.{then_bytes}
+use Rattle.cm_steps.specs.Ends.{Says}
+use Rattle.cm_steps.specs.Messages.{cannot_use_spill, cannot_write_out, keys_changed, line_too_long, no_keys, out_of_memory, reason_message, spill_damaged, too_many_keys}
+use Rattle.cm_steps.specs.declared.stop.Reason.{Reason}
+use Rattle.cm_steps.specs.declared.stop.Stop.TheVariants.{Memory, Read, Refused, Spill, Write, WriteOut}
+use Rattle.cm_steps.specs.declared.stop.Stop.{Stop}
 use Rattle.cm_tool.specs.Faults.{HasStopForm, IsReasonBy, UsesSpill, shown_core, shown_overfull}
-use Rattle.cm_tool.specs.Messages.{cannot_use_spill, cannot_write_out, keys_changed, line_too_long, no_keys, out_of_memory, reason_message, spill_damaged, too_many_keys}
 use Rattle.cm_tool.specs.Ending.{Outcome}
-use Rattle.cm_tool.specs.Ends.{Says}
 use Rattle.cm_tool.specs.Tested.{test_outcome, test_verdict, tested_by}
 use Rattle.cm_tool.specs.declared.fault.FuncFault.{FuncFault}
 use Rattle.cm_tool.specs.declared.fault.FuncFault.TheVariants as func_fault
-use Rattle.cm_tool.specs.declared.stop.Reason.{Reason}
-use Rattle.cm_tool.specs.declared.stop.Stop.{Stop}
-use Rattle.cm_tool.specs.declared.stop.Stop.TheVariants.{Memory, Read, Refused, Spill, Write, WriteOut}
 use Rattle.cm_words.specs.declared.jobs.TestJob.{TestJob}
 
 -- why an algorithm has no function of generated keys, which never change and have no fault

@@ -12,7 +12,8 @@ use Rattle.cm_io.specs.Files.{Files}
 use Rattle.cm_io.specs.Passes.{Told}
 use Rattle.cm_io.specs.Writing.{joined}
 use Rattle.cm_query.specs.Sums.{answer_sum}
-use Rattle.cm_tool.specs.Ending.{Outcome, keys_in, printing, reporting}
+use Rattle.cm_steps.specs.Asked.{keys_in}
+use Rattle.cm_tool.specs.Ending.{Outcome, printing, reporting}
 use Rattle.cm_tool.specs.Jobs.{seeds_of}
 use Rattle.cm_tool.specs.Verdict.{Shown, verdict_by}
 use Rattle.cm_tool.specs.declared.plan.Plan.{Plan}

@@ -12,9 +12,9 @@ use Rattle.cm_spec.specs.Bdz.{bdz_rule, bdz_ph_rule}
 use Rattle.cm_spec.specs.Built.{chm_under, first_seed}
 use Rattle.cm_spec.specs.Chm.{chm_rule}
 use Rattle.cm_spec.specs.Rule.{Rule}
+use Rattle.cm_steps.specs.declared.stop.Reason.TheVariants.{NoSeed, NoSeedFor, NoSplit}
+use Rattle.cm_steps.specs.declared.stop.Reason.{Reason}
 use Rattle.cm_tool.specs.Jobs.{seeds_tried}
-use Rattle.cm_tool.specs.declared.stop.Reason.{Reason}
-use Rattle.cm_tool.specs.declared.stop.Reason.TheVariants.{NoSeed, NoSeedFor, NoSplit}
 use Rattle.cm_witness.specs.Reports.{core_report}
 use Rattle.cm_words.specs.declared.jobs.BuildJob.{BuildJob}
 

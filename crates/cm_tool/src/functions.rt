@@ -1,9 +1,9 @@
 //! Functions of the algorithms, built over a pass of keys.
 ghost use Rattle.std.specs.Prelude.{◌≡◌, ◌<◌, ◌≤◌, length, slice_index, count_by, IfOk, IfErr};
 ghost use Rattle.std.specs.Option.{ForSome};
-ghost use Rattle.cm_algo.specs.Fails.{FailsBuild, HasBuildCause, HasForm, HasNumbers};
 ghost use Rattle.cm_algorithm.specs.declared.algorithm.Algorithm.TheVariants.{Brz};
 ghost use Rattle.cm_dump.specs.Functions.{IsFunction};
+ghost use Rattle.cm_seeds.specs.Fails.{FailsBuild, HasBuildCause, HasForm, HasNumbers};
 ghost use Rattle.cm_spec.specs.Cells.{is_busy};
 ghost use Rattle.cm_spec.specs.Rule.{IsRatio};
 ghost use Rattle.cm_tool.specs.Faults.{FailsFunc, HasFuncCause, HasStopForm, stop_for};

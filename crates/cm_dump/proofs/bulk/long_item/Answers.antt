@@ -4,7 +4,7 @@ use Rattle.cm_dump.specs.Reading.{item_at}
 use Rattle.cm_dump.proofs.ChunkLemmas.{chunk_fault, chunk_more, chunk_all, put_end}
 use Rattle.cm_dump.proofs.bulk.long_item.Goals as goal
 
--- so many zeros more
+-- `want` zeros more
 longer : (all slice : List ℕ) (done want : ℕ) → length all ≡ done → slice ≡ all ++ replicate (done + want - length all) 0 → length slice ≡ done + want
 longer all slice done want size is = ap length is ∙ length-append all (replicate (done + want - length all) 0) ∙ omega (arith, size, length-replicate {A = ℕ} (done + want - length all) 0)
 

@@ -2,9 +2,9 @@ use Rattle.std.proofs.Common.{◌≡◌, ◌++◌, ℕ, List, Option, Result, ta
 use Rattle.std.specs.Option.{ForSome}
 use Rattle.cm_algorithm.specs.declared.algorithm.Algorithm.{Algorithm}
 use Rattle.cm_io.specs.Causes.{IsSent}
+use Rattle.cm_steps.specs.declared.stop.Stop.{Stop}
 use Rattle.cm_tool.specs.TestEnds.{EndsTest}
 use Rattle.cm_tool.specs.Tested.{tested_by}
-use Rattle.cm_tool.specs.declared.stop.Stop.{Stop}
 use Rattle.cm_tool.proofs.testing.test_each.Given as goal
 
 abbrev pub invariant-loop-algorithm : goal.invariant-loop-algorithm

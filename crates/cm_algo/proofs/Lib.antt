@@ -1,4 +1,0 @@
-pub mod Cored
-pub mod EqualKeys
-pub mod OneSeed
-pub mod Tags

@@ -1,3 +1,0 @@
-pub mod Builds
-pub mod Fails
-pub mod Hashed

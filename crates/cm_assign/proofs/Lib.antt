@@ -1,0 +1,4 @@
+pub mod Alone
+pub mod Completing
+pub mod InPlace
+pub mod Solving

@@ -1,0 +1,180 @@
+//! The cells of a peeled graph, edge by edge in the reverse of the order of peeling.
+ghost use Rattle.std.specs.Prelude.{◌≡◌, ℕ, ◌+◌, ◌-◌, ◌*◌, ◌/◌, ◌%◌, ◌^◌, ◌<◌, ◌≤◌, List, [], All, length, map, replicate, slice_index, slice_set, IfOk};
+ghost use Rattle.cm_assign.specs.OneByOne.{one_by_one};
+ghost use Rattle.cm_peel.specs.Peeling.{IsPeelingOf};
+ghost use Rattle.cm_spec.specs.Cells.{Plan, plan_of, pivot_vertex, value_at, sum_but, completing, cells_of, AreSolved};
+ghost use Rattle.cm_spec.specs.Graph.{ends_at};
+ghost use Rattle.cm_spec.specs.Rounds.{rest_of, pivot_of};
+ghost use Rattle.cm_spec.specs.Rule.{Rule, IsCount};
+
+use cm_bits::{Cells, filled};
+use cm_edges::Edges;
+use cm_peel::Peeled;
+use cm_scheme::{Divisor, Scheme};
+use std::alloc::{AllocError, Global};
+
+/// How many edges are worked on together: what their cells come from is read before the first of them is set, so that no
+/// read of it waits for a store.
+const CHUNK: usize = 64;
+
+/// The cells of the ends other than `v`, added up.
+fn sum_others<C: Cells, const K: usize>(table: &C, ends: [u32; K], v: u32) -> u64
+    requires small { K ≤ 3 }
+    requires within { All (λ u. u < length (C.cells table.now)) ends }
+    ensures { result ≡ sum_but (C.cells table.now) v ends.entry }
+{
+    let mut sum = 0u64;
+    for u in ends {
+        // Read in any case, so that no branch depends on which end is the pivot.
+        let cell = table.get(u) as u64;
+        sum += if u != v { cell } else { 0 };
+    }
+    sum
+}
+
+/// The number below the modulus that brings the sum to the target, which is below the modulus too.
+#[tactic(auto, unfolding(cm_spec::specs::Cells::completing))]
+fn complete(modulus: &Divisor, target: u32, sum: u64) -> u32
+    requires target { target < modulus.now }
+    ensures value { result ≡ completing modulus.now target sum }
+    ensures below { result < modulus.now }
+{
+    let left = modulus.rem_wide(sum);
+    // A difference below zero wraps around, and is then the greater of the two. No branch depends on the cells.
+    let down = (target as u64).wrapping_sub(left as u64);
+    down.min(down.wrapping_add(modulus.value() as u64)) as u32
+}
+
+/// Sets the cell of the pivot's vertex.
+fn settle<C: Cells, const K: usize>(
+    table: &mut C,
+    ends: [u32; K],
+    position: u32,
+    modulus: &Divisor,
+    target: u32,
+)
+    requires small { K ≤ 3 }
+    requires position { position < K }
+    requires modulus { modulus.now ≤ C.bound_of table.old }
+    requires target { target < modulus.now }
+    requires within { All (λ u. u < length (C.cells table.old)) ends }
+    ensures bound { C.bound_of table.new ≡ C.bound_of table.old }
+    ensures cells { C.cells table.new ≡ slice_set (C.cells table.old) (slice_index ends.entry position) (completing modulus.now target (sum_but (C.cells table.old) (slice_index ends.entry position) ends.entry)) }
+{
+    let v = ends[position as usize];
+    let value = complete(modulus, target, sum_others(table, ends, v));
+    table.set(v, value);
+}
+
+/// The tag of an edge: 0 if none is kept.
+fn tag_at(tags: &[u32], e: u32) -> u32
+    ensures { result ≡ slice_index tags.now e }
+{
+    tags.get(e as usize).copied().unwrap_or(0)
+}
+
+/// Looks up the positions of the pivots of a chunk, and what the cells of each edge add up to.
+fn look_up<S: Scheme<K>, const K: usize>(
+    scheme: &S,
+    peeled: &Peeled<K>,
+    tags: &[u32],
+    chunk: &[u32],
+    positions: &mut [u32],
+    targets: &mut [u32],
+)
+    requires places { All (λ e. e < length peeled.now.pivots) chunk.now }
+    requires positions { length positions.old ≡ length chunk.now }
+    requires targets { length targets.old ≡ length chunk.now }
+    ensures positions { positions.new ≡ map (slice_index peeled.now.pivots) chunk.now }
+    ensures targets { targets.new ≡ map (λ e. (S.rule scheme.now).target e (slice_index peeled.now.pivots e) (slice_index tags.now e)) chunk.now }
+{
+    for (i, e) in chunk.iter().enumerate() {
+        let position = peeled.pivot(*e);
+        positions[i] = position;
+        targets[i] = scheme.target(*e, position, tag_at(tags, *e));
+    }
+}
+
+/// Sets the cells of the pivots of a chunk, the last edge first.
+fn settle_each<C: Cells, const K: usize>(
+    table: &mut C,
+    ends: &[[u32; K]],
+    positions: &[u32],
+    targets: &[u32],
+    modulus: &Divisor,
+)
+    requires small { K ≤ 3 }
+    requires modulus { modulus.now ≤ C.bound_of table.old }
+    requires within { All (λ each. All (λ u. u < length (C.cells table.old)) each) ends.now }
+    requires positions { All (λ position. position < K) positions.now }
+    requires targets { All (λ target. target < modulus.now) targets.now }
+    requires long { (length positions.now ≡ length ends.now) × (length targets.now ≡ length ends.now) }
+    ensures bound { C.bound_of table.new ≡ C.bound_of table.old }
+    ensures cells { (p : Plan) (chunk : List ℕ) → p.modulus ≡ modulus.now → ends.now ≡ map (ends_at p.edges) chunk → positions.now ≡ map (pivot_of p.edges) chunk → targets.now ≡ map p.target chunk → C.cells table.new ≡ one_by_one p (C.cells table.old) chunk }
+{
+    let mut i = ends.len();
+    'edges: while i > 0 {
+        i -= 1;
+        settle(table, ends[i], positions[i], modulus, targets[i]);
+    }
+}
+
+/// Sets the cells of a chunk of edges, the last edge first.
+fn settle_chunk<S: Scheme<K>, const K: usize>(
+    table: &mut S::Table,
+    scheme: &S,
+    edges: &Edges<K>,
+    peeled: &Peeled<K>,
+    tags: &[u32],
+    chunk: &[u32],
+)
+    requires peeling { IsPeelingOf edges.now.edges peeled.now }
+    requires empty { rest_of edges.now.edges ≡ [] }
+    requires many { IsCount (length edges.now.edges) }
+    requires few { length chunk.now ≤ 64 }
+    requires places { All (λ e. e < length edges.now.edges) chunk.now }
+    requires bound { S.Table.bound_of table.old ≡ (S.rule scheme.now).bound (length edges.now.edges) }
+    requires long { length (S.Table.cells table.old) ≡ edges.now.vertices }
+    ensures bound { S.Table.bound_of table.new ≡ S.Table.bound_of table.old }
+    ensures cells { S.Table.cells table.new ≡ one_by_one (plan_of (S.rule scheme.now) edges.now.vertices edges.now.edges tags.now) (S.Table.cells table.old) chunk.now }
+{
+    let mut ends = [[0; K]; CHUNK];
+    let mut positions = [0; CHUNK];
+    let mut targets = [0; CHUNK];
+    let modulus = Divisor::new(scheme.modulus(edges.len()));
+    let ends = &mut ends[..chunk.len()];
+    let positions = &mut positions[..chunk.len()];
+    let targets = &mut targets[..chunk.len()];
+    edges.gather(chunk, ends);
+    look_up(scheme, peeled, tags, chunk, positions, targets);
+    settle_each(table, ends, positions, targets, &modulus);
+}
+
+/// The cells of a graph whose residual graph is empty. The tags are those of the edges, in order; an edge past the last of them has tag
+/// 0. The number of edges is the number of keys.
+pub fn assign<S: Scheme<K>, const K: usize>(
+    alloc: Global,
+    scheme: &S,
+    edges: &Edges<K>,
+    peeled: &Peeled<K>,
+    tags: &[u32],
+) -> Result<S::Table, AllocError>
+    requires peeling { IsPeelingOf edges.now.edges peeled.now }
+    requires empty { rest_of edges.now.edges ≡ [] }
+    requires many { IsCount (length edges.now.edges) }
+    ensures bound { IfOk result (λ t. S.Table.bound_of t ≡ (S.rule scheme.now).bound (length edges.now.edges)) }
+    ensures cells { IfOk result (λ t. S.Table.cells t ≡ cells_of (plan_of (S.rule scheme.now) edges.now.vertices edges.now.edges tags.now)) }
+    ensures solved { IfOk result (λ t. AreSolved (plan_of (S.rule scheme.now) edges.now.vertices edges.now.edges tags.now) (S.Table.cells t)) }
+{
+    let m = edges.len();
+    let mut table = filled::<S::Table>(alloc, edges.vertices(), scheme.bound(m), scheme.idle())?;
+    let order = peeled.order();
+    let mut at = order.len();
+    'chunks: while at > 0 {
+        let count = CHUNK.min(at);
+        at -= count;
+        let chunk = &order[at..at + count];
+        settle_chunk(&mut table, scheme, edges, peeled, tags, chunk);
+    }
+    Ok(table)
+}

@@ -1,0 +1,3 @@
+pub mod MemSources
+pub mod MemSinks
+pub mod MemSpills

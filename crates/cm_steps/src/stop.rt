@@ -1,0 +1,69 @@
+//! Why a job stopped.
+
+use cm_dump::LoadFault;
+
+/// Why there is no function of the keys.
+#[derive(Clone, Copy)]
+pub enum Reason {
+    /// Under every seed the graph has a 2-core with an edge.
+    NoSeed,
+    /// By BRZ: so has the graph of the keys of this bucket, counted from 0.
+    NoSeedFor { bucket: u32 },
+    /// By BRZ: every seed leaves a bucket with more keys than one may have.
+    NoSplit,
+}
+
+/// What kept a build from its end.
+#[derive(Clone, Copy)]
+pub enum Stop {
+    /// Out of memory.
+    Memory,
+    /// The keys file can't be opened, read or rewound.
+    Read,
+    /// The function file can't be created, written or closed.
+    Write,
+    /// Out can't be written.
+    WriteOut,
+    /// The keys have no function. Out got the report.
+    Refused(Reason),
+    /// The first pass yielded `first` keys, and a later one `now` keys; by BRZ these may be the keys of a bucket.
+    Changed {
+        first: u32,
+        now: u32,
+    },
+    /// The spill can't be made, written or read.
+    Spill,
+    /// What was read from the spill is not what was put into it: an offset in bytes, and the expected and the found number.
+    SpillDamaged {
+        offset: u64,
+        expected: u64,
+        found: u64,
+    },
+    /// The keys file has no key.
+    NoKeys,
+    /// A line, counted from 1, has more bytes than a key.
+    TooLong {
+        line: u32,
+    },
+    /// There are more keys than a function may have.
+    TooMany,
+}
+
+/// What kept a query from its end.
+#[derive(Clone, Copy)]
+pub enum QueryStop {
+    /// Out of memory.
+    Memory,
+    /// The function file can't be opened or read.
+    NoFunction,
+    /// The function file is not the dump of a function.
+    BadDump { fault: LoadFault },
+    /// The keys file can't be opened or read.
+    Read,
+    /// Out can't be written.
+    Write,
+    /// A line, counted from 1, has more bytes than a key.
+    TooLong { line: u32 },
+    /// There are more keys than a query may have.
+    TooMany,
+}
