@@ -192,9 +192,23 @@ fn add_bucket<L: Ledger>(
         push_bucket(parts, 0, 0, cells)?;
         return Ok(());
     }
+    held.hash()?;
     let built = build_bucket(alloc, held, key, place, c, seeds, steps)?;
     push_bucket(parts, built.m, built.seed, built.cells)?;
     Ok(())
+}
+
+/// The first four seeds of a list, or as many as it has, and the last of them again.
+fn first_four(seeds: &[u32]) -> [u32; 4]
+    requires some { 0 < length seeds.now }
+{
+    let last = seeds.len() - 1;
+    [
+        seeds[0],
+        seeds[last.min(1)],
+        seeds[last.min(2)],
+        seeds[last.min(3)],
+    ]
 }
 
 /// Reads each bucket's keys from the store, and builds and adds its function, one bucket after another. The buffer is scratch space.
@@ -230,7 +244,7 @@ pub(crate) fn build_buckets<B: Store, L: Ledger>(
     ensures form { IfErr result (HasBuildingForm seeds.now) }
     ensures steps { steps.new ≤ steps.old + 24 * parts.old.keys * length seeds.now }
 {
-    let mut held = BucketKeys::new(alloc);
+    let mut held = BucketKeys::new(alloc, first_four(seeds));
     for (j, size) in sizes.iter().enumerate() {
         let bucket = j as u32;
         read_bucket(store, bucket, *size, &mut held, key)?;

@@ -1,5 +1,5 @@
 use crate::equal::expect_equal_at;
-use cm_lookup2::words;
+use cm_lookup2::{words, words_of_four};
 use std::test::Fail;
 
 const TEXT: &[u8] = b"abcdefghijklmnopqrstuvwxyz";
@@ -53,6 +53,21 @@ fn hash_values(rt: HostRuntime) -> Result<(), Fail> {
     }
     for n in 2..25usize {
         expect_equal_at(&rt, &n, &words(&TEXT[..n], 7), &PREFIXES[n - 2]);
+    }
+    Ok(())
+}
+
+#[test]
+fn hash_values_under_four_seeds(rt: HostRuntime) -> Result<(), Fail> {
+    for (key, seed, expected) in &ROWS {
+        let four = words_of_four(*key, [*seed, 7, *seed ^ 1, *seed]);
+        expect_equal_at(&rt, &(*key, *seed, 0), &four.under(0), expected);
+        expect_equal_at(&rt, &(*key, *seed, 3), &four.under(3), expected);
+    }
+    for n in 2..25usize {
+        let four = words_of_four(&TEXT[..n], [0, 7, 7, u32::MAX]);
+        expect_equal_at(&rt, &(n, 1), &four.under(1), &PREFIXES[n - 2]);
+        expect_equal_at(&rt, &(n, 2), &four.under(2), &PREFIXES[n - 2]);
     }
     Ok(())
 }

@@ -1,6 +1,7 @@
 ghost use Rattle.std.specs.Prelude.{◌≡◌, ◌<◌, ◌≤◌, ◌+◌, ℕ, List, length, Option, Ok, Bool, true, false, OnOk, OnErr, IfOk, IfSome, IfNone, IsTrue, IsOkUnless, if◌then◌else◌};
 ghost use Rattle.std.specs.Option.{ForSome};
 ghost use Rattle.cm_io.specs.Passes.{Told, HasKeyCause, GivesKey, PassesKeys};
+ghost use Rattle.cm_spec.specs.Lookup2.{words};
 
 use arrayvec::ArrayVec;
 use thiserror::Error;
@@ -84,6 +85,15 @@ pub trait KeyPass {
         ensures line { IfSome result (λ key. (key.0 ≡ next_line self.now) × (last self.now < key.0)) }
         ensures stands { IfSome result (λ key. stands self.now key.1.now) }
         ensures none_stands { IfNone result ((key : List ℕ) → stands self.now key → ⊥) };
+
+    /// The hash values of the next key under a seed, by lookup2, if the key is buffered and was hashed under this seed before. None says
+    /// nothing.
+    fn hashed(&self, _seed: u32) -> Option<[u32; 3]>
+        requires usable { IsTrue (usable self.now) }
+        ensures words { IfSome result (λ hashed. (key : List ℕ) → stands self.now key → hashed ≡ words key _seed) }
+    {
+        None
+    }
 
     /// Passes the next key without returning it. The key is buffered, as `peek` shows, and has `len` bytes. No read can fail then, and
     /// it does what a `next` that returns true does.

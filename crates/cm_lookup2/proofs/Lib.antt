@@ -1,1 +1,2 @@
 pub mod TailLemmas
+pub mod LaneLemmas

@@ -86,6 +86,24 @@ fn add_key<S: Scheme<K>, const K: usize>(
     }
 }
 
+/// The hash values of the next key under a seed, with its length, if it is buffered. Those that the pass has at hand are not computed
+/// again.
+#[inline(always)]
+fn words_at_hand<P: KeyPass>(keys: &P, seed: u32) -> Option<([u32; 3], usize)>
+    requires usable { IsTrue (P.usable keys.now) }
+    ensures words { IfSome result (λ h. (key : List ℕ) × P.stands keys.now key × (length key ≡ h.1) × (h.0 ≡ words_of key seed)) }
+{
+    let key = match keys.peek() {
+        Some((_, key)) => key,
+        None => return None,
+    };
+    let hashed = match keys.hashed(seed) {
+        Some(hashed) => hashed,
+        None => words(key, seed),
+    };
+    Some((hashed, key.len()))
+}
+
 /// Hashes the next key in place, if it is buffered, and adds its edge under a seed, and its tag if tags are kept. If it isn't, nothing
 /// changes. There is room for both.
 #[inline(always)]
@@ -115,8 +133,8 @@ fn add_at_hand<S: Scheme<K>, P: KeyPass, const K: usize>(
         × (S.KEEPS_TAGS ≡ true → tags.new.items ≡ tags.old.items ++ (S.rule scheme.now).tag hashed ∷ [])
         × ForSome (P.told keys.old) (λ told. GivesWords told (P.place keys.old) (P.place keys.new) seed (Ok (Some hashed))) }
 {
-    let (hashed, len) = match keys.peek() {
-        Some((_, key)) => (words(key, seed), key.len()),
+    let (hashed, len) = match words_at_hand(keys, seed) {
+        Some(next) => next,
         None => return false,
     };
     keys.pass(len);

@@ -3,3 +3,4 @@ mod Equal
 mod Passing
 mod PassLemmas
 mod PutLemmas
+mod WordsLemmas

@@ -83,18 +83,19 @@ rise_far keys i (suc n) rise some inside =
     ⊎_elim (λ is. none (sym is)) more (eq-or-lt_of_le (omega arith))
 
 -- of keys whose bytes stand among these, the one that a pass gives next
-pub peeked : (bytes b : List ℕ) (spots s : List Spot) (i : ℕ) (d : Spot) (pass : BucketPass) (told : Told) (line : ℕ) (key : List ℕ) → record { keys = map (keyed_in bytes) spots; given = i } ≡ pass → record { keys = pass.keys; fault = None } ≡ told → i < length spots → s ≡ spots → b ≡ bytes
+pub peeked : (bytes b : List ℕ) (spots s : List Spot) (i : ℕ) (d : Spot) (pass : BucketPass) (told : Told) (line : ℕ) (key : List ℕ) → map (keyed_in bytes) spots ≡ pass.keys → i ≡ pass.given → record { keys = pass.keys; fault = None } ≡ told → i < length spots → s ≡ spots → b ≡ bytes
     → line ≡ (get_or s i d).line → key ≡ take ((get_or s i d).until - (get_or s i d).from) (drop (get_or s i d).from b) → drop pass.given told.keys ≡ (line, key) ∷ drop (pass.given + 1) told.keys
-peeked bytes b spots s i d pass told line key view is inside slots all line_is key_is =
+peeked bytes b spots s i d pass told line key keys_are given_is is inside slots all line_is key_is =
     let k : (let p : ℕ × List ℕ = (line, key) in p) ≡ keyed_in bytes (get_or spots i d) =
     ap (λ (n : ℕ). let p : ℕ × List ℕ = (n, key) in p) (line_is ∙ ap (λ (l : List Spot). (get_or l i d).line) slots)
     ∙ ap (λ (l : List ℕ). let p : ℕ × List ℕ = ((get_or spots i d).line, l) in p)
     (key_is ∙ ap (λ (l : List ℕ). take ((get_or s i d).until - (get_or s i d).from) (drop (get_or s i d).from l)) all
     ∙ ap (λ (l : List Spot). take ((get_or l i d).until - (get_or l i d).from) (drop (get_or l i d).from bytes)) slots) in
     let here = first_ahead (keyed_in bytes) spots i d inside ∙ ap (λ (p : ℕ × List ℕ). p ∷ drop (i + 1) (map (keyed_in bytes) spots)) (sym k) in
-    let P : BucketPass → Type 0 = λ p. drop p.given p.keys ≡ (line, key) ∷ drop (p.given + 1) p.keys in
-    let Q : Told → Type 0 = λ t. drop pass.given t.keys ≡ (line, key) ∷ drop (pass.given + 1) t.keys in
-    subst Q is (subst P view here)
+    let P : List (ℕ × List ℕ) → Type 0 = λ ks. drop i ks ≡ (line, key) ∷ drop (i + 1) ks in
+    let Q : ℕ → Type 0 = λ n. drop n pass.keys ≡ (line, key) ∷ drop (n + 1) pass.keys in
+    let R : Told → Type 0 = λ t. drop pass.given t.keys ≡ (line, key) ∷ drop (pass.given + 1) t.keys in
+    subst R is (subst Q given_is (subst P keys_are here))
 
 -- the line of the key at a place
 pub line_there : (bytes : List ℕ) (spots : List Spot) (i : ℕ) (d : Spot) → i < length spots → line_before (map (keyed_in bytes) spots) (i + 1) ≡ (get_or spots i d).line

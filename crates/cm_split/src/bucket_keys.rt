@@ -1,9 +1,11 @@
 //! The keys of one bucket, in memory.
-ghost use Rattle.std.specs.Prelude.{◌≡◌, ◌<◌, ◌≤◌, ◌++◌, [], ◌∷◌, length, OnOk, OnErr};
+ghost use Rattle.std.specs.Prelude.{◌≡◌, ◌<◌, ◌≤◌, ◌++◌, ℕ, [], ◌∷◌, length, slice_index, slice_index_or, IfSome, IsSome, OnOk, OnErr};
+ghost use Rattle.cm_spec.specs.Lookup2.{words as words_of};
 ghost use Rattle.cm_split.specs.BucketPass.{BucketPass, last_line};
 
 use arrayvec::ArrayVec;
 use cm_io::{KeyBuf, KeyFault, KeyPass, MAX_KEY_LEN};
+use cm_lookup2::{FourWords, words_of_four};
 use std::alloc::{AllocError, Global};
 use std::marker::Model;
 
@@ -18,45 +20,51 @@ struct Spot {
     until: usize,
 }
 
-/// The keys of one bucket with their lines, and a pass over them: each key is buffered, and no call fails. It is used again for bucket
-/// after bucket, and keeps its memory.
+/// The keys of one bucket with their lines, and a pass over them: each key is buffered, and no call fails. They can be hashed under four
+/// seeds in advance. It is used again for bucket after bucket, and keeps its memory.
 #[derive(Drop)]
 pub struct BucketKeys {
     bytes: Vec<u8>,
     spots: ArrayVec<Spot, MOST>,
+    seeds: [u32; 4],
+    words: Vec<FourWords>,
     given: usize,
 }
 
 impl Model for BucketKeys {
-    ghost use Rattle.std.specs.Prelude.{map};
-    ghost use Rattle.cm_split.specs.BucketPass.{BucketPass, IsBucketPass, keyed_in};
+    ghost use Rattle.std.specs.Prelude.{length, map};
+    ghost use Rattle.cm_split.specs.BucketPass.{AreHashed, BucketPass, IsBucketPass, keyed_in};
     ghost use Rattle.cm_split.specs.declared.bucket_keys.TheConstants.{MOST};
 
     ghost Value = { BucketPass };
 
-    ghost view = { λ b. record { keys = map (keyed_in b.bytes.items) b.spots.items; given = b.given } };
+    ghost view = { λ b. record { keys = map (keyed_in b.bytes.items) b.spots.items; given = b.given; seeds = b.seeds; hashed = length b.words.items } };
 
-    ghost invariant = { λ b. IsBucketPass MOST b.bytes.items b.spots.items b.given };
+    ghost invariant = { λ b. IsBucketPass MOST b.bytes.items b.spots.items b.given
+        × AreHashed b.seeds (map (keyed_in b.bytes.items) b.spots.items) b.words.items };
 }
 
 impl BucketKeys {
-    /// No keys.
-    pub fn new(alloc: Global) -> BucketKeys
-        ensures none { result.keys ≡ [] }
+    /// No keys. `hash` hashes those that are added under these seeds.
+    pub fn new(alloc: Global, seeds: [u32; 4]) -> BucketKeys
+        ensures state { result ≡ record { keys = []; given = 0; seeds = seeds; hashed = 0 } }
     {
         BucketKeys {
             bytes: Vec::new(alloc),
             spots: ArrayVec::new(),
+            seeds,
+            words: Vec::new(alloc),
             given: 0,
         }
     }
 
     /// Removes the keys, and keeps their memory.
     pub fn clear(&mut self)
-        ensures none { self.new.keys ≡ [] }
+        ensures state { self.new ≡ record self.old { keys = []; given = 0; hashed = 0 } }
     {
         self.bytes.clear();
         self.spots.clear();
+        self.words.clear();
         self.given = 0;
     }
 
@@ -65,7 +73,7 @@ impl BucketKeys {
         requires few { length self.old.keys < MOST }
         requires rises { last_line self.old.keys < line }
         requires short { length key.now ≤ MAX_KEY_LEN }
-        ensures keys { OnOk result (self.new.keys ≡ self.old.keys ++ (line, key.now) ∷ []) }
+        ensures state { OnOk result (self.new ≡ record self.old { keys = self.old.keys ++ (line, key.now) ∷ [] }) }
         ensures last { OnOk result (last_line self.new.keys ≡ line) }
         ensures unchanged { OnErr result (self.new ≡ self.old) }
     {
@@ -76,6 +84,21 @@ impl BucketKeys {
             from,
             until: self.bytes.len(),
         });
+        Ok(())
+    }
+
+    /// Hashes the keys that were not hashed yet. Fails, and changes nothing, if memory runs out.
+    pub fn hash(&mut self) -> Result<(), AllocError>
+        ensures state { OnOk result (self.new ≡ record self.old { hashed = length self.old.keys }) }
+        ensures unchanged { OnErr result (self.new ≡ self.old) }
+    {
+        let first = self.words.len();
+        self.words.reserve(self.spots.len() - first)?;
+        for i in first..self.spots.len() {
+            let spot = self.spots[i];
+            let key = &self.bytes[spot.from..spot.until];
+            self.words.push_reserved(words_of_four(key, self.seeds));
+        }
         Ok(())
     }
 
@@ -132,6 +155,21 @@ impl KeyPass for BucketKeys {
         }
         let spot = self.spots[self.given];
         Some((spot.line, &self.bytes[spot.from..spot.until]))
+    }
+
+    fn hashed(&self, seed: u32) -> Option<[u32; 3]>
+        ensures words { IfSome result (λ hashed. hashed ≡ words_of (slice_index_or self.now.keys self.now.given (0, [])).1 seed) }
+        ensures known { (i : ℕ) → i < 4 → slice_index self.now.seeds i ≡ seed → self.now.given < self.now.hashed → IsSome result }
+    {
+        if self.given >= self.words.len() {
+            return None;
+        }
+        for i in 0..4 {
+            if self.seeds[i] == seed {
+                return Some(self.words[self.given].under(i));
+            }
+        }
+        None
     }
 
     fn pass(&mut self, _len: usize) {

@@ -69,6 +69,7 @@ impl<P: Spill> Store for Runs<P> {
         }
     }
 
+    #[inline(always)]
     fn next_of(&mut self, bucket: u32, key: &mut KeyBuf) -> Result<Option<u32>, StoreFault> {
         match Runs::next_of(self, bucket, key) {
             Ok(line) => Ok(line),

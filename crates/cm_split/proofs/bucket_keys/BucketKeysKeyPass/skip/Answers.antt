@@ -11,4 +11,4 @@ returns-clause-rises c =
     let n = c.len.result - self.given in
     λ some.
     let inside : self.given + n ≤ length keys = omega (arith, some, c.len.ensures.value, length-map self.spots.items (keyed_in self.bytes.items)) in
-    subst (λ (b : BucketPass). line_before b.keys b.given < line_before keys (self.given + n)) c.self.view_is (rise_far keys self.given n c.self.invariant.rise some inside)
+    subst (λ (b : BucketPass). line_before b.keys b.given < line_before keys (self.given + n)) c.self.view_is (rise_far keys self.given n c.self.invariant.0.rise some inside)
