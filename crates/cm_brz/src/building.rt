@@ -144,6 +144,7 @@ fn brz_counted<P: KeyPass, B: Store, L: Ledger>(
     };
     put_all(alloc, keys, key, m, &splitting, store)?;
     let mut parts = BrzParts::new(alloc, m, c, b, splitting.split.seed);
+    parts.expect_all();
     let split = splitting.split.seed;
     let sizes: &[u32] = &splitting.sizes;
     match build_buckets(alloc, store, key, split, sizes, c, seeds, &mut parts, steps) {

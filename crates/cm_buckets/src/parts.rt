@@ -28,6 +28,8 @@ pub struct BrzParts {
     b: u8,
     // How many buckets there are to be, to take remainders by.
     count: Divisor,
+    // Whether room for all buckets is made with the first one.
+    whole: bool,
     // How many keys those so far have.
     held: u32,
     kept: Vec<Held>,
@@ -46,16 +48,18 @@ impl Model for BrzParts {
     ghost invariant = { λ p. AreKept (record { keys = p.m; ratio = p.c; width = p.b; split = p.split; buckets = buckets_of (⟦<Crumbs as Cells>⟧.cells p.cells) p.kept.items }) (⟦<Crumbs as Cells>⟧.cells p.cells) p.kept.items p.count p.held };
 }
 
-/// Makes room for one bucket more, of `count`: for as many more as there are, but at most for those still to come, so that no room is
-/// left over after the last bucket.
-fn make_room(kept: &mut Vec<Held>, count: u32) -> Result<(), AllocError>
+/// Makes room for one bucket more, of `count`: for all that are still to come, or for as many more as there are, if those are fewer. So no
+/// room is left over after the last bucket.
+fn make_room(kept: &mut Vec<Held>, count: u32, whole: bool) -> Result<(), AllocError>
     requires more { length kept.old.items < count }
     ensures kept { kept.new.items ≡ kept.old.items }
     ensures room { OnOk result (vec_len kept.new < vec_capacity kept.new) }
 {
     let len = kept.len();
     if len == kept.capacity() {
-        kept.reserve_exact(len.max(1).min(count as usize - len))?;
+        let left = count as usize - len;
+        let more = if whole { left } else { len.max(1).min(left) };
+        kept.reserve_exact(more)?;
     }
     Ok(())
 }
@@ -92,10 +96,18 @@ impl BrzParts {
             split,
             b,
             count: Divisor::new(count_of(m, b)),
+            whole: false,
             held: 0,
             kept: Vec::new(alloc),
             cells: Crumbs::empty(alloc),
         }
+    }
+
+    /// Has room for all buckets made with the first one. Else room grows with the buckets, since a count that was read may be wrong.
+    pub fn expect_all(&mut self)
+        ensures same { self.new ≡ self.old }
+    {
+        self.whole = true;
     }
 
     /// Whether this can't be the next bucket: the number of its cells that are not 3 differs from its number of keys, the buckets then
@@ -107,13 +119,18 @@ impl BrzParts {
         count_busy(cells) != size as u32 || is_off(self.held + size as u32, self.m, is_last)
     }
 
-    /// How many bytes of the table the keys still to come can fill, but at most as many as it has.
+    /// How many bytes of the table to make room for beyond those of the next bucket: all that the keys still to come can fill, or as many
+    /// as it has, if those are fewer.
     fn spare(&self) -> usize {
         let keys = self.m.saturating_sub(self.held) as u64;
         let buckets = self.count.value().saturating_sub(self.kept.len() as u32) as u64;
         // A bucket has at most 9 cells more than its share, and 3 more end its last byte.
         let most = keys * self.c as u64 / 4_000_000 + 3 * buckets;
-        self.cells.image().len().min(most as usize)
+        if self.whole {
+            most as usize
+        } else {
+            self.cells.image().len().min(most as usize)
+        }
     }
 
     /// Appends the cells of the next bucket to the table, and keeps it. Fails only if memory runs out, and then changes nothing.
@@ -125,7 +142,7 @@ impl BrzParts {
         ensures kept { OnOk result (self.new ≡ with_bucket self.old (record { size = size; seed = seed; cells = ⟦<Crumbs as Cells>⟧.cells cells.now })) }
         ensures failed { OnErr result (self.new ≡ self.old) }
     {
-        make_room(&mut self.kept, self.count.value())?;
+        make_room(&mut self.kept, self.count.value(), self.whole)?;
         let spare = self.spare();
         let bucket = Held {
             start: 4 * self.cells.len().div_ceil(4),
