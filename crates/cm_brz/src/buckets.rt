@@ -6,9 +6,9 @@ ghost use Rattle.cm_brz.specs.Fails.{FailsBucket, FailsBuckets, HasBuildingForm}
 ghost use Rattle.cm_split.specs.Faults.{HasSpillCause};
 ghost use Rattle.cm_split.specs.Puts.{HasTwoNumbers, HaveSizes, IsMiscount, keys_in_bucket};
 ghost use Rattle.cm_split.specs.Records.{Record, records_of};
-ghost use Rattle.cm_split.specs.Stores.{HasStoreCause, NotDamaged};
+ghost use Rattle.cm_spill.specs.Stores.{HasSpillCause as HasStoreCause, IsOfWriting as NotDamaged};
 ghost use Rattle.cm_split.specs.declared.fault.BrzFault.TheVariants as brz_fault;
-ghost use Rattle.cm_split.specs.declared.store.StoreFault.TheVariants as store_fault;
+ghost use Rattle.cm_spill.specs.declared.fault.SpillError.TheVariants as spill_error;
 ghost use Rattle.cm_buckets.specs.Functions.{bucket_cells, bucket_count, keys_in};
 ghost use Rattle.cm_buckets.specs.Pushing.{with_bucket};
 ghost use Rattle.cm_buckets.specs.declared.limits.TheConstants.{MAX_BUCKET};
@@ -26,16 +26,17 @@ use cm_graph::{Steps, Xored};
 use cm_io::KeyBuf;
 use cm_scheme::Built;
 use cm_seeds::{BuildFault, build_with};
-use cm_split::{BrzFault, BucketKeys, Store, StoreFault};
+use cm_spill::SpillError;
+use cm_split::{BrzFault, BucketKeys, Store};
 use cm_witness::{Certificate, InBucket};
 use std::alloc::Global;
 use std::sync::ledger::Ledger;
 
 /// The fault of a store that returned another number of records of a bucket than were put.
-fn miscounted<B: Store>(store: &B, put: u32, found: u32) -> StoreFault
-    ensures damaged { result ≡ store_fault.Damaged (B.end store.now) put found }
+fn miscounted<B: Store>(store: &B, put: u32, found: u32) -> SpillError
+    ensures damaged { result ≡ spill_error.Damaged (B.end store.now) put found }
 {
-    StoreFault::Damaged {
+    SpillError::Damaged {
         offset: store.read_end(),
         expected: put as u64,
         found: found as u64,
@@ -49,7 +50,7 @@ fn read_bucket<B: Store>(
     size: u32,
     held: &mut BucketKeys,
     key: &mut KeyBuf,
-) -> Result<(), StoreFault>
+) -> Result<(), SpillError>
     requires small { size ≤ MAX_BUCKET }
     requires store { IsTrue (B.usable store.old) }
     requires sealed { B.sealed store.old ≡ true }
@@ -75,7 +76,7 @@ fn read_bucket<B: Store>(
         match store.next_of(bucket, key)? {
             Some(line) => match held.push(line, key.as_slice()) {
                 Ok(()) => {}
-                Err(_) => return Err(StoreFault::Memory),
+                Err(_) => return Err(SpillError::Memory),
             },
             None => {
                 return Err(miscounted(store, size, count));

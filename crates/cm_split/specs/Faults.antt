@@ -6,8 +6,8 @@ use Rattle.cm_split.specs.declared.fault.BrzFault.{BrzFault}
 use Rattle.cm_split.specs.declared.fault.BrzFault.TheVariants.{Memory, Key, Changed, SpillFailed, SpillDamaged}
 use Rattle.cm_split.specs.declared.fault.PutFault.{PutFault}
 use Rattle.cm_split.specs.declared.fault.PutFault.TheVariants as put_fault
-use Rattle.cm_split.specs.declared.store.StoreFault.{StoreFault}
-use Rattle.cm_split.specs.declared.store.StoreFault.TheVariants as store_fault
+use Rattle.cm_spill.specs.declared.fault.SpillError.{SpillError}
+use Rattle.cm_spill.specs.declared.fault.SpillError.TheVariants as spill_error
 use Rattle.cm_witness.specs.declared.certificate.GatherFault.{GatherFault}
 use Rattle.cm_witness.specs.declared.certificate.GatherFault.TheVariants as gather_fault
 
@@ -18,10 +18,10 @@ brz_fault_of (gather_fault.Key fault) = Key fault
 brz_fault_of (gather_fault.Changed first now) = Changed first now
 
 -- the same for a fault of the store
-abbrev pub store_fault_of : StoreFault → BrzFault
-store_fault_of store_fault.Memory = Memory
-store_fault_of store_fault.Failed = SpillFailed
-store_fault_of (store_fault.Damaged offset expected found) = SpillDamaged offset expected found
+abbrev pub store_fault_of : SpillError → BrzFault
+store_fault_of spill_error.Memory = Memory
+store_fault_of spill_error.Failed = SpillFailed
+store_fault_of (spill_error.Damaged offset expected found) = SpillDamaged offset expected found
 
 -- and for a key that was not put into it
 abbrev pub put_fault_of : PutFault → BrzFault

@@ -8,4 +8,3 @@ pub mod SizesLaws
 pub mod Spilled
 pub mod SpilledLaws
 pub mod Split
-pub mod Stores

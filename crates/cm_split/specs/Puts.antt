@@ -3,9 +3,9 @@ use Rattle.std.specs.Prelude.{◌≡◌, ◌≢◌, ℕ, ◌<◌, List, [], ◌�
 use Rattle.std.specs.Option.{ForSome}
 use Rattle.cm_io.specs.Passes.{IsToldFault}
 use Rattle.cm_split.specs.Records.{Record, records_of}
-use Rattle.cm_split.specs.Stores.{HasStoreCause, NotDamaged}
-use Rattle.cm_split.specs.declared.store.StoreFault.{StoreFault}
-use Rattle.cm_split.specs.declared.store.StoreFault.TheVariants as store_fault
+use Rattle.cm_spill.specs.Stores.{HasSpillCause as HasStoreCause, IsOfWriting as NotDamaged}
+use Rattle.cm_spill.specs.declared.fault.SpillError.{SpillError}
+use Rattle.cm_spill.specs.declared.fault.SpillError.TheVariants as spill_error
 use Rattle.cm_split.specs.declared.fault.PutFault.{PutFault}
 use Rattle.cm_split.specs.declared.fault.PutFault.TheVariants.{Key, Store}
 use Rattle.cm_buckets.specs.Functions.{bucket_of}
@@ -64,13 +64,13 @@ abbrev pub keys_in_bucket : List Record → ℕ → List (ℕ × List ℕ)
 keys_in_bucket records j = map (λ r. (r.line, r.key)) (records_of j records)
 
 -- a damage has two numbers that differ
-abbrev pub HasTwoNumbers : StoreFault → Type 0
-HasTwoNumbers store_fault.Memory = Unit {0}
-HasTwoNumbers store_fault.Failed = Unit {0}
-HasTwoNumbers (store_fault.Damaged offset expected found) = expected ≢ found
+abbrev pub HasTwoNumbers : SpillError → Type 0
+HasTwoNumbers spill_error.Memory = Unit {0}
+HasTwoNumbers spill_error.Failed = Unit {0}
+HasTwoNumbers (spill_error.Damaged offset expected found) = expected ≢ found
 
 -- a bucket of which this many records were put returned another number of them; the last one read ends at this offset
-abbrev pub IsMiscount : ℕ → ℕ → ℕ → StoreFault → Type 0
-IsMiscount put given end store_fault.Memory = Unit {0}
-IsMiscount put given end store_fault.Failed = ⊥
-IsMiscount put given end (store_fault.Damaged offset expected found) = (offset ≡ end) × (expected ≡ put) × (found ≡ given) × (found ≢ put)
+abbrev pub IsMiscount : ℕ → ℕ → ℕ → SpillError → Type 0
+IsMiscount put given end spill_error.Memory = Unit {0}
+IsMiscount put given end spill_error.Failed = ⊥
+IsMiscount put given end (spill_error.Damaged offset expected found) = (offset ≡ end) × (expected ≡ put) × (found ≡ given) × (found ≢ put)

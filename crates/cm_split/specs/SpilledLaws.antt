@@ -8,15 +8,17 @@ use Rattle.cm_split.specs.Spilled.{AreSpilled, HoldsKnown}
 use Rattle.std.proofs.lemmas.Bool.{eq-eqb, false≢true}
 use Rattle.cm_split.specs.Puts.{records_under}
 use Rattle.cm_split.specs.Records.{GivesRecord, Record, records_of}
-use Rattle.cm_split.specs.Stores.{IsFaultOf, NotDamaged}
 use Rattle.cm_split.specs.declared.fault.BrzFault.{BrzFault}
-use Rattle.cm_split.specs.declared.store.StoreFault.{StoreFault}
-use Rattle.cm_split.specs.declared.store.StoreFault.TheVariants as store
 use Rattle.cm_buckets.specs.Functions.{Brz}
 use Rattle.cm_io.specs.Passes.{Told}
-use Rattle.cm_spill.specs.Stores.{GivesNext, Holds, Store, given_of, left_of, new_store}
+use Rattle.cm_spill.specs.Stores.{GivesNext, Holds, IsOfWriting, Store, given_of, left_of, new_store}
 use Rattle.cm_spill.specs.declared.fault.SpillError.{SpillError}
 use Rattle.cm_spill.specs.declared.fault.SpillError.TheVariants.{Failed}
+
+-- what two facts of a call that succeeds show
+pub both_ok : {T E P Q R : Type 0} (r : Result T E) → (P → Q → R) → OnOk r P → OnOk r Q → OnOk r R
+both_ok (Ok x) shows p q = shows p q
+both_ok (Err e) shows p q = tt
 
 -- known contents, as a value
 some_of : {A : Type 0} (o : Option A) → is_some o ≡ true → (x : A) × (o ≡ Some x)
@@ -60,7 +62,5 @@ spilled (Ok f) s known told same sealed put = λ bytes some t is.
     are_spilled s bytes (records_under t.keys (length f.buckets) f.split) here sealed (put (ap (λ (o : Option (List ℕ)). is_some o) here) t is)
 
 -- a failed spill is not a damaged one
-pub failed_only : (error : SpillError) (fault : StoreFault) → IsFaultOf error fault → error ≡ Failed → NotDamaged fault
-failed_only error fault same is =
-    let failed : fault ≡ store.Failed = subst (λ (e : SpillError). IsFaultOf e fault) is same in
-    subst NotDamaged (sym failed) tt
+pub failed_only : (error : SpillError) → error ≡ Failed → IsOfWriting error
+failed_only error is = subst IsOfWriting (sym is) tt

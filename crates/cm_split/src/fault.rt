@@ -4,8 +4,8 @@ ghost use Rattle.cm_split.specs.declared.fault.BrzFault.TheVariants as brz_fault
 ghost use Rattle.cm_split.specs.declared.fault.PutFault.TheVariants as put_fault;
 ghost use Rattle.cm_split.specs.Faults.{brz_fault_of, put_fault_of, store_fault_of};
 
-use crate::store::StoreFault;
 use cm_io::KeyFault;
+use cm_spill::SpillError;
 use cm_witness::{Certificate, GatherFault, Pair};
 use std::alloc::AllocError;
 
@@ -49,7 +49,7 @@ pub(crate) enum PutFault {
     /// The pass over the keys failed.
     Key(KeyFault),
     /// The store failed.
-    Store(StoreFault),
+    Store(SpillError),
 }
 
 impl From<KeyFault> for PutFault {
@@ -60,10 +60,10 @@ impl From<KeyFault> for PutFault {
     }
 }
 
-impl From<StoreFault> for PutFault {
+impl From<SpillError> for PutFault {
     ghost from_gives = { λ f e. e ≡ put_fault.Store f };
 
-    fn from(fault: StoreFault) -> Self {
+    fn from(fault: SpillError) -> Self {
         PutFault::Store(fault)
     }
 }
@@ -97,14 +97,14 @@ impl From<GatherFault> for BrzFault {
     }
 }
 
-impl From<StoreFault> for BrzFault {
+impl From<SpillError> for BrzFault {
     ghost from_gives = { λ f e. e ≡ store_fault_of f };
 
-    fn from(fault: StoreFault) -> Self {
+    fn from(fault: SpillError) -> Self {
         match fault {
-            StoreFault::Memory => BrzFault::Memory,
-            StoreFault::Failed => BrzFault::SpillFailed,
-            StoreFault::Damaged {
+            SpillError::Memory => BrzFault::Memory,
+            SpillError::Failed => BrzFault::SpillFailed,
+            SpillError::Damaged {
                 offset,
                 expected,
                 found,

@@ -14,4 +14,4 @@ pub use fault::BrzFault;
 pub use overfull::gather_equal;
 pub use putting::put_all;
 pub use split::{Overfull, Split, Splitting, choose_split};
-pub use store::{Store, StoreFault};
+pub use store::Store;

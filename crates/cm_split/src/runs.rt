@@ -1,32 +1,12 @@
 //! Keys that wait for their buckets in a spill.
 ghost use Rattle.std.specs.Prelude.{is_some};
 ghost use Rattle.cm_split.specs.Spilled.{HoldsKnown};
-ghost use Rattle.cm_split.specs.Stores.{IsFaultOf};
 ghost use Rattle.cm_spill.specs.Stores.{IsNextBucket, given_last_of, given_of};
 
-use crate::store::{Store, StoreFault};
+use crate::store::Store;
 use cm_io::{KeyBuf, Spill};
 use cm_spill::{Runs, SpillError};
 use std::alloc::Global;
-
-/// The fault of a store over a spill.
-fn fault_of(error: SpillError) -> StoreFault
-    ensures same { IsFaultOf error result }
-{
-    match error {
-        SpillError::Memory => StoreFault::Memory,
-        SpillError::Failed => StoreFault::Failed,
-        SpillError::Damaged {
-            offset,
-            expected,
-            found,
-        } => StoreFault::Damaged {
-            offset,
-            expected,
-            found,
-        },
-    }
-}
 
 impl<P: Spill> Store for Runs<P> {
     ghost holds = { HoldsKnown };
@@ -55,26 +35,17 @@ impl<P: Spill> Store for Runs<P> {
         bucket: u32,
         line: u32,
         key: &[u8],
-    ) -> Result<(), StoreFault> {
-        match Runs::put(self, bucket, line, key) {
-            Ok(()) => Ok(()),
-            Err(error) => Err(fault_of(error)),
-        }
+    ) -> Result<(), SpillError> {
+        Runs::put(self, bucket, line, key)
     }
 
-    fn seal(&mut self, _alloc: Global) -> Result<(), StoreFault> {
-        match Runs::seal(self) {
-            Ok(()) => Ok(()),
-            Err(error) => Err(fault_of(error)),
-        }
+    fn seal(&mut self, _alloc: Global) -> Result<(), SpillError> {
+        Runs::seal(self)
     }
 
     #[inline(always)]
-    fn next_of(&mut self, bucket: u32, key: &mut KeyBuf) -> Result<Option<u32>, StoreFault> {
-        match Runs::next_of(self, bucket, key) {
-            Ok(line) => Ok(line),
-            Err(error) => Err(fault_of(error)),
-        }
+    fn next_of(&mut self, bucket: u32, key: &mut KeyBuf) -> Result<Option<u32>, SpillError> {
+        Runs::next_of(self, bucket, key)
     }
 
     fn read_end(&self) -> u64 {

@@ -1,25 +1,11 @@
 //! Where keys wait for their buckets.
 ghost use Rattle.std.specs.Prelude.{◌≡◌, ◌<◌, ◌≤◌, ◌+◌, ◌++◌, ℕ, List, [], ◌∷◌, length, Bool, true, false, is_some, IfOk, IfErr, IfSome, IfNone, OnOk, OnErr, IsTrue, if◌then◌else◌};
 ghost use Rattle.cm_split.specs.Records.{GivesRecord, Record};
-ghost use Rattle.cm_split.specs.Stores.{HasStoreCause, IsReadFault, NotDamaged};
+ghost use Rattle.cm_spill.specs.Stores.{HasSpillCause as HasStoreCause, IsOfReading, IsOfWriting as NotDamaged};
 
 use cm_io::{KeyBuf, MAX_KEY_LEN};
+use cm_spill::SpillError;
 use std::alloc::Global;
-
-/// Why a store failed.
-#[derive(Clone, Copy)]
-pub enum StoreFault {
-    /// Out of memory.
-    Memory,
-    /// What keeps the keys failed.
-    Failed,
-    /// What was read is not what was put: at this offset in bytes a number is not the expected one.
-    Damaged {
-        offset: u64,
-        expected: u64,
-        found: u64,
-    },
-}
 
 /// Keys that are put by rising lines, and then read bucket by bucket, those of a bucket by rising lines.
 pub trait Store {
@@ -54,7 +40,7 @@ pub trait Store {
     ghost end: { Self → ℕ };
 
     /// Puts a key with its bucket and its line, which is above those put before. After a failure nothing may be put or read.
-    fn put(&mut self, alloc: Global, bucket: u32, line: u32, key: &[u8]) -> Result<(), StoreFault>
+    fn put(&mut self, alloc: Global, bucket: u32, line: u32, key: &[u8]) -> Result<(), SpillError>
         requires usable { IsTrue (usable self.old) }
         requires open { sealed self.old ≡ false }
         requires rises { put_last self.old < line }
@@ -70,7 +56,7 @@ pub trait Store {
         ensures fault { IfErr result NotDamaged };
 
     /// Ends the keys. From then on buckets are read, from 0 on. After a failure none may be.
-    fn seal(&mut self, alloc: Global) -> Result<(), StoreFault>
+    fn seal(&mut self, alloc: Global) -> Result<(), SpillError>
         requires usable { IsTrue (usable self.old) }
         requires open { sealed self.old ≡ false }
         ensures holds { (records : List Record) → holds self.old records → OnOk result (holds self.new records) }
@@ -86,7 +72,7 @@ pub trait Store {
 
     /// Puts the next key of a bucket into the buffer and returns its line, or returns None if the bucket has no further key. Takes no
     /// memory, and finds no damage if the contents are known. After a failure nothing may be read.
-    fn next_of(&mut self, bucket: u32, key: &mut KeyBuf) -> Result<Option<u32>, StoreFault>
+    fn next_of(&mut self, bucket: u32, key: &mut KeyBuf) -> Result<Option<u32>, SpillError>
         requires usable { IsTrue (usable self.old) }
         requires sealed { sealed self.old ≡ true }
         requires may_ask { may_ask self.old bucket }
@@ -109,7 +95,7 @@ pub trait Store {
         ensures usable { OnOk result (usable self.new ≡ true) }
         ensures unusable { OnErr result (usable self.new ≡ false) }
         ensures cause { HasStoreCause (faults self.old) (faults self.new) result }
-        ensures fault { IfErr result IsReadFault };
+        ensures fault { IfErr result IsOfReading };
 
     /// The offset in bytes after the record that was read last of the bucket read last, and 0 before the first.
     fn read_end(&self) -> u64

@@ -1,25 +1,31 @@
-use Rattle.std.proofs.Common.{◌≡◌, ◌∙◌, List, sym, ap}
+use Rattle.std.proofs.Common.{◌≡◌, ◌∙◌, ℕ, List, sym, ap}
 use Rattle.std.specs.Prelude.{is_some}
+use Rattle.std.proofs.lemmas.Result.{IfErr-weaker, IfOk-weaker, on_ok_weaker}
 use Rattle.cm_split.specs.SpilledLaws.{given_is, failed_only, given_record, where_known}
 use Rattle.cm_spill.specs.Stores.{GivesNext, Holds, Store, given_of, left_of}
-use Rattle.cm_split.specs.Records.{Record}
 use Rattle.cm_spill.specs.declared.fault.SpillError.TheVariants.{Failed}
+use Rattle.cm_split.specs.Records.{Record}
 use Rattle.cm_split.proofs.runs.RunsStore.next_of.Goals as goal
 
-pub returns-in-Ok-clause-gives : goal.returns-in-Ok-clause-gives
-returns-in-Ok-clause-gives g c = λ records holds.
-    let P = λ (puts : List Record). Holds c.args.self.now puts → GivesNext c.args.bucket (left_of puts c.args.bucket (given_of c.args.self.now c.args.bucket)) (left_of puts c.args.bucket c.next_of.new.self.given) c.next_of.new.key.items c.in-Ok.line in
-    given_record records c.args.bucket _ _ _ _ c.in-Ok.line (where_known c.args.self.now.known ((puts : List Record) → P puts) holds.known c.in-Ok.ensures.gives records holds.held) (given_is c.next_of.new.self c.args.bucket (ap (λ (s : Store). s.bucket) c.next_of.ensures.state))
+pub returns-clause-gives : goal.returns-clause-gives
+returns-clause-gives g c = λ records holds.
+    let old = c.args.self.now in
+    let now = c.next_of.new.self in
+    let left = λ (puts : List Record) (given : ℕ). left_of puts c.args.bucket given in
+    IfOk-weaker c.next_of.result _ _ (λ line gives.
+    (let P = λ (puts : List Record). Holds old puts → GivesNext c.args.bucket (left puts (given_of old c.args.bucket)) (left puts now.given) c.next_of.new.key.items line in
+    given_record records c.args.bucket _ _ _ _ line (where_known old.known ((puts : List Record) → P puts) holds.known gives records holds.held) (given_is now c.args.bucket (ap (λ (s : Store). s.bucket) c.next_of.ensures.state)))) c.next_of.ensures.gives
 
-pub returns-in-Err-clause-undamaged : goal.returns-in-Err-clause-undamaged
-returns-in-Err-clause-undamaged g c = λ records holds.
-    failed_only c.in-Err.error _ c.fault_of.ensures.same (where_known c.args.self.now.known ((puts : List Record) → Holds c.args.self.now puts → c.in-Err.error ≡ Failed) holds.known c.in-Err.ensures.sound records holds.held)
+pub returns-clause-undamaged : goal.returns-clause-undamaged
+returns-clause-undamaged g c = λ records holds.
+    IfErr-weaker c.next_of.result _ _ (λ error sound.
+    failed_only error (where_known c.args.self.now.known ((puts : List Record) → Holds c.args.self.now puts → error ≡ Failed) holds.known sound records holds.held)) c.next_of.ensures.sound
 
-pub returns-in-Ok-clause-holds : goal.returns-in-Ok-clause-holds
-returns-in-Ok-clause-holds g c = λ records holds.
+pub returns-clause-holds : goal.returns-clause-holds
+returns-clause-holds g c = λ records holds.
     let state = c.next_of.ensures.state in
-    record {
+    on_ok_weaker c.next_of.result (λ held. record {
       known = ap (λ (s : Store). is_some s.known) state ∙ holds.known;
-      held = c.in-Ok.ensures.holds records holds.held;
+      held = held records holds.held;
       written = λ sealed. ap (λ (s : Store). s.waiting) state ∙ holds.written (sym (ap (λ (s : Store). s.sealed) state) ∙ sealed);
-    }
+    }) c.next_of.ensures.holds
