@@ -20,7 +20,6 @@ use std::alloc::Global;
 /// Puts the next key into the store, and returns its bucket, or none at the end. A buffered key is put where it stands, and any other is
 /// copied into the buffer, which is scratch space.
 fn put_next<P: KeyPass, B: Store>(
-    alloc: Global,
     keys: &mut P,
     key: &mut KeyBuf,
     split: &Split,
@@ -49,7 +48,7 @@ fn put_next<P: KeyPass, B: Store>(
     let (bucket, len) = match keys.peek() {
         Some((line, next)) => {
             let bucket = split.bucket_of(next);
-            store.put(alloc, bucket, line, next)?;
+            store.put(bucket, line, next)?;
             (bucket, next.len())
         }
         None => {
@@ -57,7 +56,7 @@ fn put_next<P: KeyPass, B: Store>(
                 return Ok(None);
             }
             let bucket = split.bucket_of(key.as_slice());
-            store.put(alloc, bucket, keys.line(), key.as_slice())?;
+            store.put(bucket, keys.line(), key.as_slice())?;
             return Ok(Some(bucket));
         }
     };
@@ -83,7 +82,6 @@ fn find_other(sizes: &[u32], put: &[u8]) -> Option<usize>
 /// Puts all keys, which are to be `m`, into the store in one pass, each with its bucket and its line, and counts those of each bucket
 /// in a byte: none had more keys than a bucket may have when they were counted. The buffer is scratch space.
 fn put_each<P: KeyPass, B: Store>(
-    alloc: Global,
     keys: &mut P,
     key: &mut KeyBuf,
     m: u32,
@@ -114,7 +112,7 @@ fn put_each<P: KeyPass, B: Store>(
     keys.rewind()?;
     put.fill(0);
     for count in 0..m {
-        match put_next(alloc, keys, key, split, store)? {
+        match put_next(keys, key, split, store)? {
             Some(bucket) => {
                 let j = bucket as usize;
                 if put[j] as u32 == MAX_BUCKET {
@@ -175,13 +173,13 @@ pub fn put_all<P: KeyPass, B: Store>(
     let sizes: &[u32] = &splitting.sizes;
     let mut table = vec![in alloc; 0; sizes.len()]?;
     let put: &mut [u8] = &mut table;
-    put_each(alloc, keys, key, m, &splitting.split, sizes, put, store)?;
+    put_each(keys, key, m, &splitting.split, sizes, put, store)?;
     if let Some(j) = find_other(sizes, put) {
         return Err(BrzFault::Changed {
             first: sizes[j],
             now: put[j] as u32,
         });
     }
-    store.seal(alloc)?;
+    store.seal()?;
     Ok(())
 }

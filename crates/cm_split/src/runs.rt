@@ -6,7 +6,6 @@ ghost use Rattle.cm_spill.specs.Stores.{IsNextBucket, given_last_of, given_of};
 use crate::store::Store;
 use cm_io::{KeyBuf, Spill};
 use cm_spill::{Runs, SpillError};
-use std::alloc::Global;
 
 impl<P: Spill> Store for Runs<P> {
     ghost holds = { HoldsKnown };
@@ -29,17 +28,11 @@ impl<P: Spill> Store for Runs<P> {
 
     ghost end = { λ s. s.read_end };
 
-    fn put(
-        &mut self,
-        _alloc: Global,
-        bucket: u32,
-        line: u32,
-        key: &[u8],
-    ) -> Result<(), SpillError> {
+    fn put(&mut self, bucket: u32, line: u32, key: &[u8]) -> Result<(), SpillError> {
         Runs::put(self, bucket, line, key)
     }
 
-    fn seal(&mut self, _alloc: Global) -> Result<(), SpillError> {
+    fn seal(&mut self) -> Result<(), SpillError> {
         Runs::seal(self)
     }
 

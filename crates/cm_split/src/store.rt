@@ -5,7 +5,6 @@ ghost use Rattle.cm_spill.specs.Stores.{HasSpillCause as HasStoreCause, IsOfRead
 
 use cm_io::{KeyBuf, MAX_KEY_LEN};
 use cm_spill::SpillError;
-use std::alloc::Global;
 
 /// Keys that are put by rising lines, and then read bucket by bucket, those of a bucket by rising lines.
 pub trait Store {
@@ -40,7 +39,7 @@ pub trait Store {
     ghost end: { Self → ℕ };
 
     /// Puts a key with its bucket and its line, which is above those put before. After a failure nothing may be put or read.
-    fn put(&mut self, alloc: Global, bucket: u32, line: u32, key: &[u8]) -> Result<(), SpillError>
+    fn put(&mut self, bucket: u32, line: u32, key: &[u8]) -> Result<(), SpillError>
         requires usable { IsTrue (usable self.old) }
         requires open { sealed self.old ≡ false }
         requires rises { put_last self.old < line }
@@ -56,7 +55,7 @@ pub trait Store {
         ensures fault { IfErr result NotDamaged };
 
     /// Ends the keys. From then on buckets are read, from 0 on. After a failure none may be.
-    fn seal(&mut self, alloc: Global) -> Result<(), SpillError>
+    fn seal(&mut self) -> Result<(), SpillError>
         requires usable { IsTrue (usable self.old) }
         requires open { sealed self.old ≡ false }
         ensures holds { (records : List Record) → holds self.old records → OnOk result (holds self.new records) }
