@@ -7,9 +7,9 @@ ghost use Rattle.cm_spec.specs.Lookup2 as lookup2;
 use crate::bdz::Bdz;
 use crate::bdz_ph::BdzPh;
 use crate::choice::chosen_among;
-use crate::scheme::place_in;
+use crate::scheme::{place_in, places_in};
 use cm_bits::Cells;
-use cm_lookup2::words;
+use cm_lookup2::{words, words_of_four};
 use cm_scheme::{Answers, Place};
 
 /// A key that the function was built over gets a number below the number of keys, and no other of these keys the same. Another
@@ -27,6 +27,12 @@ impl Answers for Bdz {
 
     fn place(&self, key: &[u8]) -> Place {
         place_in(words(key, self.seed()), self.third())
+    }
+
+    fn places_of_four(&self, p: &[u8], q: &[u8], r: &[u8], t: &[u8]) -> [Place; 4] {
+        let seed = self.seed();
+        let hashed = words_of_four(p, q, r, t, [seed, seed, seed, seed]);
+        places_in(&hashed, self.third())
     }
 
     fn answer_at(&self, place: &Place) -> Option<u32> {
@@ -54,6 +60,12 @@ impl Answers for BdzPh {
 
     fn place(&self, key: &[u8]) -> Place {
         place_in(words(key, self.seed()), self.third())
+    }
+
+    fn places_of_four(&self, p: &[u8], q: &[u8], r: &[u8], t: &[u8]) -> [Place; 4] {
+        let seed = self.seed();
+        let hashed = words_of_four(p, q, r, t, [seed, seed, seed, seed]);
+        places_in(&hashed, self.third())
     }
 
     fn answer_at(&self, place: &Place) -> Option<u32> {

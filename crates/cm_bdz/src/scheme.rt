@@ -1,5 +1,5 @@
 //! BDZ and BDZ_PH as schemes.
-ghost use Rattle.std.specs.Prelude.{◌≡◌, ℕ, ◌+◌, ◌-◌, ◌*◌, ◌/◌, ◌%◌, ◌^◌, ◌<◌, ◌≤◌, false, refl, List, length};
+ghost use Rattle.std.specs.Prelude.{◌≡◌, ℕ, ◌+◌, ◌-◌, ◌*◌, ◌/◌, ◌%◌, ◌^◌, ◌<◌, ◌≤◌, ◌∷◌, [], false, refl, List, length, slice_index_or};
 ghost use Rattle.cm_algorithm.specs.declared.algorithm.Algorithm.TheVariants as algorithm;
 ghost use Rattle.cm_algorithm.specs.declared.algorithm.Algorithm.{Algorithm};
 ghost use Rattle.cm_scheme.specs.Kinds.{HasEnds};
@@ -10,6 +10,7 @@ ghost use Rattle.cm_spec.specs.Rule.{IsRule, IsCount, IsRatio, IsSize};
 
 use cm_algorithm::Algorithm;
 use cm_bits::{Cells, Crumbs, Trits};
+use cm_lookup2::FourWords;
 use cm_scheme::{Divisor, Place, Scheme};
 
 /// The number of vertices for `m` keys and the ratio `c` in millionths: three thirds, each an odd number of at least 3 for one
@@ -45,6 +46,20 @@ pub fn place_in(words: [u32; 3], third: &Divisor) -> Place
 {
     let ends = triple(words, third);
     [ends[0], ends[1], ends[2], 0]
+}
+
+/// Where a function looks up four keys of these hash values.
+#[inline(always)]
+pub(crate) fn places_in(words: &FourWords, third: &Divisor) -> [Place; 4]
+    requires room { 3 * third.now < 2 ^ 32 }
+    ensures places { result ≡ bdz_place (slice_index_or words.now 0 []) (3 * third.now) ∷ bdz_place (slice_index_or words.now 1 []) (3 * third.now) ∷ bdz_place (slice_index_or words.now 2 []) (3 * third.now) ∷ bdz_place (slice_index_or words.now 3 []) (3 * third.now) ∷ [] }
+{
+    [
+        place_in(words.at(0), third),
+        place_in(words.at(1), third),
+        place_in(words.at(2), third),
+        place_in(words.at(3), third),
+    ]
 }
 
 /// What BDZ and BDZ_PH differ in: the table of their cells, and the value of an untouched one.

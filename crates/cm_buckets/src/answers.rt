@@ -4,7 +4,7 @@ ghost use Rattle.cm_buckets.specs.Functions.{brz_answer};
 ghost use Rattle.cm_buckets.specs.Places.{brz_place};
 
 use crate::brz::Brz;
-use cm_lookup2::words;
+use cm_lookup2::{words, words_of_four};
 use cm_scheme::{Answers, Place};
 
 /// A key that the function was built over gets a number below the number of keys, and no other of these keys the same. Another
@@ -21,10 +21,32 @@ impl Answers for Brz {
     }
 
     fn place(&self, key: &[u8]) -> Place {
-        let hashed = words(key, self.split() ^ u32::MAX);
-        let j = self.count().rem(hashed[2]);
-        let ends = self.ends(j, key);
-        [ends[0], ends[1], ends[2], j]
+        let j = self.bucket_in(words(key, self.split() ^ u32::MAX));
+        self.place_in(j, words(key, self.seed_of(j)))
+    }
+
+    fn places_of_four(&self, p: &[u8], q: &[u8], r: &[u8], t: &[u8]) -> [Place; 4] {
+        let split = self.split() ^ u32::MAX;
+        let hashed = words_of_four(p, q, r, t, [split, split, split, split]);
+        let j = [
+            self.bucket_in(hashed.at(0)),
+            self.bucket_in(hashed.at(1)),
+            self.bucket_in(hashed.at(2)),
+            self.bucket_in(hashed.at(3)),
+        ];
+        let seeds = [
+            self.seed_of(j[0]),
+            self.seed_of(j[1]),
+            self.seed_of(j[2]),
+            self.seed_of(j[3]),
+        ];
+        let hashed = words_of_four(p, q, r, t, seeds);
+        [
+            self.place_in(j[0], hashed.at(0)),
+            self.place_in(j[1], hashed.at(1)),
+            self.place_in(j[2], hashed.at(2)),
+            self.place_in(j[3], hashed.at(3)),
+        ]
     }
 
     fn answer_at(&self, place: &Place) -> Option<u32> {

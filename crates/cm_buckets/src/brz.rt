@@ -1,15 +1,16 @@
 //! Functions by BRZ.
-ghost use Rattle.std.specs.Prelude.{◌≡◌, ◌<◌, ◌≤◌, ◌+◌, ℕ, List, Option, IfSome, length, slice_index, slice_index_or};
-ghost use Rattle.cm_buckets.specs.Functions.{IsBrz, IsBucket, brz_answer, bucket_count, no_bucket};
-ghost use Rattle.cm_buckets.specs.Places.{brz_place, ends_in};
+ghost use Rattle.std.specs.Prelude.{◌≡◌, ◌<◌, ◌≤◌, ◌+◌, ℕ, List, Option, IfSome, bit_xor, length, slice_index, slice_index_or};
+ghost use Rattle.cm_buckets.specs.Functions.{IsBrz, IsBucket, brz_answer, bucket_count, bucket_of, no_bucket};
+ghost use Rattle.cm_buckets.specs.Places.{brz_place};
 ghost use Rattle.cm_io.specs.declared.key_pass.TheConstants.{MAX_KEYS};
 ghost use Rattle.cm_buckets.specs.declared.limits.TheConstants.{MIN_WIDTH, MAX_WIDTH};
 ghost use Rattle.cm_spec.specs.Image.{packed_byte, packed_len};
 ghost use Rattle.cm_spec.specs.Lists.{list_of};
+ghost use Rattle.cm_spec.specs.Lookup2.{words};
 ghost use Rattle.cm_spec.specs.Rule.{IsRatio};
 
 use crate::parts::BrzParts;
-use cm_scheme::{Divisor, Place};
+use cm_scheme::Place;
 use std::marker::Model;
 
 /// A function from keys to numbers below the number of keys. Clauses see its number of keys, its ratio in millionths, how many keys
@@ -103,19 +104,23 @@ impl Brz {
         self.parts.image_of(j)
     }
 
-    /// How many buckets there are, to take remainders by.
-    pub(crate) fn count(&self) -> &Divisor
-        ensures count { result.now ≡ length self.now.buckets }
+    /// The bucket of a key with these hash values under the split's seed with all bits flipped.
+    #[inline(always)]
+    pub(crate) fn bucket_in(&self, hashed: [u32; 3]) -> u32
+        ensures bucket { (key : List ℕ) → hashed ≡ words key (bit_xor self.now.split 4294967295) → result ≡ bucket_of key self.now.split (length self.now.buckets) }
+        ensures inside { result < length self.now.buckets }
     {
-        self.parts.count()
+        self.parts.count().rem(hashed[2])
     }
 
-    /// The three vertices of a key in bucket `j`, which are 0 if it is empty.
-    pub(crate) fn ends(&self, j: u32, key: &[u8]) -> [u32; 3]
+    /// Where a key of bucket `j` is looked up, with these hash values under the bucket's seed.
+    #[inline(always)]
+    pub(crate) fn place_in(&self, j: u32, hashed: [u32; 3]) -> Place
         requires inside { j < length self.now.buckets }
-        ensures ends { result ≡ ends_in (slice_index_or self.now.buckets j no_bucket) key.now }
+        ensures place { (key : List ℕ) → j ≡ bucket_of key self.now.split (length self.now.buckets) → hashed ≡ words key (slice_index_or self.now.buckets j no_bucket).seed → result ≡ brz_place self.now key }
     {
-        self.parts.ends(j, key)
+        let ends = self.parts.ends_of(j, hashed);
+        [ends[0], ends[1], ends[2], j]
     }
 
     /// The answer to each key of a place.

@@ -6,11 +6,11 @@ ghost use Rattle.cm_buckets.specs.Kept.{LiesIn, bucket_in, cells_in};
 ghost use Rattle.cm_buckets.specs.Places.{ends_in};
 ghost use Rattle.cm_spec.specs.Bdz.{bdz_edge};
 ghost use Rattle.cm_spec.specs.Cells.{is_busy};
+ghost use Rattle.cm_spec.specs.Lookup2.{words};
 ghost use Rattle.cm_rank.specs.Ranks.{rank_of};
 
 use cm_bdz::place_in;
 use cm_bits::{Cells, Crumbs};
-use cm_lookup2::words;
 use cm_rank::Counted;
 use cm_scheme::Divisor;
 
@@ -37,16 +37,17 @@ pub(crate) fn count_busy(cells: &Crumbs) -> u32
 }
 
 impl Held {
-    /// The three vertices of a key, which are 0 in an empty bucket.
-    pub(crate) fn ends(&self, key: &[u8]) -> [u32; 3]
+    /// The three vertices of a key with these hash values under the seed, which are 0 in an empty bucket.
+    #[inline(always)]
+    pub(crate) fn ends_of(&self, hashed: [u32; 3]) -> [u32; 3]
         requires thirds { self.now.size ≢ 0 → 0 < self.now.third }
-        ensures ends { (table : List ℕ) → LiesIn table self.now → result ≡ ends_in (bucket_in table self.now) key.now }
+        ensures ends { (table key : List ℕ) → LiesIn table self.now → hashed ≡ words key self.now.seed → result ≡ ends_in (bucket_in table self.now) key }
     {
         if self.size == 0 {
             return [0, 0, 0];
         }
         let third = Divisor::new(self.third as u32);
-        let place = place_in(words(key, self.seed), &third);
+        let place = place_in(hashed, &third);
         [place[0], place[1], place[2]]
     }
 

@@ -9,6 +9,7 @@ ghost use Rattle.cm_spec.specs.Cells.{is_busy};
 ghost use Rattle.cm_buckets.specs.declared.limits.TheConstants.{MAX_BUCKET, MIN_WIDTH, MAX_WIDTH};
 ghost use Rattle.cm_spec.specs.Image.{packed_byte, packed_len};
 ghost use Rattle.cm_spec.specs.Lists.{list_of};
+ghost use Rattle.cm_spec.specs.Lookup2.{words};
 ghost use Rattle.cm_spec.specs.Rule.{IsRatio};
 
 use crate::brz::Brz;
@@ -269,12 +270,13 @@ impl BrzParts {
         &self.cells.image()[from..until]
     }
 
-    /// The three vertices of a key in bucket `j`, which are 0 if it is empty.
-    pub(crate) fn ends(&self, j: u32, key: &[u8]) -> [u32; 3]
+    /// The three vertices in bucket `j` of a key with these hash values under the bucket's seed, which are 0 if it is empty.
+    #[inline(always)]
+    pub(crate) fn ends_of(&self, j: u32, hashed: [u32; 3]) -> [u32; 3]
         requires inside { j < length self.now.buckets }
-        ensures ends { result ≡ ends_in (slice_index_or self.now.buckets j no_bucket) key.now }
+        ensures ends { (key : List ℕ) → hashed ≡ words key (slice_index_or self.now.buckets j no_bucket).seed → result ≡ ends_in (slice_index_or self.now.buckets j no_bucket) key }
     {
-        self.kept[j as usize].ends(key)
+        self.kept[j as usize].ends_of(hashed)
     }
 
     /// The answer of bucket `j` to each key of these vertices, after the numbers of the buckets before.

@@ -30,6 +30,15 @@ impl Answers for Func {
         }
     }
 
+    fn places_of_four(&self, p: &[u8], q: &[u8], r: &[u8], t: &[u8]) -> [Place; 4] {
+        match self {
+            Func::Chm(chm) => chm.places_of_four(p, q, r, t),
+            Func::Bdz(bdz) => bdz.places_of_four(p, q, r, t),
+            Func::BdzPh(bdz_ph) => bdz_ph.places_of_four(p, q, r, t),
+            Func::Brz(brz) => brz.places_of_four(p, q, r, t),
+        }
+    }
+
     fn answer_at(&self, place: &Place) -> Option<u32> {
         match self {
             Func::Chm(chm) => chm.answer_at(place),

@@ -1,5 +1,5 @@
 use crate::equal::expect_equal_at;
-use cm_lookup2::{words, words_of_four};
+use cm_lookup2::{words, words_of_four, words_under_four};
 use std::test::Fail;
 
 const TEXT: &[u8] = b"abcdefghijklmnopqrstuvwxyz";
@@ -60,14 +60,32 @@ fn hash_values(rt: HostRuntime) -> Result<(), Fail> {
 #[test]
 fn hash_values_under_four_seeds(rt: HostRuntime) -> Result<(), Fail> {
     for (key, seed, expected) in &ROWS {
-        let four = words_of_four(*key, [*seed, 7, *seed ^ 1, *seed]);
-        expect_equal_at(&rt, &(*key, *seed, 0), &four.under(0), expected);
-        expect_equal_at(&rt, &(*key, *seed, 3), &four.under(3), expected);
+        let four = words_under_four(*key, [*seed, 7, *seed ^ 1, *seed]);
+        expect_equal_at(&rt, &(*key, *seed, 0), &four.at(0), expected);
+        expect_equal_at(&rt, &(*key, *seed, 3), &four.at(3), expected);
     }
     for n in 2..25usize {
-        let four = words_of_four(&TEXT[..n], [0, 7, 7, u32::MAX]);
-        expect_equal_at(&rt, &(n, 1), &four.under(1), &PREFIXES[n - 2]);
-        expect_equal_at(&rt, &(n, 2), &four.under(2), &PREFIXES[n - 2]);
+        let four = words_under_four(&TEXT[..n], [0, 7, 7, u32::MAX]);
+        expect_equal_at(&rt, &(n, 1), &four.at(1), &PREFIXES[n - 2]);
+        expect_equal_at(&rt, &(n, 2), &four.at(2), &PREFIXES[n - 2]);
+    }
+    Ok(())
+}
+
+// Prefixes of 8 to 11, 12 to 15 and 20 to 23 bytes have the same number of whole blocks, other four have not.
+#[test]
+fn hash_values_of_four_keys(rt: HostRuntime) -> Result<(), Fail> {
+    for n in 2..22usize {
+        let four = words_of_four(
+            &TEXT[..n],
+            &TEXT[..n + 1],
+            &TEXT[..n + 2],
+            &TEXT[..n + 3],
+            [7, 7, 7, 7],
+        );
+        for i in 0..4 {
+            expect_equal_at(&rt, &(n, i), &four.at(i), &PREFIXES[n + i - 2]);
+        }
     }
     Ok(())
 }

@@ -1,11 +1,15 @@
 -- The lines of lookup2, lane by lane.
-use Rattle.std.proofs.Common.{◌≡◌, ◌∙◌, ℕ, ◌+◌, ◌*◌, ◌/◌, ◌%◌, ◌^◌, List, [], ◌∷◌, length, map, ap, sym, refl, replicate, arith}
-use Rattle.std.specs.Prelude.{drop, fold}
+use Rattle.std.proofs.Common.{◌≡◌, ◌∙◌, ℕ, ◌+◌, ◌*◌, ◌/◌, ◌%◌, ◌^◌, List, [], ◌∷◌, length, map, ap, sym, refl, replicate, get_or, arith}
+use Rattle.std.specs.Prelude.{drop, fold, slice_index, ◌<◌, ◌≤◌, take}
 use Rattle.std.specs.Simd.{first_chunks}
 use lib.Lanes.{zip2}
-use Rattle.std.proofs.lemmas.Simd.{map-map, zip2_splat}
-use Rattle.cm_spec.specs.Lookup2.{State, absorb, finish, left_line, list_of_state, plus, right_line, start, three_lines, words}
+use Rattle.std.proofs.lemmas.List.{take_all}
+use Rattle.std.proofs.lemmas.List.Sums.{fold_more}
+use Rattle.std.proofs.lemmas.Simd.{zip2_splat}
+use Rattle.cm_spec.specs.Lookup2.{State, absorb, finish, left_line, list_of_state, mix, plus, right_line, start, three_lines, word_at, words}
 use Rattle.cm_lookup2.specs.Four.{by_lanes, states_of}
+use Rattle.cm_lookup2.specs.Four.{plus_lanes}
+use Rattle.cm_lookup2.specs.declared.Addends.{Addends}
 
 -- a line, from its operations on vectors, of which the last one is on one operand
 line : (cross minus : ℕ → ℕ → ℕ) (shift : ℕ → ℕ) (xs ys zs : List ℕ)
@@ -32,49 +36,41 @@ three_of_each i j k (x ∷ xs) [] zs = refl
 three_of_each i j k (x ∷ xs) (y ∷ ys) [] = refl
 three_of_each i j k (x ∷ xs) (y ∷ ys) (z ∷ zs) = ap (λ (l : List State). three_lines i j k (record { a = x; b = y; c = z }) ∷ l) (three_of_each i j k xs ys zs)
 
--- numbers that are added to the words of each state
-pub plus_each : (add : ℕ → ℕ → ℕ) (p q r : ℕ) (xs ys zs : List ℕ)
-    → states_of (map (λ x. add x p) xs) (map (λ y. add y q) ys) (map (λ z. add z r) zs) ≡ map (λ (t : State). record { a = add t.a p; b = add t.b q; c = add t.c r }) (states_of xs ys zs)
-plus_each add p q r [] ys zs = refl
-plus_each add p q r (x ∷ xs) [] zs = refl
-plus_each add p q r (x ∷ xs) (y ∷ ys) [] = refl
-plus_each add p q r (x ∷ xs) (y ∷ ys) (z ∷ zs) = ap (λ (l : List State). record { a = add x p; b = add y q; c = add z r } ∷ l) (plus_each add p q r xs ys zs)
+-- a length that is added modulo 2 ^ 32, with the last word
+length_last : (n x y z : ℕ) (t : State) → plus t x y ((z + n % 2 ^ 32) % 2 ^ 32) ≡ plus (plus t 0 0 n) x y z
+length_last n x y z t =
+    let a : (t.a + x) % 2 ^ 32 ≡ ((t.a + 0) % 2 ^ 32 + x) % 2 ^ 32 = omega arith in
+    let b : (t.b + y) % 2 ^ 32 ≡ ((t.b + 0) % 2 ^ 32 + y) % 2 ^ 32 = omega arith in
+    let c : (t.c + (z + n % 2 ^ 32) % 2 ^ 32) % 2 ^ 32 ≡ ((t.c + n) % 2 ^ 32 + z) % 2 ^ 32 = omega arith in
+    rw a (rw b (rw c refl))
 
--- the same of vectors of four lanes
-pub plus_four : (add : ℕ → ℕ → ℕ) (p q r : ℕ) (xs ys zs : List ℕ) → length xs ≡ 4 → length ys ≡ 4 → length zs ≡ 4
-    → states_of (zip2 add xs (replicate 4 p)) (zip2 add ys (replicate 4 q)) (zip2 add zs (replicate 4 r))
-    ≡ map (λ (t : State). record { a = add t.a p; b = add t.b q; c = add t.c r }) (states_of xs ys zs)
-plus_four add p q r xs ys zs x y z =
-    rw (zip2_splat add xs 4 p x) (rw (zip2_splat add ys 4 q y) (rw (zip2_splat add zs 4 r z) (plus_each add p q r xs ys zs)))
+-- what is added lane by lane
+pub plus_at : (add : ℕ → ℕ → ℕ) → ((x y : ℕ) → add x y ≡ (x + y) % 2 ^ 32) → (xs ys zs : List ℕ) (ps : List Addends)
+    → states_of (zip2 add xs (map (λ (p : Addends). p.a) ps)) (zip2 add ys (map (λ (p : Addends). p.b) ps)) (zip2 add zs (map (λ (p : Addends). p.c) ps)) ≡ plus_lanes (states_of xs ys zs) ps
+plus_at add is [] ys zs ps = refl
+plus_at add is (x ∷ xs) [] zs [] = refl
+plus_at add is (x ∷ xs) [] zs (p ∷ ps) = refl
+plus_at add is (x ∷ xs) (y ∷ ys) [] [] = refl
+plus_at add is (x ∷ xs) (y ∷ ys) [] (p ∷ ps) = refl
+plus_at add is (x ∷ xs) (y ∷ ys) (z ∷ zs) [] = refl
+plus_at add is (x ∷ xs) (y ∷ ys) (z ∷ zs) (p ∷ ps) =
+    rw (is x p.a) (rw (is y p.b) (rw (is z p.c) (ap (λ (l : List State). plus (record { a = x; b = y; c = z }) p.a p.b p.c ∷ l) (plus_at add is xs ys zs ps))))
 
--- functions that agree on each state
-pub map_states : (f g : State → State) → ((t : State) → f t ≡ g t) → (ts : List State) → map f ts ≡ map g ts
-map_states f g same [] = refl
-map_states f g same (t ∷ ts) = rw (same t) (ap (λ (l : List State). g t ∷ l) (map_states f g same ts))
+-- a key that absorbs one block more
+pub block_more : (s : State) (blocks : List (List ℕ)) (i : ℕ) (p : Addends) → i < length blocks
+    → p.a ≡ word_at (get_or blocks i []) 0 → p.b ≡ word_at (get_or blocks i []) 4 → p.c ≡ word_at (get_or blocks i []) 8
+    → mix (plus (fold absorb s (take i blocks)) p.a p.b p.c) ≡ fold absorb s (take (i + 1) blocks)
+unfolding absorb
+block_more s blocks i p inside a b c = rw a (rw b (rw c (sym (fold_more absorb s blocks i [] inside))))
 
--- a length that is added modulo 2 ^ 32
-pub plus_length : (n x y z : ℕ) (t : State) → plus (plus t 0 0 (n % 2 ^ 32)) x y z ≡ plus (plus t 0 0 n) x y z
-plus_length n x y z t = ap (λ (c : ℕ). record { a = ((t.a + 0) % 2 ^ 32 + x) % 2 ^ 32; b = ((t.b + 0) % 2 ^ 32 + y) % 2 ^ 32; c = (c + z) % 2 ^ 32 }) (let same : (t.c + n % 2 ^ 32) % 2 ^ 32 ≡ (t.c + n) % 2 ^ 32 = omega arith in same)
+-- the hash values of a key, once it has absorbed its blocks
+pub words_then : (key rest : List ℕ) (blocks : List (List ℕ)) (seed i : ℕ) (p : Addends) → blocks ≡ first_chunks 12 (length key / 12) key → rest ≡ drop (length key / 12 * 12) key → length blocks ≤ i
+    → p.a ≡ word_at rest 0 → p.b ≡ word_at rest 4 → p.c ≡ (256 * slice_index rest 8 + 65536 * slice_index rest 9 + 16777216 * slice_index rest 10 + length key % 2 ^ 32) % 2 ^ 32
+    → list_of_state (mix (plus (fold absorb (start seed) (take i blocks)) p.a p.b p.c)) ≡ words key seed
+unfolding words finish
+words_then key rest blocks seed i p front back all a b c =
+    rw a (rw b (rw c (rw (take_all i blocks all) (rw front (rw back (ap (λ (t : State). list_of_state (mix t)) (length_last (length key) _ _ _ _)))))))
 
-map_whole : (ts : List State) → map (λ t. t) ts ≡ ts
-map_whole [] = refl
-map_whole (t ∷ ts) = ap (λ (l : List State). t ∷ l) (map_whole ts)
-
--- blocks that each state absorbs
-abbrev pub absorb_each : List State → List ℕ → List State
-absorb_each ts block = map (λ t. absorb t block) ts
-
-pub each_absorbs : (blocks : List (List ℕ)) (ts : List State) → fold absorb_each ts blocks ≡ map (λ t. fold absorb t blocks) ts
-each_absorbs [] ts = sym (map_whole ts)
-each_absorbs (block ∷ blocks) ts = each_absorbs blocks (absorb_each ts block) ∙ map-map (λ t. fold absorb t blocks) (λ t. absorb t block) ts
-
--- the hash values of a key under each seed
-pub words_of_each : (key rest : List ℕ) (blocks : List (List ℕ)) (seeds : List ℕ) → blocks ≡ first_chunks 12 (length key / 12) key → rest ≡ drop (length key / 12 * 12) key
-    → map list_of_state (map (finish rest (length key)) (fold absorb_each (map start seeds) blocks)) ≡ map (words key) seeds
-unfolding words
-words_of_each key rest blocks seeds front back = rw front (rw back (
-    let n = length key in
-    let all = first_chunks 12 (n / 12) key in
-    let last = drop (n / 12 * 12) key in
-    rw (each_absorbs all (map start seeds)) (rw (map-map (λ t. fold absorb t all) start seeds)
-    (rw (map-map (finish last n) (λ seed. fold absorb (start seed) all) seeds) (map-map list_of_state (λ seed. finish last n (fold absorb (start seed) all)) seeds)))))
+-- elements of a list that are the same one by one
+pub same_four : {X : Type 0} {p q r t p' q' r' t' : X} → p ≡ p' → q ≡ q' → r ≡ r' → t ≡ t' → p ∷ q ∷ r ∷ t ∷ [] ≡ p' ∷ q' ∷ r' ∷ t' ∷ []
+same_four a b c d = rw a (rw b (rw c (rw d refl)))

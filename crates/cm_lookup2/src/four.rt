@@ -1,13 +1,13 @@
-//! The hash values of a key under four seeds at once.
-ghost use Rattle.std.specs.Prelude.{◌≡◌, ◌+◌, ◌*◌, ◌/◌, ◌<◌, [], drop, length, map, slice_index_or};
-ghost use Rattle.cm_lookup2.specs.Four.{by_lanes};
-ghost use Rattle.cm_spec.specs.Lookup2.{right_line, left_line, three_lines, mix as mixed, plus, absorb as absorbed, finish as finished, words as words_of};
+//! Hash values of four keys at once, or of one key under four seeds.
+ghost use Rattle.std.specs.Prelude.{◌≡◌, ◌+◌, ◌*◌, ◌/◌, ◌%◌, ◌^◌, ◌<◌, [], ◌∷◌, drop, length, map, slice_index, slice_index_or};
+ghost use Rattle.cm_lookup2.specs.Four.{by_lanes, plus_lanes, words_of_each};
+ghost use Rattle.cm_spec.specs.Lookup2.{right_line, left_line, three_lines, list_of_state, mix as mixed, word_at, start, words as words_of};
 
-use crate::{Tail, tail_of, word};
+use crate::{Addends, tail_of, word, words};
 use std::marker::Model;
 use std::simd::prelude::*;
 
-/// The three words of the state under each of four seeds: a lane for each seed.
+/// The three words of each of four states: a lane for each.
 #[derive(Drop)]
 struct Mixing {
     a: u32x4,
@@ -25,6 +25,20 @@ impl Model for Mixing {
     ghost view = { λ s. states_of s.a s.b s.c };
 
     ghost invariant = { λ s. (length s.a ≡ 4) × (length s.b ≡ 4) × (length s.c ≡ 4) };
+}
+
+impl Mixing {
+    /// Before the first block.
+    #[inline(always)]
+    fn of(seeds: [u32; 4]) -> Mixing
+        ensures { result ≡ map start seeds }
+    {
+        Mixing {
+            a: u32x4::splat(0x9e37_79b9),
+            b: u32x4::splat(0x9e37_79b9),
+            c: u32x4::from_array(seeds),
+        }
+    }
 }
 
 /// `x - y - z`, crossed with `z` shifted to the right.
@@ -69,39 +83,50 @@ fn mix(s: Mixing) -> Mixing
     three(3, 10, 15, s)
 }
 
-/// Each word gains a number.
+/// Each state gains what its key adds, and is mixed.
 #[inline(always)]
-fn add(s: Mixing, x: u32, y: u32, z: u32) -> Mixing
-    ensures { result ≡ map (λ t. plus t x y z) s }
+fn absorb(s: Mixing, p: Addends, q: Addends, r: Addends, t: Addends) -> Mixing
+    ensures { result ≡ map mixed (plus_lanes s (p ∷ q ∷ r ∷ t ∷ [])) }
 {
-    Mixing {
-        a: s.a + u32x4::splat(x),
-        b: s.b + u32x4::splat(y),
-        c: s.c + u32x4::splat(z),
+    mix(Mixing {
+        a: s.a + u32x4::from_array([p.a, q.a, r.a, t.a]),
+        b: s.b + u32x4::from_array([p.b, q.b, r.b, t.b]),
+        c: s.c + u32x4::from_array([p.c, q.c, r.c, t.c]),
+    })
+}
+
+/// What a block of 12 bytes adds.
+#[inline(always)]
+fn block_of(block: &[u8]) -> Addends
+    ensures a { result.a ≡ word_at block.now 0 }
+    ensures b { result.b ≡ word_at block.now 4 }
+    ensures c { result.c ≡ word_at block.now 8 }
+{
+    Addends {
+        a: word(block, 0),
+        b: word(block, 4),
+        c: word(block, 8),
     }
 }
 
-/// Absorbs a block of 12 bytes.
+/// What the tail of a key adds, and its length.
 #[inline(always)]
-fn absorb(s: Mixing, block: &[u8]) -> Mixing
-    ensures { result ≡ map (λ t. absorbed t block.now) s }
-{
-    mix(add(s, word(block, 0), word(block, 4), word(block, 8)))
-}
-
-/// Absorbs the tail of a key.
-#[inline(always)]
-fn finish(key: &[u8], rest: &[u8], s: Mixing) -> Mixing
+fn last_of(key: &[u8], rest: &[u8]) -> Addends
     requires { rest.now ≡ drop (length key.now / 12 * 12) key.now }
-    ensures { result ≡ map (finished rest.now (length key.now)) s }
+    ensures a { result.a ≡ word_at rest.now 0 }
+    ensures b { result.b ≡ word_at rest.now 4 }
+    ensures c { result.c ≡ (256 * slice_index rest.now 8 + 65536 * slice_index rest.now 9 + 16777216 * slice_index rest.now 10 + length key.now % 2 ^ 32) % 2 ^ 32 }
 {
     let low = (key.len() % 0x1_0000_0000) as u32;
     let last = tail_of(key, rest);
-    let s = add(s, 0, 0, low);
-    mix(add(s, last.a, last.b, last.c))
+    Addends {
+        a: last.a,
+        b: last.b,
+        c: last.c.wrapping_add(low),
+    }
 }
 
-/// The three hash values of a key under each of four seeds.
+/// Four times three hash values.
 #[derive(Drop)]
 pub struct FourWords {
     a: [u32; 4],
@@ -120,9 +145,21 @@ impl Model for FourWords {
 }
 
 impl FourWords {
-    /// The hash values under the seed at `i`.
+    /// The words of the states at the end.
     #[inline(always)]
-    pub fn under(&self, i: usize) -> [u32; 3]
+    fn of(s: Mixing) -> FourWords
+        ensures { result ≡ map list_of_state s }
+    {
+        FourWords {
+            a: s.a.to_array(),
+            b: s.b.to_array(),
+            c: s.c.to_array(),
+        }
+    }
+
+    /// Those at place `i`, counted from 0.
+    #[inline(always)]
+    pub fn at(&self, i: usize) -> [u32; 3]
         requires four { i < 4 }
         ensures words { result ≡ slice_index_or self.now i [] }
     {
@@ -130,24 +167,59 @@ impl FourWords {
     }
 }
 
+/// The hash values of four keys, one key after another.
+fn one_by_one(p: &[u8], q: &[u8], r: &[u8], t: &[u8], seeds: [u32; 4]) -> FourWords
+    ensures words { result ≡ words_of_each p.now q.now r.now t.now seeds }
+{
+    let p = words(p, seeds[0]);
+    let q = words(q, seeds[1]);
+    let r = words(r, seeds[2]);
+    let t = words(t, seeds[3]);
+    FourWords {
+        a: [p[0], q[0], r[0], t[0]],
+        b: [p[1], q[1], r[1], t[1]],
+        c: [p[2], q[2], r[2], t[2]],
+    }
+}
+
+/// The hash values of four keys, of each as `words` returns them under the seed at its place. It is fastest if they have the same number of
+/// whole blocks.
+#[inline(always)]
+pub fn words_of_four(p: &[u8], q: &[u8], r: &[u8], t: &[u8], seeds: [u32; 4]) -> FourWords
+    ensures words { result ≡ words_of_each p.now q.now r.now t.now seeds }
+{
+    let (p_blocks, p_rest) = p.as_chunks::<12>();
+    let (q_blocks, q_rest) = q.as_chunks::<12>();
+    let (r_blocks, r_rest) = r.as_chunks::<12>();
+    let (t_blocks, t_rest) = t.as_chunks::<12>();
+    let n = p_blocks.len();
+    if q_blocks.len() != n || r_blocks.len() != n || t_blocks.len() != n {
+        return one_by_one(p, q, r, t, seeds);
+    }
+    let mut s = Mixing::of(seeds);
+    for i in 0..n {
+        s = absorb(
+            s,
+            block_of(&p_blocks[i]),
+            block_of(&q_blocks[i]),
+            block_of(&r_blocks[i]),
+            block_of(&t_blocks[i]),
+        );
+    }
+    let s = absorb(
+        s,
+        last_of(p, p_rest),
+        last_of(q, q_rest),
+        last_of(r, r_rest),
+        last_of(t, t_rest),
+    );
+    FourWords::of(s)
+}
+
 /// The hash values of a key under four seeds, as `words` returns them under each.
 #[inline(always)]
-pub fn words_of_four(key: &[u8], seeds: [u32; 4]) -> FourWords
+pub fn words_under_four(key: &[u8], seeds: [u32; 4]) -> FourWords
     ensures words { result ≡ map (words_of key.now) seeds }
 {
-    let mut s = Mixing {
-        a: u32x4::splat(0x9e37_79b9),
-        b: u32x4::splat(0x9e37_79b9),
-        c: u32x4::from_array(seeds),
-    };
-    let (blocks, rest) = key.as_chunks::<12>();
-    for block in blocks {
-        s = absorb(s, block);
-    }
-    let s = finish(key, rest, s);
-    FourWords {
-        a: s.a.to_array(),
-        b: s.b.to_array(),
-        c: s.c.to_array(),
-    }
+    words_of_four(key, key, key, key, seeds)
 }

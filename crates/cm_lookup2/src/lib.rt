@@ -6,7 +6,7 @@ ghost use Rattle.cm_spec.specs.Lookup2.{right_line, left_line, three_lines, mix 
 
 mod four;
 
-pub use four::{FourWords, words_of_four};
+pub use four::{FourWords, words_of_four, words_under_four};
 use std::marker::Model;
 
 /// The three words of the state.
@@ -106,9 +106,9 @@ fn absorb(s: Mixing, block: &[u8]) -> Mixing
     })
 }
 
-/// What the tail of a key adds to the words of the state. The lowest byte of `c` is left to the length of the key.
+/// What a block or the tail of a key adds to the words of the state.
 #[derive(Clone, Copy)]
-struct Tail {
+struct Addends {
     a: u32,
     b: u32,
     c: u32,
@@ -135,7 +135,7 @@ fn last_of_four(bytes: &[u8], i: usize, n: usize) -> u32
 
 /// The words of a tail of 4 to 11 bytes. Each is read from four bytes of the tail, without a branch on its length.
 #[inline(always)]
-fn long_tail(rest: &[u8]) -> Tail
+fn long_tail(rest: &[u8]) -> Addends
     requires { (4 ≤ length rest.now) × (length rest.now < 12) }
     ensures a { result.a ≡ word_at rest.now 0 }
     ensures b { result.b ≡ word_at rest.now 4 }
@@ -144,16 +144,16 @@ fn long_tail(rest: &[u8]) -> Tail
     let n = rest.len();
     let second = (n - 4).min(4);
     let third = n.saturating_sub(8);
-    Tail {
+    Addends {
         a: four_at(rest, 0),
         b: last_of_four(rest, second, second),
         c: 256 * last_of_four(rest, n - 4, third),
     }
 }
 
-/// The words of a key's tail, which is what is left after its blocks of 12 bytes.
+/// The words of a key's tail, which is what is left after its blocks of 12 bytes. The lowest byte of `c` is left to the length of the key.
 #[inline(always)]
-fn tail_of(key: &[u8], rest: &[u8]) -> Tail
+fn tail_of(key: &[u8], rest: &[u8]) -> Addends
     requires { rest.now ≡ drop (length key.now / 12 * 12) key.now }
     ensures a { result.a ≡ word_at rest.now 0 }
     ensures b { result.b ≡ word_at rest.now 4 }
@@ -168,7 +168,7 @@ fn tail_of(key: &[u8], rest: &[u8]) -> Tail
     } else {
         last_of_four(key, key.len() - 4, n)
     };
-    Tail {
+    Addends {
         a: last,
         b: 0,
         c: 0,

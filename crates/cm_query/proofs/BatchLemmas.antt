@@ -4,20 +4,20 @@ use Rattle.std.specs.Prelude.{All, IfSome}
 use Rattle.std.proofs.lemmas.List.{drop-append-le, drop-drop, get_or-drop, drop-map, get_or-map, length-map, map-append, take_all, take_more, take-append-le}
 use Rattle.std.proofs.lemmas.List.Elements.{All-drop, All-head, All-nil, All-same, All-tail}
 use Rattle.std.proofs.Math.Seq.{drop-append_seam}
-use Rattle.cm_query.specs.Waiting.{AreAnswers, ArePlaces, Spotted, StandsIn, WaitingKeys, keys_of, spotted_in}
+use Rattle.cm_query.specs.Waiting.{AreAnswers, StandsIn, WaitingKeys, key_in}
 use Rattle.cm_query.specs.declared.taken.Spot.{Spot}
 
 -- with more bytes behind, the keys are the same
-spotted_kept : (bytes more : List ℕ) (items : List Spot) → All (StandsIn bytes) items → map (spotted_in (bytes ++ more)) items ≡ map (spotted_in bytes) items
-spotted_kept bytes more [] all = refl
-spotted_kept bytes more (s ∷ ss) all =
+keys_kept : (bytes more : List ℕ) (items : List Spot) → All (StandsIn bytes) items → map (key_in (bytes ++ more)) items ≡ map (key_in bytes) items
+keys_kept bytes more [] all = refl
+keys_kept bytes more (s ∷ ss) all =
     let here : StandsIn bytes s = All-head (StandsIn bytes) s ss all in
     let n = s.until - s.from in
     let enough : n ≤ length (drop s.from bytes) = omega (arith, here.0, here.1, length-drop s.from bytes) in
     let from : drop s.from (bytes ++ more) ≡ drop s.from bytes ++ more = drop-append-le s.from bytes more (omega (arith, here.0, here.1)) in
     let same : take n (drop s.from (bytes ++ more)) ≡ take n (drop s.from bytes) = ap (λ (l : List ℕ). take n l) from ∙ take-append-le n (drop s.from bytes) more enough in
-    ap (λ (l : List ℕ). let t : Spotted = record { line = s.line; key = l; place = s.place } in t ∷ map (spotted_in (bytes ++ more)) ss) same
-    ∙ ap (λ (l : List Spotted). spotted_in bytes s ∷ l) (spotted_kept bytes more ss (All-tail (StandsIn bytes) s ss all))
+    ap (λ (l : List ℕ). (s.line, l) ∷ map (key_in (bytes ++ more)) ss) same
+    ∙ ap (λ (l : List (ℕ × List ℕ)). key_in bytes s ∷ l) (keys_kept bytes more ss (All-tail (StandsIn bytes) s ss all))
 
 -- the bytes behind others
 behind : (bytes key : List ℕ) (from until : ℕ) → from ≡ length bytes → until ≡ length (bytes ++ key) → take (until - from) (drop from (bytes ++ key)) ≡ key
@@ -27,58 +27,47 @@ behind bytes key from until is ends =
     ∙ take_all (until - from) key (omega (arith, is, ends, length-append bytes key))
 
 -- one key more
-pub spotted_more : (bytes key bytes' : List ℕ) (items items' : List Spot) (s : Spot) → All (StandsIn bytes) items → bytes' ≡ bytes ++ key → items' ≡ items ++ s ∷ [] → s.from ≡ length bytes → s.until ≡ length bytes'
-    → map (spotted_in bytes') items' ≡ map (spotted_in bytes) items ++ record { line = s.line; key = key; place = s.place } ∷ []
-spotted_more bytes key bytes' items items' s all grown more from until =
+pub key_more : (bytes key bytes' : List ℕ) (items items' : List Spot) (s : Spot) → All (StandsIn bytes) items → bytes' ≡ bytes ++ key → items' ≡ items ++ s ∷ [] → s.from ≡ length bytes → s.until ≡ length bytes'
+    → map (key_in bytes') items' ≡ map (key_in bytes) items ++ (s.line, key) ∷ []
+key_more bytes key bytes' items items' s all grown more from until =
     let last : take (s.until - s.from) (drop s.from (bytes ++ key)) ≡ key = behind bytes key s.from s.until from (until ∙ ap length grown) in
-    ap (λ (b : List ℕ). map (spotted_in b) items') grown
-    ∙ ap (map (spotted_in (bytes ++ key))) more
-    ∙ map-append (spotted_in (bytes ++ key)) items (s ∷ [])
-    ∙ ap (λ (l : List Spotted). l ++ spotted_in (bytes ++ key) s ∷ []) (spotted_kept bytes key items all)
-    ∙ ap (λ (l : List ℕ). let t : Spotted = record { line = s.line; key = l; place = s.place } in map (spotted_in bytes) items ++ t ∷ []) last
+    ap (λ (b : List ℕ). map (key_in b) items') grown
+    ∙ ap (map (key_in (bytes ++ key))) more
+    ∙ map-append (key_in (bytes ++ key)) items (s ∷ [])
+    ∙ ap (λ (l : List (ℕ × List ℕ)). l ++ key_in (bytes ++ key) s ∷ []) (keys_kept bytes key items all)
+    ∙ ap (λ (l : List ℕ). map (key_in bytes) items ++ (s.line, l) ∷ []) last
 
 -- taken from the pass, the key stands behind those before
-pub taken_next : (spots : List Spotted) (s : Spotted) (ahead later : List (ℕ × List ℕ)) → later ≡ (s.line, s.key) ∷ ahead → keys_of (spots ++ s ∷ []) ++ ahead ≡ keys_of spots ++ later
-taken_next spots s ahead later is =
-    ap (λ (l : List (ℕ × List ℕ)). l ++ ahead) (map-append (λ (s : Spotted). let k : ℕ × List ℕ = (s.line, s.key) in k) spots (s ∷ []))
-    ∙ append_assoc (keys_of spots) ((s.line, s.key) ∷ []) ahead
-    ∙ ap (λ (l : List (ℕ × List ℕ)). keys_of spots ++ l) (sym is)
+pub taken_next : (keys : List (ℕ × List ℕ)) (k : ℕ × List ℕ) (ahead later : List (ℕ × List ℕ)) → later ≡ k ∷ ahead → (keys ++ k ∷ []) ++ ahead ≡ keys ++ later
+taken_next keys k ahead later is = append_assoc keys (k ∷ []) ahead ∙ ap (λ (l : List (ℕ × List ℕ)). keys ++ l) (sym is)
 
 -- the key that waits longest
-pub first_waiting : (spots : List Spotted) (next : ℕ) (s : Spotted) (d : ℕ × List ℕ) → next < length spots → get_or (drop next (keys_of spots)) 0 d ≡ ((get_or spots next s).line, (get_or spots next s).key)
-first_waiting spots next s d inside =
-    get_or-drop next (keys_of spots) 0 d
-    ∙ ap (λ (i : ℕ). get_or (keys_of spots) i d) (add-zero next)
-    ∙ get_or-map (λ (s : Spotted). let k : ℕ × List ℕ = (s.line, s.key) in k) spots next s d inside
+pub first_waiting : (keys : List (ℕ × List ℕ)) (next : ℕ) (d : ℕ × List ℕ) → get_or (drop next keys) 0 d ≡ get_or keys next d
+first_waiting keys next d = get_or-drop next keys 0 d ∙ ap (λ (i : ℕ). get_or keys i d) (add-zero next)
 
 -- what waits is the first and the rest
 pub first_and_rest : {A : Type 0} (xs : List A) (d : A) → 0 < length xs → xs ≡ get_or xs 0 d ∷ drop 1 xs
 first_and_rest [] d some = absurd (omega (arith, some))
 first_and_rest (x ∷ xs) d some = refl
 
--- a key that stands among the bytes, by its number
-pub spotted_at : (bytes : List ℕ) (items : List Spot) (spots : List Spotted) (i : ℕ) (s : Spot) (t : Spotted) → map (spotted_in bytes) items ≡ spots → i < length items → get_or spots i t ≡ spotted_in bytes (get_or items i s)
-spotted_at bytes items spots i s t is inside = ap (λ (l : List Spotted). get_or l i t) (sym is) ∙ get_or-map (spotted_in bytes) items i s t inside
+-- one more of a list
+pub one_more : {X Y : Type 0} (f : X → Y) (xs : List X) (i : ℕ) (d : X) → i < length xs → map f (take i xs) ++ f (get_or xs i d) ∷ [] ≡ map f (take (i + 1) xs)
+one_more f xs i d inside = sym (ap (map f) (take_more xs i d inside) ∙ map-append f (take i xs) (get_or xs i d ∷ []))
 
--- its place is that of the function
-pub place_at : (place_of : List ℕ → List ℕ) (bytes : List ℕ) (items : List Spot) (spots : List Spotted) (i : ℕ) (s : Spot) (t : Spotted) → map (spotted_in bytes) items ≡ spots → ArePlaces place_of spots → i < length items
-    → (get_or items i s).place ≡ place_of (get_or spots i t).key
-place_at place_of bytes items spots i s t is are inside =
-    let within : i < length spots = omega (arith, inside, ap length is, length-map items (spotted_in bytes)) in
-    sym (ap (λ (x : Spotted). x.place) (spotted_at bytes items spots i s t is inside)) ∙ are i t within
+-- the same before others
+one_and_others : {X Y : Type 0} (f : X → Y) (xs : List X) (i j : ℕ) (d : X) (others : List Y) → j ≡ i + 1 → i < length xs → map f (take i xs) ++ f (get_or xs i d) ∷ others ≡ map f (take j xs) ++ others
+one_and_others {Y = Y} f xs i j d others next inside =
+    sym (append_assoc (map f (take i xs)) (f (get_or xs i d) ∷ []) others) ∙ ap (λ (l : List Y). l ++ others) (one_more f xs i d inside) ∙ ap (λ n. map f (take n xs) ++ others) (sym next)
 
--- one answer more
-pub answered_more : (f : List ℕ → Option ℕ) (spots : List Spotted) (i : ℕ) (t : Spotted) (old new : List (Option ℕ)) (a : Option ℕ) → i < length spots → old ≡ map (λ s. f s.key) (take i spots) → a ≡ f (get_or spots i t).key → new ≡ old ++ a ∷ []
-    → new ≡ map (λ s. f s.key) (take (i + 1) spots)
-answered_more f spots i t old new a inside so_far is more =
-    let g = λ (s : Spotted). f s.key in
-    more ∙ ap (λ (l : List (Option ℕ)). l ++ a ∷ []) so_far ∙ ap (λ (x : Option ℕ). map g (take i spots) ++ x ∷ []) is
-    ∙ sym (map-append g (take i spots) (get_or spots i t ∷ [])) ∙ ap (map g) (sym (take_more spots i t inside))
-
--- the answers by the keys alone
-pub by_keys : (f : List ℕ → Option ℕ) (spots : List Spotted) → map (λ s. f s.key) spots ≡ map (λ k. f k.1) (keys_of spots)
-by_keys f [] = refl
-by_keys f (s ∷ ss) = ap (λ (l : List (Option ℕ)). f s.key ∷ l) (by_keys f ss)
+-- four more of a list
+pub four_more : {X Y : Type 0} (f : X → Y) (xs : List X) (i j : ℕ) (d : X) → j ≡ i + 4 → j ≤ length xs
+    → map f (take i xs) ++ f (get_or xs i d) ∷ f (get_or xs (i + 1) d) ∷ f (get_or xs (i + 2) d) ∷ f (get_or xs (i + 3) d) ∷ [] ≡ map f (take j xs)
+four_more f xs i j d next inside =
+    one_and_others f xs i (i + 1) d _ refl (omega (arith, next, inside))
+    ∙ one_and_others f xs (i + 1) (i + 2) d _ (omega arith) (omega (arith, next, inside))
+    ∙ one_and_others f xs (i + 2) (i + 3) d _ (omega arith) (omega (arith, next, inside))
+    ∙ one_more f xs (i + 3) d (omega (arith, next, inside))
+    ∙ ap (λ n. map f (take n xs)) (let last : (i + 3) + 1 ≡ j = omega (arith, next) in last)
 
 -- The first of the keys that wait has this answer, and the others wait then.
 pub record IsFirst (f : List ℕ → Option ℕ) (span : ℕ) (waiting later : WaitingKeys) (k : ℕ × List ℕ) (a : Option ℕ) : Type 0 where

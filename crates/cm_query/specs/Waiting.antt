@@ -4,32 +4,18 @@ use Rattle.cm_io.specs.Passes.{Told, Ends, GivesKey}
 use Rattle.cm_io.specs.declared.key_pass.KeyFault.{KeyFault}
 use Rattle.cm_query.specs.declared.taken.Spot.{Spot}
 
--- a key with its line and its place
-pub record Spotted : Type 0 where
-  pub line : ℕ
-  pub key : List ℕ
-  pub place : List ℕ
-
--- a key whose bytes stand among these
-abbrev pub spotted_in : List ℕ → Spot → Spotted
-spotted_in bytes s = record { line = s.line; key = take (s.until - s.from) (drop s.from bytes); place = s.place }
+-- a key with its line, whose bytes stand among these
+abbrev pub key_in : List ℕ → Spot → ℕ × List ℕ
+key_in bytes s = (s.line, take (s.until - s.from) (drop s.from bytes))
 
 -- its bytes do stand there
 abbrev pub StandsIn : List ℕ → Spot → Type 0
 StandsIn bytes s = (s.from ≤ s.until) × (s.until ≤ length bytes)
 
--- keys that were taken together, and how many bytes they have
+-- keys that were taken together, with their lines, and how many bytes they have
 pub record TakenKeys : Type 0 where
-  pub spots : List Spotted
+  pub keys : List (ℕ × List ℕ)
   pub bytes : ℕ
-
--- the keys with their lines
-abbrev pub keys_of : List Spotted → List (ℕ × List ℕ)
-keys_of spots = map (λ s. (s.line, s.key)) spots
-
--- the places are those of a function
-abbrev pub ArePlaces : (List ℕ → List ℕ) → List Spotted → Type 0
-ArePlaces place_of spots = All (λ s. s.place ≡ place_of s.key) spots
 
 -- the keys that wait, and their answers
 pub record WaitingKeys : Type 0 where

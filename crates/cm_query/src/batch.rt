@@ -21,17 +21,17 @@ pub(crate) struct Batch {
 
 impl Model for Batch {
     ghost use Rattle.std.specs.Prelude.{◌≡◌, ◌≤◌, length, drop};
-    ghost use Rattle.cm_query.specs.Waiting.{WaitingKeys, keys_of};
+    ghost use Rattle.cm_query.specs.Waiting.{WaitingKeys};
     ghost use Rattle.cm_query.specs.declared.taken.TheConstants.{MOST};
 
     ghost Value = { WaitingKeys };
 
-    ghost view = { λ b. record { keys = drop b.next (keys_of b.taken.spots); answers = drop b.next b.answers.items } };
+    ghost view = { λ b. record { keys = drop b.next b.taken.keys; answers = drop b.next b.answers.items } };
 
     ghost invariant = { λ b. record {
-      next : b.next ≤ length b.taken.spots;
-      long : length b.answers.items ≡ length b.taken.spots;
-      few : length b.taken.spots ≤ MOST;
+      next : b.next ≤ length b.taken.keys;
+      long : length b.answers.items ≡ length b.taken.keys;
+      few : length b.taken.keys ≤ MOST;
     } };
 }
 
@@ -100,10 +100,10 @@ impl Batch {
         self.next = 0;
         self.taken.clear();
         self.answers.clear();
-        if !self.taken.take_first(function, keys, key)? {
+        if !self.taken.take_first(keys, key)? {
             return Ok(false);
         }
-        self.taken.gather(function, keys);
+        self.taken.gather(keys);
         self.taken.answer_all(function, &mut self.answers);
         Ok(true)
     }

@@ -1,5 +1,5 @@
 //! What a function from keys to numbers is.
-ghost use Rattle.std.specs.Prelude.{◌≡◌, ◌<◌, ◌≤◌, ℕ, List, Option, IfSome};
+ghost use Rattle.std.specs.Prelude.{◌≡◌, ◌<◌, ◌≤◌, ◌∷◌, [], ℕ, List, Option, IfSome};
 
 use cm_bits::MAX_CELLS;
 
@@ -27,6 +27,13 @@ pub trait Answers {
     /// The place of a key.
     fn place(&self, key: &[u8]) -> Place
         ensures place { result ≡ place_of self.now key.now };
+
+    /// The places of four keys, in their order. A function that hashes them at once is faster than by `place`.
+    fn places_of_four(&self, p: &[u8], q: &[u8], r: &[u8], t: &[u8]) -> [Place; 4]
+        ensures places { result ≡ place_of self.now p.now ∷ place_of self.now q.now ∷ place_of self.now r.now ∷ place_of self.now t.now ∷ [] }
+    {
+        [self.place(p), self.place(q), self.place(r), self.place(t)]
+    }
 
     /// The number of each key of this place. None only for keys that the function was not built over.
     fn answer_at(&self, place: &Place) -> Option<u32>

@@ -5,7 +5,7 @@ ghost use Rattle.cm_split.specs.BucketPass.{BucketPass, last_line};
 
 use arrayvec::ArrayVec;
 use cm_io::{KeyBuf, KeyFault, KeyPass, MAX_KEY_LEN};
-use cm_lookup2::{FourWords, words_of_four};
+use cm_lookup2::{FourWords, words_under_four};
 use std::alloc::{AllocError, Global};
 use std::marker::Model;
 
@@ -97,7 +97,7 @@ impl BucketKeys {
         for i in first..self.spots.len() {
             let spot = self.spots[i];
             let key = &self.bytes[spot.from..spot.until];
-            self.words.push_reserved(words_of_four(key, self.seeds));
+            self.words.push_reserved(words_under_four(key, self.seeds));
         }
         Ok(())
     }
@@ -166,7 +166,7 @@ impl KeyPass for BucketKeys {
         }
         for i in 0..4 {
             if self.seeds[i] == seed {
-                return Some(self.words[self.given].under(i));
+                return Some(self.words[self.given].at(i));
             }
         }
         None

@@ -1,6 +1,6 @@
 use Rattle.std.proofs.Common.{◌∙◌, drop, ap, sym, arith}
 use Rattle.std.proofs.lemmas.List.{drop-drop}
-use Rattle.cm_query.specs.Waiting.{WaitingKeys, keys_of}
+use Rattle.cm_query.specs.Waiting.{WaitingKeys}
 use Rattle.cm_query.proofs.batch.Batch.pass.Goals as goal
 
 pub overflow_add-self : goal.overflow_add-self
@@ -9,7 +9,7 @@ overflow_add-self c = omega (arith, c.self.invariant.next, c.self.invariant.few)
 pub returns-clause-keys : goal.returns-clause-keys
 returns-clause-keys c =
     let self = c.self.inside in
-    sym (drop-drop 1 self.next (keys_of self.taken.spots)) ∙ ap (λ (w : WaitingKeys). drop 1 w.keys) c.self.view_is
+    sym (drop-drop 1 self.next self.taken.keys) ∙ ap (λ (w : WaitingKeys). drop 1 w.keys) c.self.view_is
 
 pub returns-clause-answers : goal.returns-clause-answers
 returns-clause-answers c =

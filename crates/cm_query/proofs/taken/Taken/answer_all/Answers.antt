@@ -1,43 +1,31 @@
-use Rattle.std.proofs.Common.{[], ◌∙◌, ◌<◌, List, length, get_or, ap, arith}
-use Rattle.std.proofs.lemmas.List.{length-map}
-use Rattle.std.specs.Prelude.{IfSome, Option, ℕ}
+use Rattle.std.proofs.Common.{[], ◌∙◌, ◌<◌, ℕ, List, length, get_or, ap, arith}
+use Rattle.std.proofs.lemmas.List.{get_or-map, length-map}
 use Rattle.std.proofs.lemmas.List.Elements.{All-push, All-same}
-use Rattle.cm_query.proofs.BatchLemmas.{answered_more, place_at}
-use Rattle.cm_query.specs.Waiting.{Spotted, TakenKeys, spotted_in}
-use Rattle.cm_query.specs.declared.taken.Spot.{Spot}
+use Rattle.std.specs.Prelude.{IfSome, Option}
+use Rattle.cm_query.proofs.BatchLemmas.{one_more}
 use Rattle.cm_query.proofs.taken.Taken.answer_all.Goals as goal
-
-no_key : Spotted
-no_key = record { line = 0; key = []; place = [] }
-
-no_spot : Spot
-no_spot = record { line = 0; from = 0; until = 0; place = [] }
 
 pub answer_at-requires : goal.answer_at-requires
 answer_at-requires g c =
-    let self = c.self.inside in
-    let i = c.loop-spot.spot-index in
-    let slice = c.as_slice-spots.ensures.value in
-    let inside : i < length self.spots.items = omega (arith, c.loop-spot-test.true, ap length slice) in
-    record {
-      place = (
-        (get_or c.args.self.now.spots i no_key).key,
-        ap (λ (l : List Spot). (get_or l i (record { line = 0; from = 0; until = 0; place = [] })).place) slice ∙ place_at (g.A.Answers.place_of c.args.function.now) self.bytes.items self.spots.items c.args.self.now.spots i _ no_key (ap (λ (t : TakenKeys). t.spots) c.self.view_is) c.requires.places inside,
-      );
-    }
+    let f = λ (k : ℕ × List ℕ). g.A.Answers.place_of c.args.function.now k.1 in
+    let keys = c.args.self.now.keys in
+    let none : ℕ × List ℕ = (0, []) in
+    let all = c.as_slice-place-items.ensures.value ∙ c.place_all.ensures.are in
+    let inside : c.loop-place.place-index < length keys = omega (arith, c.loop-place-test.true, ap length all, length-map keys f) in
+    record { place = ((get_or keys c.loop-place.place-index none).1, ap (λ (l : List (List ℕ)). get_or l c.loop-place.place-index []) all ∙ get_or-map f keys c.loop-place.place-index none [] inside) }
 
-pub loop-spot-preserved : goal.loop-spot-preserved
-loop-spot-preserved g c =
-    let self = c.self.inside in
-    let i = c.loop-spot.spot-index in
-    let f = g.A.Answers.answer_of c.args.function.now in
-    let slice = c.as_slice-spots.ensures.value in
-    let spots = c.args.self.now.spots in
-    let view = ap (λ (t : TakenKeys). t.spots) c.self.view_is in
-    let inside : i < length self.spots.items = omega (arith, c.loop-spot-test.true, ap length slice) in
-    let within : i < length spots = omega (arith, inside, ap length view, length-map self.spots.items (spotted_in self.bytes.items)) in
-    let placed = ap (λ (l : List Spot). (get_or l i (record { line = 0; from = 0; until = 0; place = [] })).place) slice ∙ place_at (g.A.Answers.place_of c.args.function.now) self.bytes.items self.spots.items spots i _ no_key view c.requires.places inside in
+pub loop-place-preserved : goal.loop-place-preserved
+loop-place-preserved g c =
+    let f = λ (k : ℕ × List ℕ). g.A.Answers.place_of c.args.function.now k.1 in
+    let h = λ (k : ℕ × List ℕ). g.A.Answers.answer_of c.args.function.now k.1 in
+    let below = λ (a : Option ℕ). IfSome a (λ v. v < g.A.Answers.span_of c.args.function.now) in
+    let keys = c.args.self.now.keys in
+    let none : ℕ × List ℕ = (0, []) in
+    let i = c.loop-place.place-index in
+    let all = c.as_slice-place-items.ensures.value ∙ c.place_all.ensures.are in
+    let inside : i < length keys = omega (arith, c.loop-place-test.true, ap length all, length-map keys f) in
+    let placed = ap (λ (l : List (List ℕ)). get_or l i []) all ∙ get_or-map f keys i none [] inside in
     record {
-      are = answered_more f spots i no_key _ _ _ within c.loop-spot.invariant.are (c.answer_at.ensures.answer _ placed) c.push.ensures.items;
-      inside = All-same (λ (a : Option ℕ). IfSome a (λ v. v < g.A.Answers.span_of c.args.function.now)) _ _ c.push.ensures.items (All-push (λ (a : Option ℕ). IfSome a (λ v. v < g.A.Answers.span_of c.args.function.now)) _ _ c.loop-spot.invariant.inside c.answer_at.ensures.inside);
+      are = c.push.ensures.items ∙ rw (c.loop-place.invariant.are, c.answer_at.ensures.answer _ placed) (one_more h keys i none inside);
+      inside = All-same below _ _ c.push.ensures.items (All-push below _ _ c.loop-place.invariant.inside c.answer_at.ensures.inside);
     }

@@ -13,11 +13,11 @@ loop-i-preserved c =
     let none : Spot = record { line = 0; from = 0; until = 0 } in
     let keys = map (keyed_in now.bytes.items) now.spots.items in
     let inside : i < length now.spots.items = omega (arith, c.loop-i-test.true, c.len-i-end.ensures.value, ap (λ s. length s.items) before.spots) in
-    let spot : c.words_of_four.result ≡ words_under now.seeds (keyed_in now.bytes.items (get_or now.spots.items i none)) =
-    c.words_of_four.ensures.words
+    let spot : c.words_under_four.result ≡ words_under now.seeds (keyed_in now.bytes.items (get_or now.spots.items i none)) =
+    c.words_under_four.ensures.words
     ∙ ap (λ (b : List ℕ). words_under now.seeds (keyed_in b (get_or c.deref.result.now i none))) c.deref-in-loop-i.ensures.value
     ∙ ap (λ (l : List Spot). words_under now.seeds (keyed_in now.bytes.items (get_or l i none))) c.deref.ensures.0 in
-    let word : c.words_of_four.result ≡ words_under now.seeds (get_or keys i (0, [])) = spot ∙ ap (words_under now.seeds) (sym (get_or-map (keyed_in now.bytes.items) now.spots.items i none (0, []) inside)) in
+    let word : c.words_under_four.result ≡ words_under now.seeds (get_or keys i (0, [])) = spot ∙ ap (words_under now.seeds) (sym (get_or-map (keyed_in now.bytes.items) now.spots.items i none (0, []) inside)) in
     record {
       bytes = before.bytes;
       spots = before.spots;
