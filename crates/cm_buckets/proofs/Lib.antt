@@ -1,4 +1,5 @@
 pub mod SizeLemmas
+pub mod HeldLemmas
 pub mod TableLemmas
 pub mod KeptLemmas
 pub mod Ranking

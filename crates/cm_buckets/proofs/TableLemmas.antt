@@ -17,7 +17,7 @@ use Rattle.cm_spec.specs.Cells.{is_busy}
 use Rattle.cm_spec.specs.Image.{packed_byte, packed_len}
 use Rattle.cm_spec.specs.Lists.{list_of}
 use Rattle.cm_buckets.specs.Functions.{Bucket}
-use Rattle.cm_buckets.specs.Kept.{LiesIn, bucket_in, buckets_of, cells_in, none_kept}
+use Rattle.cm_buckets.specs.Kept.{LiesIn, bucket_in, buckets_of, cells_in, none_held}
 use Rattle.cm_buckets.specs.declared.held.Held.{Held}
 
 pub length-cells_in : (table : List ℕ) (h : Held) → LiesIn table h → length (cells_in table h) ≡ 3 * h.third
@@ -115,19 +115,19 @@ cells_next table cells h next =
 pub lie_then : (table cells : List ℕ) (kept : List Held) (h : Held) → All (LiesIn table) kept → IsNext table cells h → All (LiesIn (with_cells table cells)) (kept ++ h ∷ [])
 lie_then table cells kept h all next =
     All-append (LiesIn (with_cells table cells)) kept (h ∷ [])
-    (All-from_get_or (LiesIn (with_cells table cells)) kept none_kept (λ i l. lies_still table cells (get_or kept i none_kept) (all i none_kept l)))
+    (All-from_get_or (LiesIn (with_cells table cells)) kept none_held (λ i l. lies_still table cells (get_or kept i none_held) (all i none_held l)))
     (All-cons (LiesIn (with_cells table cells)) h [] (lies_next table cells h next) (All-nil (LiesIn (with_cells table cells))))
 
 buckets_stay : (table cells : List ℕ) (kept : List Held) → All (LiesIn table) kept → buckets_of (with_cells table cells) kept ≡ buckets_of table kept
 buckets_stay table cells kept all =
-    let bucket : ℕ → List ℕ → Bucket = λ i t. bucket_in t (get_or kept i none_kept) in
-    let none : Bucket = bucket_in [] none_kept in
+    let bucket : ℕ → List ℕ → Bucket = λ i t. bucket_in t (get_or kept i none_held) in
+    let none : Bucket = bucket_in [] none_held in
     ext_get_or none (buckets_of (with_cells table cells) kept) (buckets_of table kept) (length-map kept (bucket_in (with_cells table cells)) ∙ sym (length-map kept (bucket_in table))) (λ i l.
     let inside : i < length kept = omega (arith, l, length-map kept (bucket_in (with_cells table cells))) in
-    let h : Held = get_or kept i none_kept in
-    get_or-map (bucket_in (with_cells table cells)) kept i none_kept none inside
-    ∙ ap (λ (c : List ℕ). record { size = h.size; seed = h.seed; cells = c }) (cells_stay table cells h (all i none_kept inside))
-    ∙ sym (get_or-map (bucket_in table) kept i none_kept none inside))
+    let h : Held = get_or kept i none_held in
+    get_or-map (bucket_in (with_cells table cells)) kept i none_held none inside
+    ∙ ap (λ (c : List ℕ). record { size = h.size; seed = h.seed; cells = c }) (cells_stay table cells h (all i none_held inside))
+    ∙ sym (get_or-map (bucket_in table) kept i none_held none inside))
 
 pub buckets_then : (table cells : List ℕ) (kept : List Held) (h : Held) → All (LiesIn table) kept → IsNext table cells h → buckets_of (with_cells table cells) (kept ++ h ∷ []) ≡ buckets_of table kept ++ record { size = h.size; seed = h.seed; cells = cells } ∷ []
 buckets_then table cells kept h all next =

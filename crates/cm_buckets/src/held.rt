@@ -1,20 +1,32 @@
-//! A bucket as it is kept.
-ghost use Rattle.std.specs.Prelude.{◌≡◌, ◌≢◌, ℕ, ◌+◌, ◌*◌, ◌^◌, ◌<◌, ◌≤◌, List, length, slice_index, Option, IfSome, option_map, count_by};
+//! What is kept of a bucket, and the bucket that follows from it.
+ghost use Rattle.std.specs.Prelude.{◌≡◌, ◌≢◌, ℕ, ◌+◌, ◌*◌, ◌/◌, ◌^◌, ◌<◌, ◌≤◌, List, length, slice_index, slice_index_or, Option, IfSome, option_map, count_by};
 ghost use Rattle.cm_bdz.specs.Functions.{chosen_end};
-ghost use Rattle.cm_buckets.specs.Functions.{answer_in};
-ghost use Rattle.cm_buckets.specs.Kept.{LiesIn, bucket_in, cells_in};
+ghost use Rattle.cm_buckets.specs.Functions.{answer_in, bucket_cells};
+ghost use Rattle.cm_buckets.specs.Kept.{IsSized, LiesIn, all_held, bucket_in, cells_in, none_held, offset_at};
 ghost use Rattle.cm_buckets.specs.Places.{ends_in};
 ghost use Rattle.cm_spec.specs.Bdz.{bdz_edge};
 ghost use Rattle.cm_spec.specs.Cells.{is_busy};
 ghost use Rattle.cm_spec.specs.Lookup2.{words};
+ghost use Rattle.cm_spec.specs.Rule.{IsRatio};
 ghost use Rattle.cm_rank.specs.Ranks.{rank_of};
 
-use cm_bdz::place_in;
+use cm_bdz::{BdzScheme, place_in};
 use cm_bits::{Cells, Crumbs};
 use cm_rank::Counted;
-use cm_scheme::Divisor;
+use cm_scheme::{Divisor, Scheme};
 
-/// A bucket whose cells lie in the table of the cells of all buckets. It has 16 bytes.
+/// What is kept of a bucket beside its cells. It has 12 bytes.
+#[derive(Clone, Copy, Drop)]
+pub(crate) struct Kept {
+    /// The first of its cells in the table of the cells of all buckets, which begins a byte.
+    pub(crate) start: u32,
+    /// How many keys lie in the buckets before it.
+    pub(crate) offset: u32,
+    /// The seed of the hash of its keys.
+    pub(crate) seed: u32,
+}
+
+/// A bucket whose cells lie in the table of the cells of all buckets.
 #[derive(Clone, Copy, Drop)]
 pub(crate) struct Held {
     /// The first of its cells in the table, which begins a byte.
@@ -36,12 +48,54 @@ pub(crate) fn count_busy(cells: &Crumbs) -> u32
     cells.count_busy(3, 0, cells.len())
 }
 
+/// How many keys lie in the buckets before bucket `j`, or `held` if it is past the last one.
+#[inline(always)]
+fn next_offset(kept: &[Kept], held: u32, j: usize) -> u32
+    ensures offset { result ≡ offset_at kept.now held j }
+{
+    match kept.get(j) {
+        Some(bucket) => bucket.offset,
+        None => held,
+    }
+}
+
+/// A third of the number of cells of a bucket of `size` keys.
+#[inline(always)]
+fn third_of(size: u8, c: u32) -> u16
+    requires ratio { IsRatio c }
+    ensures third { result ≡ bucket_cells size c / 3 }
+{
+    if size == 0 {
+        0
+    } else {
+        (BdzScheme {}.size(size as u32, c) / 3) as u16
+    }
+}
+
+/// Bucket `j` of these, which have `held` keys, with the ratio `c`: it has the keys before those of the next one.
+#[inline(always)]
+pub(crate) fn held_at(kept: &[Kept], held: u32, c: u32, j: u32) -> Held
+    requires sized { IsSized kept.now held j }
+    requires ratio { IsRatio c }
+    ensures held { result ≡ slice_index_or (all_held c held kept.now) j none_held }
+{
+    let bucket = &kept[j as usize];
+    let size = (next_offset(kept, held, j as usize + 1) - bucket.offset) as u8;
+    Held {
+        start: bucket.start,
+        offset: bucket.offset,
+        seed: bucket.seed,
+        third: third_of(size, c),
+        size,
+    }
+}
+
 impl Held {
-    /// The three vertices of a key with these hash values under the seed, which are 0 in an empty bucket.
+    /// The three vertices of a key of these hash values under the bucket's seed, which are 0 in an empty bucket.
     #[inline(always)]
-    pub(crate) fn ends_of(&self, hashed: [u32; 3]) -> [u32; 3]
+    pub(crate) fn ends(&self, hashed: [u32; 3]) -> [u32; 3]
         requires thirds { self.now.size ≢ 0 → 0 < self.now.third }
-        ensures ends { (table key : List ℕ) → LiesIn table self.now → hashed ≡ words key self.now.seed → result ≡ ends_in (bucket_in table self.now) key }
+        ensures ends { (table key : List ℕ) → hashed ≡ words key self.now.seed → LiesIn table self.now → result ≡ ends_in (bucket_in table self.now) key }
     {
         if self.size == 0 {
             return [0, 0, 0];

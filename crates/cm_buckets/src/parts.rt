@@ -13,7 +13,7 @@ ghost use Rattle.cm_spec.specs.Lookup2.{words};
 ghost use Rattle.cm_spec.specs.Rule.{IsRatio};
 
 use crate::brz::Brz;
-use crate::held::{Held, count_busy};
+use crate::held::{Kept, count_busy, held_at};
 use cm_bdz::PartsFault;
 use cm_bits::{Cells, Crumbs};
 use cm_scheme::Divisor;
@@ -33,25 +33,25 @@ pub struct BrzParts {
     whole: bool,
     // How many keys those so far have.
     held: u32,
-    kept: Vec<Held>,
+    kept: Vec<Kept>,
     // The cells of the buckets, one bucket after another. Each begins a byte.
     cells: Crumbs,
 }
 
 impl Model for BrzParts {
     ghost use Rattle.cm_buckets.specs.Functions.{Brz};
-    ghost use Rattle.cm_buckets.specs.Kept.{AreKept, buckets_of};
+    ghost use Rattle.cm_buckets.specs.Kept.{AreKept, all_held, buckets_of};
 
     ghost Value = { Brz };
 
-    ghost view = { λ p. record { keys = p.m; ratio = p.c; width = p.b; split = p.split; buckets = buckets_of (⟦<Crumbs as Cells>⟧.cells p.cells) p.kept.items } };
+    ghost view = { λ p. record { keys = p.m; ratio = p.c; width = p.b; split = p.split; buckets = buckets_of (⟦<Crumbs as Cells>⟧.cells p.cells) (all_held p.c p.held p.kept.items) } };
 
-    ghost invariant = { λ p. AreKept (record { keys = p.m; ratio = p.c; width = p.b; split = p.split; buckets = buckets_of (⟦<Crumbs as Cells>⟧.cells p.cells) p.kept.items }) (⟦<Crumbs as Cells>⟧.cells p.cells) p.kept.items p.count p.held };
+    ghost invariant = { λ p. AreKept (record { keys = p.m; ratio = p.c; width = p.b; split = p.split; buckets = buckets_of (⟦<Crumbs as Cells>⟧.cells p.cells) (all_held p.c p.held p.kept.items) }) (⟦<Crumbs as Cells>⟧.cells p.cells) (all_held p.c p.held p.kept.items) p.count p.held };
 }
 
 /// Makes room for one bucket more, of `count`: for all that are still to come, or for as many more as there are, if those are fewer. So no
 /// room is left over after the last bucket.
-fn make_room(kept: &mut Vec<Held>, count: u32, whole: bool) -> Result<(), AllocError>
+fn make_room(kept: &mut Vec<Kept>, count: u32, whole: bool) -> Result<(), AllocError>
     requires more { length kept.old.items < count }
     ensures kept { kept.new.items ≡ kept.old.items }
     ensures room { OnOk result (vec_len kept.new < vec_capacity kept.new) }
@@ -122,6 +122,7 @@ impl BrzParts {
 
     /// How many bytes of the table to make room for beyond those of the next bucket: all that the keys still to come can fill, or as many
     /// as it has, if those are fewer.
+    #[tactic(auto, using(crate::proofs::HeldLemmas::length_all_held))]
     fn spare(&self) -> usize {
         let keys = self.m.saturating_sub(self.held) as u64;
         let buckets = self.count.value().saturating_sub(self.kept.len() as u32) as u64;
@@ -135,6 +136,7 @@ impl BrzParts {
     }
 
     /// Appends the cells of the next bucket to the table, and keeps it. Fails only if memory runs out, and then changes nothing.
+    #[tactic(auto, using(std::proofs::lemmas::Grind::common_steps, crate::proofs::HeldLemmas::length_all_held))]
     fn keep(&mut self, size: u8, seed: u32, cells: &Crumbs) -> Result<(), AllocError>
         requires room { length self.old.buckets < bucket_count self.old.keys self.old.width }
         requires cells { length (⟦<Crumbs as Cells>⟧.cells cells.now) ≡ bucket_cells size self.old.ratio }
@@ -145,12 +147,10 @@ impl BrzParts {
     {
         make_room(&mut self.kept, self.count.value(), self.whole)?;
         let spare = self.spare();
-        let bucket = Held {
+        let bucket = Kept {
             start: 4 * self.cells.len().div_ceil(4),
             offset: self.held,
             seed,
-            third: (cells.len() / 3) as u16,
-            size,
         };
         self.cells.append(cells, spare)?;
         match self.kept.push(bucket) {
@@ -182,6 +182,7 @@ impl BrzParts {
     }
 
     /// How many buckets there are so far.
+    #[tactic(auto, using(std::proofs::lemmas::Grind::common_steps, crate::proofs::HeldLemmas::length_all_held))]
     pub fn len(&self) -> u32
         ensures len { result ≡ length self.now.buckets }
         ensures few { result ≤ bucket_count self.now.keys self.now.width }
@@ -191,6 +192,7 @@ impl BrzParts {
     }
 
     /// How many buckets are still to come.
+    #[tactic(auto, using(std::proofs::lemmas::Grind::common_steps, crate::proofs::HeldLemmas::length_all_held))]
     pub fn left(&self) -> u32
         ensures left { result + length self.now.buckets ≡ bucket_count self.now.keys self.now.width }
     {
@@ -248,7 +250,7 @@ impl BrzParts {
         requires inside { j < length self.now.buckets }
         ensures size { result ≡ (slice_index_or self.now.buckets j no_bucket).size }
     {
-        self.kept[j as usize].size
+        held_at(&self.kept, self.held, self.c, j).size
     }
 
     /// The seed of the hash of the keys in bucket `j`.
@@ -264,19 +266,19 @@ impl BrzParts {
         requires inside { j < length self.now.buckets }
         ensures image { result.now ≡ list_of (packed_byte 4 4 (slice_index_or self.now.buckets j no_bucket).cells) (packed_len 4 (length (slice_index_or self.now.buckets j no_bucket).cells)) }
     {
-        let held = &self.kept[j as usize];
+        let held = held_at(&self.kept, self.held, self.c, j);
         let from = (held.start / 4) as usize;
         let until = from + (3 * held.third as usize).div_ceil(4);
         &self.cells.image()[from..until]
     }
 
-    /// The three vertices in bucket `j` of a key with these hash values under the bucket's seed, which are 0 if it is empty.
+    /// The three vertices in bucket `j` of a key of these hash values under the bucket's seed, which are 0 if it is empty.
     #[inline(always)]
     pub(crate) fn ends_of(&self, j: u32, hashed: [u32; 3]) -> [u32; 3]
         requires inside { j < length self.now.buckets }
         ensures ends { (key : List ℕ) → hashed ≡ words key (slice_index_or self.now.buckets j no_bucket).seed → result ≡ ends_in (slice_index_or self.now.buckets j no_bucket) key }
     {
-        self.kept[j as usize].ends_of(hashed)
+        held_at(&self.kept, self.held, self.c, j).ends(hashed)
     }
 
     /// The answer of bucket `j` to each key of these vertices, after the numbers of the buckets before.
@@ -286,7 +288,7 @@ impl BrzParts {
         ensures answer { (key : List ℕ) → ends ≡ ends_in (slice_index_or self.now.buckets j no_bucket) key → result ≡ answer_of_bucket self.now j key }
         ensures inside { IfSome result (λ n. n < self.now.keys) }
     {
-        self.kept[j as usize].answer_at(&self.cells, ends)
+        held_at(&self.kept, self.held, self.c, j).answer_at(&self.cells, ends)
     }
 
     /// The function, once it has all of its buckets. It takes no memory.
