@@ -1,5 +1,5 @@
 //! From the store to the functions of the buckets.
-ghost use Rattle.std.specs.Prelude.{◌≡◌, ℕ, ◌+◌, ◌*◌, ◌<◌, ◌≤◌, List, [], Some, length, slice_index, sum, count_by, IfOk, IfErr, IsTrue, OnOk, true};
+ghost use Rattle.std.specs.Prelude.{◌≡◌, ℕ, ◌+◌, ◌*◌, ◌<◌, ◌≤◌, List, [], Some, length, sum, count_by, IfOk, IfErr, IsTrue, OnOk, true};
 ghost use Rattle.cm_algorithm.specs.declared.algorithm.Algorithm.TheVariants as algorithm;
 ghost use Rattle.cm_brz.specs.BrzOf.{AreBuilt, PushesBucket, bucket_from};
 ghost use Rattle.cm_brz.specs.Fails.{FailsBucket, FailsBuckets, HasBuildingForm};
@@ -218,7 +218,7 @@ pub(crate) fn build_buckets<B: Store, L: Ledger>(
     store: &mut B,
     key: &mut KeyBuf,
     split: u32,
-    sizes: &[u32],
+    sizes: &[u8],
     c: u32,
     seeds: &[u32],
     parts: &mut BrzParts,
@@ -230,7 +230,6 @@ pub(crate) fn build_buckets<B: Store, L: Ledger>(
     requires sealed { B.sealed store.old ≡ true }
     requires asks { B.may_ask store.old 0 }
     requires none { (j : ℕ) → (B.given store.old j ≡ 0) × (B.given_last store.old j ≡ 0) }
-    requires small { (j : ℕ) → j < length sizes.now → slice_index sizes.now j ≤ MAX_BUCKET }
     requires new { (parts.old.buckets ≡ []) × (parts.old.ratio ≡ c) }
     requires few { length sizes.now ≤ MAX_KEYS }
     requires count { length sizes.now ≡ bucket_count parts.old.keys parts.old.width }
@@ -248,7 +247,7 @@ pub(crate) fn build_buckets<B: Store, L: Ledger>(
     let mut held = BucketKeys::new(alloc, first_four(seeds));
     for (j, size) in sizes.iter().enumerate() {
         let bucket = j as u32;
-        read_bucket(store, bucket, *size, &mut held, key)?;
+        read_bucket(store, bucket, *size as u32, &mut held, key)?;
         let place = InBucket { split, bucket };
         add_bucket(alloc, &mut held, key, place, c, seeds, parts, steps)?;
     }

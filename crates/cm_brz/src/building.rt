@@ -1,5 +1,5 @@
 //! From keys to buckets, through a store.
-ghost use Rattle.std.specs.Prelude.{◌≡◌, ℕ, ◌+◌, ◌*◌, ◌<◌, ◌≤◌, [], length, slice_index, sum, IfOk, IfErr, IsTrue, OnOk, Contains, None, Some, Ok, Err, true, false};
+ghost use Rattle.std.specs.Prelude.{◌≡◌, ℕ, ◌+◌, ◌*◌, ◌<◌, ◌≤◌, [], length, sum, IfOk, IfErr, IsTrue, OnOk, Contains, None, Some, Ok, Err, true, false};
 ghost use Rattle.std.specs.Option.{ForSome};
 ghost use Rattle.cm_io.specs.declared.key_pass.TheConstants.{MAX_KEYS};
 ghost use Rattle.cm_brz.specs.BrzOf.{IsBrzOf};
@@ -18,7 +18,9 @@ use cm_graph::Steps;
 use cm_io::{KeyBuf, KeyPass};
 use cm_scheme::Divisor;
 use cm_seeds::count_all;
-use cm_split::{BrzFault, Overfull, Split, Splitting, Store, choose_split, gather_equal, put_all};
+use cm_split::{
+    BrzFault, Overfull, Split, Splitting, Store, choose_split, gather_equal, in_bytes, put_all,
+};
 use std::alloc::Global;
 use std::sync::ledger::Ledger;
 
@@ -82,7 +84,6 @@ fn split_keys<P: KeyPass>(
     ensures buckets { IfOk result (λ s. (s.split.buckets ≡ bucket_count m b) × (length s.sizes.items ≡ bucket_count m b)) }
     ensures seed { IfOk result (λ s. Contains seeds.now s.split.seed) }
     ensures all { IfOk result (λ s. sum s.sizes.items ≡ m) }
-    ensures small { IfOk result (λ s. (j : ℕ) → j < length s.sizes.items → slice_index s.sizes.items j ≤ MAX_BUCKET) }
     ensures sizes { IfOk result (λ s. ForSome (P.told keys.old) (λ told. AreSizes s.sizes.items told.keys s.split.buckets s.split.seed)) }
     ensures first { IfOk result (λ s. ForSome (P.told keys.old) (λ told. split_of told.keys (bucket_count (length told.keys) b) seeds.now ≡ Some s.split.seed)) }
     ensures fault { IfErr result (λ e. ForSome (P.told keys.old) (λ told. (c : ℕ) → FailsBrz told c b seeds.now e)) }
@@ -94,7 +95,10 @@ fn split_keys<P: KeyPass>(
     let buckets = Divisor::new(total);
     let mut sizes = vec![in alloc; 0; total as usize]?;
     match choose_split(keys, key, m, buckets, seeds, &mut sizes)? {
-        Ok(split) => Ok(Splitting { split, sizes }),
+        Ok(split) => Ok(Splitting {
+            split,
+            sizes: in_bytes(alloc, &sizes)?,
+        }),
         Err(over) => {
             let split = Split {
                 seed: seeds[0],
@@ -146,7 +150,7 @@ fn brz_counted<P: KeyPass, B: Store, L: Ledger>(
     let mut parts = BrzParts::new(alloc, m, c, b, splitting.split.seed);
     parts.expect_all();
     let split = splitting.split.seed;
-    let sizes: &[u32] = &splitting.sizes;
+    let sizes: &[u8] = &splitting.sizes;
     match build_buckets(alloc, store, key, split, sizes, c, seeds, &mut parts, steps) {
         Ok(()) => Ok(parts.finish()),
         Err(fault) => Err(fault),

@@ -8,7 +8,6 @@ ghost use Rattle.cm_split.specs.Passes.{AreCounted};
 ghost use Rattle.cm_split.specs.Puts.{AreAllPut, FailsPut, HasPutCause, IsPutFault, PutsOne};
 ghost use Rattle.cm_split.specs.Records.{Record};
 ghost use Rattle.cm_split.specs.Split.{AreSizes, GivesBucket};
-ghost use Rattle.cm_buckets.specs.declared.limits.TheConstants.{MAX_BUCKET};
 
 use crate::fault::{BrzFault, PutFault};
 use crate::split::{Split, Splitting};
@@ -65,14 +64,14 @@ fn put_next<P: KeyPass, B: Store>(
 }
 
 /// The first bucket whose number of keys put differs from the number counted.
-fn find_other(sizes: &[u32], put: &[u8]) -> Option<usize>
+fn find_other(sizes: &[u8], put: &[u8]) -> Option<usize>
     requires long { length put.now ≡ length sizes.now }
     ensures some { IfSome result (λ j. (j < length sizes.now) × (slice_index sizes.now j ≢ slice_index put.now j)) }
     ensures lowest { IfSome result (λ j. (i : ℕ) → i < j → slice_index put.now i ≡ slice_index sizes.now i) }
     ensures none { IfNone result ((i : ℕ) → i < length sizes.now → slice_index put.now i ≡ slice_index sizes.now i) }
 {
     for (j, size) in sizes.iter().enumerate() {
-        if *size != put[j] as u32 {
+        if *size != put[j] {
             return Some(j);
         }
     }
@@ -86,13 +85,12 @@ fn put_each<P: KeyPass, B: Store>(
     key: &mut KeyBuf,
     m: u32,
     split: &Split,
-    sizes: &[u32],
+    sizes: &[u8],
     put: &mut [u8],
     store: &mut B,
 ) -> Result<(), BrzFault>
     requires few { m ≤ MAX_KEYS }
     requires long { (length sizes.now ≡ split.now.buckets) × (length put.old ≡ split.now.buckets) }
-    requires small { (j : ℕ) → j < length sizes.now → slice_index sizes.now j ≤ MAX_BUCKET }
     requires store { IsTrue (B.usable store.old) }
     requires open { B.sealed store.old ≡ false }
     requires new { B.put_last store.old ≡ 0 }
@@ -117,7 +115,7 @@ fn put_each<P: KeyPass, B: Store>(
                 let j = bucket as usize;
                 if put[j] as u32 == MAX_BUCKET {
                     return Err(BrzFault::Changed {
-                        first: sizes[j],
+                        first: sizes[j] as u32,
                         now: MAX_BUCKET + 1,
                     });
                 }
@@ -152,7 +150,6 @@ pub fn put_all<P: KeyPass, B: Store>(
 ) -> Result<(), BrzFault>
     requires few { m ≤ MAX_KEYS }
     requires long { length splitting.now.sizes.items ≡ splitting.now.split.buckets }
-    requires small { (j : ℕ) → j < length splitting.now.sizes.items → slice_index splitting.now.sizes.items j ≤ MAX_BUCKET }
     requires store { IsTrue (B.usable store.old) }
     requires open { B.sealed store.old ≡ false }
     requires new { B.put_last store.old ≡ 0 }
@@ -170,13 +167,13 @@ pub fn put_all<P: KeyPass, B: Store>(
     ensures fault { IfErr result (λ e. ForSome (P.told keys.old) (λ told. FailsPassing told e)) }
     ensures form { IfErr result HasPassingForm }
 {
-    let sizes: &[u32] = &splitting.sizes;
+    let sizes: &[u8] = &splitting.sizes;
     let mut table = vec![in alloc; 0; sizes.len()]?;
     let put: &mut [u8] = &mut table;
     put_each(keys, key, m, &splitting.split, sizes, put, store)?;
     if let Some(j) = find_other(sizes, put) {
         return Err(BrzFault::Changed {
-            first: sizes[j],
+            first: sizes[j] as u32,
             now: put[j] as u32,
         });
     }

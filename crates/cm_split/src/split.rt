@@ -15,6 +15,7 @@ use cm_io::{KeyBuf, KeyFault, KeyPass, MAX_KEYS};
 use cm_lookup2::words;
 use cm_scheme::Divisor;
 use cm_witness::GatherFault;
+use std::alloc::{AllocError, Global};
 
 /// A split of keys into buckets: its seed, and how many buckets there are.
 #[derive(Clone, Copy, Drop)]
@@ -35,11 +36,11 @@ impl Split {
     }
 }
 
-/// How keys are split: the buckets, and how many keys each has.
+/// How keys are split: the buckets, and how many keys each has, which a byte holds.
 #[derive(Drop)]
 pub struct Splitting {
     pub split: Split,
-    pub sizes: Vec<u32>,
+    pub sizes: Vec<u8>,
 }
 
 /// The bucket of the next key, which is copied into the buffer, or none at the end.
@@ -236,4 +237,16 @@ pub fn choose_split<P: KeyPass>(
         }
     }
     Ok(Err(first))
+}
+
+/// These numbers of keys, in a byte each: none is more than a bucket may have. Fails only if memory runs out.
+pub fn in_bytes(alloc: Global, sizes: &[u32]) -> Result<Vec<u8>, AllocError>
+    requires small { (j : ℕ) → j < length sizes.now → slice_index sizes.now j ≤ MAX_BUCKET }
+    ensures same { IfOk result (λ v. v.items ≡ sizes.now) }
+{
+    let mut bytes = Vec::with_capacity(alloc, sizes.len())?;
+    for size in sizes {
+        bytes.push_reserved(*size as u8);
+    }
+    Ok(bytes)
 }

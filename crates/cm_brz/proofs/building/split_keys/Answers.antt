@@ -12,7 +12,7 @@ pub returns-in-Ok-clause-buckets : goal.returns-in-Ok-clause-buckets
 returns-in-Ok-clause-buckets g c =
     let split = rw c.in-Ok.is at c.in_ok-split.ensures.split in (
       split.0 ∙ (c.new-buckets.ensures.value ∙ c.bucket_total-total.ensures.count),
-      omega (arith, length-take {A = ℕ}, length-append {A = ℕ}, length-drop {A = ℕ}, c.deref_mut.ensures.len, c.choose_split.auto.sizes, c.in_ok-sizes.ensures.len, c.bucket_total-total.ensures.count),
+      omega (arith, ap length c.in_ok-in_bytes-in-Ok.ensures.same, ap length c.deref.ensures.value, length-take {A = ℕ}, length-append {A = ℕ}, length-drop {A = ℕ}, c.deref_mut.ensures.len, c.choose_split.auto.sizes, c.in_ok-sizes.ensures.len, c.bucket_total-total.ensures.count),
     )
 
 pub returns-in-Ok-clause-first : goal.returns-in-Ok-clause-first
@@ -22,8 +22,8 @@ returns-in-Ok-clause-first g c = λ told is.
     let count : c.new-buckets.result ≡ bucket_count (length told.keys) c.args.b = c.new-buckets.ensures.value ∙ (c.bucket_total-total.ensures.count ∙ ap (λ (n : ℕ). bucket_count n c.args.b) (sym counted.many)) in
     subst (λ (k : ℕ). split_of told.keys k c.args.seeds.now ≡ Some c.in-Ok.split.seed) count (first told is)
 
-pub returns-in-Err-clause-fault : goal.returns-in-Err-clause-fault
-returns-in-Err-clause-fault g c = λ told is ratio.
+pub returns-clause-fault : goal.returns-clause-fault
+returns-clause-fault g c = λ told is ratio.
     let none = rw c.in-Err.is at c.in_ok-split.ensures.none in
     let counted = c.requires.counted told is in
     let count : c.new-buckets.result ≡ bucket_count (length told.keys) c.args.b = c.new-buckets.ensures.value ∙ (c.bucket_total-total.ensures.count ∙ ap (λ (n : ℕ). bucket_count n c.args.b) (sym counted.many)) in

@@ -44,6 +44,5 @@ returns-then-put-j-eq-MAX_BUCKET-clause-fault g c = λ told is.
     let below = rw c.in-Some.is at c.in_ok-bucket.ensures.below in
     let gives = rw c.in-Some.is at c.in_ok-bucket.ensures.gives in
     let given = gives told (before.same ∙ is) in
-    let low : c.in-Some.bucket < length c.args.sizes.now = omega (arith, below, c.requires.long.0) in
     let less = counted_less c.loop-count.put given.0 _ _ told.keys c.args.split.now.buckets c.args.split.now.seed c.in-Some.bucket (before.counts told is) given.1 given.2 below in
-    omega (arith, c.requires.small c.in-Some.bucket low, c.requires.sizes told is c.in-Some.bucket below, less, c.if-put-j-eq-MAX_BUCKET.true)
+    omega (arith, c.type_inv.sizes c.in-Some.bucket, c.requires.sizes told is c.in-Some.bucket below, less, c.if-put-j-eq-MAX_BUCKET.true)
