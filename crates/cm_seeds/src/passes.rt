@@ -14,7 +14,7 @@ use cm_edges::Edges;
 use cm_io::{KeyBuf, KeyFault, KeyPass, MAX_KEYS};
 use cm_lookup2::words;
 use cm_scheme::{Divisor, Scheme};
-use cm_witness::GatherFault;
+use cm_witness::{GatherFault, expect_end};
 
 /// How many keys there are, from 0 to `MAX_KEYS`: the keys are passed once from the start. The buffer is scratch space. Fails exactly
 /// as the pass does.
@@ -187,12 +187,6 @@ pub(crate) fn hash_all<S: Scheme<K>, P: KeyPass, const K: usize>(
             Err(fault) => return Err(GatherFault::Key(fault)),
         }
     }
-    match keys.next(key) {
-        Ok(true) => Err(GatherFault::Changed {
-            first: m,
-            now: m + 1,
-        }),
-        Ok(false) => Ok(()),
-        Err(fault) => Err(GatherFault::Key(fault)),
-    }
+    expect_end(keys, key, m)?;
+    Ok(())
 }

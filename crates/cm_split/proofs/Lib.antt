@@ -1,6 +1,5 @@
 mod BytesLemmas
 mod Equal
-mod Passing
 mod PassLemmas
 mod PutLemmas
 mod WordsLemmas

@@ -10,7 +10,7 @@ ghost use Rattle.cm_split.specs.Split.{keys_of_bucket, size_of_bucket};
 
 use crate::split::{Overfull, Split};
 use cm_io::{KeyBuf, KeyPass};
-use cm_witness::{EqualKeys, GatherFault, Pair};
+use cm_witness::{EqualKeys, GatherFault, Pair, expect_end};
 use std::alloc::Global;
 
 /// Passes the next key, and notes it with its line if it is of this bucket. Returns whether it is, or none at the end. The buffer is
@@ -76,12 +76,7 @@ pub fn gather_equal<P: KeyPass>(
             }
         }
     }
-    if keys.next(key)? {
-        return Err(GatherFault::Changed {
-            first: m,
-            now: m + 1,
-        });
-    }
+    expect_end(keys, key, m)?;
     if found != over.count {
         return Err(GatherFault::Changed {
             first: over.count,

@@ -14,6 +14,7 @@ use crate::split::{Split, Splitting};
 use crate::store::Store;
 use cm_buckets::MAX_BUCKET;
 use cm_io::{KeyBuf, KeyPass};
+use cm_witness::expect_end;
 use std::alloc::Global;
 
 /// Puts the next key into the store, and returns its bucket, or none at the end. A buffered key is put where it stands, and any other is
@@ -129,12 +130,7 @@ fn put_each<P: KeyPass, B: Store>(
             }
         }
     }
-    if keys.next(key)? {
-        return Err(BrzFault::Changed {
-            first: m,
-            now: m + 1,
-        });
-    }
+    expect_end(keys, key, m)?;
     Ok(())
 }
 

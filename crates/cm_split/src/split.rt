@@ -14,7 +14,7 @@ use cm_buckets::MAX_BUCKET;
 use cm_io::{KeyBuf, KeyFault, KeyPass, MAX_KEYS};
 use cm_lookup2::words;
 use cm_scheme::Divisor;
-use cm_witness::GatherFault;
+use cm_witness::{GatherFault, expect_end};
 use std::alloc::{AllocError, Global};
 
 /// A split of keys into buckets: its seed, and how many buckets there are.
@@ -43,29 +43,6 @@ pub struct Splitting {
     pub sizes: Vec<u8>,
 }
 
-/// The bucket of the next key, which is copied into the buffer, or none at the end.
-#[inline(never)]
-fn read_bucket<P: KeyPass>(
-    keys: &mut P,
-    key: &mut KeyBuf,
-    split: &Split,
-) -> Result<Option<u32>, KeyFault>
-    requires usable { IsTrue (P.usable keys.old) }
-    ensures told { P.told keys.new ≡ P.told keys.old }
-    ensures gives { ForSome (P.told keys.old) (λ told. GivesBucket told (P.place keys.old) (P.place keys.new) split.now.buckets split.now.seed result) }
-    ensures cause { HasKeyCause (P.faults keys.old) (P.faults keys.new) result }
-    ensures counts { IfOk result (λ o. IfSome o (λ _. P.place keys.new ≡ P.place keys.old + 1)) }
-    ensures below { IfOk result (λ o. IfSome o (λ j. j < split.now.buckets)) }
-    ensures ended { IfOk result (λ o. IfNone o (P.place keys.new ≡ P.place keys.old)) }
-    ensures usable { OnOk result (P.usable keys.new ≡ true) }
-{
-    match keys.next(key) {
-        Ok(true) => Ok(Some(split.bucket_of(key.as_slice()))),
-        Ok(false) => Ok(None),
-        Err(fault) => Err(fault),
-    }
-}
-
 /// The bucket of the next key, or none at the end. A buffered key isn't copied. The buffer is scratch space.
 #[inline(always)]
 fn next_bucket<P: KeyPass>(
@@ -84,7 +61,12 @@ fn next_bucket<P: KeyPass>(
 {
     let (bucket, len) = match keys.peek() {
         Some((_, next)) => (split.bucket_of(next), next.len()),
-        None => return read_bucket(keys, key, split),
+        None => {
+            if !keys.next(key)? {
+                return Ok(None);
+            }
+            return Ok(Some(split.bucket_of(key.as_slice())));
+        }
     };
     keys.pass(len);
     Ok(Some(bucket))
@@ -147,14 +129,8 @@ fn count_buckets<P: KeyPass>(
             Err(fault) => return Err(GatherFault::Key(fault)),
         }
     }
-    match keys.next(key) {
-        Ok(true) => Err(GatherFault::Changed {
-            first: m,
-            now: m + 1,
-        }),
-        Ok(false) => Ok(()),
-        Err(fault) => Err(GatherFault::Key(fault)),
-    }
+    expect_end(keys, key, m)?;
+    Ok(())
 }
 
 /// Counts the keys of each bucket, and returns the lowest bucket that has more than it may have, or none if this seed splits the

@@ -1,15 +1,11 @@
 -- Passes over keys that gather the edges at some places.
-use Rattle.std.proofs.Common.{◌≡◌, ◌∙◌, ℕ, ◌+◌, ◌<◌, ◌≤◌, All, Bool, true, false, cond, List, [], ◌∷◌, ◌++◌, length, map, filter, take, drop, get_or, None, Some, Result, Ok, Err, IfErr, IsErrAnd, ap, sym, subst, arith, inl, refl, length-drop, add-zero, append-nil, slice_get}
-use Rattle.std.proofs.lemmas.Bool.{false≢true}
+use Rattle.std.proofs.Common.{◌≡◌, ◌∙◌, ℕ, ◌+◌, ◌<◌, ◌≤◌, All, Bool, true, false, cond, List, [], ◌∷◌, ◌++◌, length, map, filter, take, drop, get_or, Some, Result, Ok, Err, IfErr, IsErrAnd, ap, sym, subst, arith, add-zero, append-nil, slice_get}
 use Rattle.std.proofs.lemmas.List.{get_or-drop, map_more, take_all, take_more}
 use Rattle.std.proofs.lemmas.Option.{get_or_from_slice_get}
 use Rattle.cm_io.specs.Passes.{Told, GivesKey}
-use Rattle.cm_io.specs.declared.key_pass.KeyFault.{KeyFault}
-use Rattle.cm_io.specs.declared.key_pass.KeyFault.TheVariants.{Read, TooLong, TooMany}
 use Rattle.cm_spec.specs.Graph.{ends_at}
 use Rattle.cm_witness.specs.Candidates.{FindsEqual, is_twice}
 use Rattle.cm_witness.specs.Cores.{EqualKeysMeet, core_edge, core_edges, keys_at}
-use Rattle.cm_witness.specs.Gathers.{AreOthers, IsEndFault}
 use Rattle.cm_witness.specs.Noted.{AreNoted, TakesKey}
 use Rattle.cm_witness.specs.Pairs.{pairs}
 use Rattle.cm_witness.specs.declared.candidates.Hits.{Hits}
@@ -21,22 +17,6 @@ use Rattle.cm_witness.proofs.KeptLemmas.{kept-push, pairs_kept}
 pub handed_on : {T E : Type 0} (result : Result T E) (fault : E) (F : E → Type 0) → IsErrAnd result (λ e. e ≡ fault) → F fault → IfErr result F
 handed_on (Ok x) fault F is holds = absurd is
 handed_on (Err e) fault F is holds = subst F (sym is) holds
-
--- a pass that fails after all keys that were expected has come to the fault at their end
-pub refused_at_end : (told : Told) (m before now line : ℕ) (key : List ℕ) (fault : KeyFault) → before ≡ m → GivesKey told before now line key (Err fault) → IsEndFault told m fault
-refused_at_end told m before now line key Read is gives = tt
-refused_at_end told m before now line key (TooLong at) is gives = (omega (arith, is, gives.all), gives.fault_is)
-refused_at_end told m before now line key TooMany is gives = (omega (arith, is, gives.all), gives.fault_is)
-
--- a pass that comes to the end of the keys after n of them has yielded all
-pub ended_at : (told : Told) (m before now line : ℕ) (key : List ℕ) (more : Bool) → before ≡ m → more ≡ false → GivesKey told before now line key (Ok more) → (length told.keys ≡ m) × (told.fault ≡ None)
-ended_at told m before now line key true is none gives = absurd (false≢true (sym none))
-ended_at told m before now line key false is none gives = (sym gives.all ∙ is, gives.fault_is)
-
--- a pass that yields a key after n of them has more of them
-pub more_than : (told : Told) (m before now line : ℕ) (key : List ℕ) (more : Bool) → before ≡ m → more ≡ true → GivesKey told before now line key (Ok more) → AreOthers told m (m + 1)
-more_than told m before now line key false is some gives = absurd (false≢true some)
-more_than told m before now line key true is some gives = inl (omega (arith, is, ap length gives, length-drop before told.keys), refl)
 
 -- the key that a pass gives at a place
 given_at : (keys later : List (ℕ × List ℕ)) (e line : ℕ) (key : List ℕ) → drop e keys ≡ (line, key) ∷ later → get_or keys e (0, []) ≡ (line, key)

@@ -1,8 +1,8 @@
 //! What a pass over the keys shows of a 2-core.
-ghost use Rattle.std.specs.Prelude.{◌≡◌, ◌<◌, ◌≤◌, ◌+◌, ℕ, List, [], length, All, is_some, Some, None, Ok, true, false, if◌then◌else◌, IfOk, IfErr, OnOk, IsTrue};
+ghost use Rattle.std.specs.Prelude.{◌≡◌, ◌≢◌, ◌<◌, ◌≤◌, ◌+◌, ℕ, List, [], length, All, is_some, Some, None, Ok, Err, true, false, if◌then◌else◌, IfOk, IfErr, OnOk, IsTrue};
 ghost use Rattle.std.specs.List.Sorted.{IsStrictlyIncreasing};
 ghost use Rattle.std.specs.Option.{ForSome};
-ghost use Rattle.cm_io.specs.Passes.{HasKeyCause, GivesKey};
+ghost use Rattle.cm_io.specs.Passes.{Ends, HasKeyCause, GivesKey};
 ghost use Rattle.cm_witness.specs.Candidates.{FindsEqual, is_twice};
 ghost use Rattle.cm_witness.specs.Cores.{EqualKeysMeet, core_edge as core_edge_of, core_edges, keys_at};
 ghost use Rattle.cm_witness.specs.Gathers.{FailsGather, HasGatherCause, HasOther, ends_of, has_buckets, has_third};
@@ -162,6 +162,27 @@ fn core_edge<const K: usize>(line: u32, ends: [u32; K]) -> CoreEdge
     }
 }
 
+/// Checks that a pass that has yielded its `m` keys has no other. Fails as `Changed` if it has. The buffer is scratch space.
+pub fn expect_end<P: KeyPass>(keys: &mut P, key: &mut KeyBuf, m: u32) -> Result<(), GatherFault>
+    requires usable { IsTrue (P.usable keys.old) }
+    requires at { P.place keys.old ≡ m }
+    ensures told { P.told keys.new ≡ P.told keys.old }
+    ensures cause { HasGatherCause (P.faults keys.old) (P.faults keys.new) result }
+    ensures given { OnOk result (P.place keys.new ≡ m) }
+    ensures end { OnOk result (ForSome (P.told keys.old) (λ told. Ends told (P.place keys.old) None)) }
+    ensures memory { result ≢ Err gather_fault.Memory }
+    ensures changed { IfErr result (HasOther m (P.place keys.new)) }
+    ensures fault { IfErr result (λ fault. ForSome (P.told keys.old) (λ told. FailsGather told m fault)) }
+{
+    if keys.next(key)? {
+        return Err(GatherFault::Changed {
+            first: m,
+            now: m + 1,
+        });
+    }
+    Ok(())
+}
+
 /// Passes the keys from place `from` up to the last, which are to be `m` in all. Fails as `Changed` if there are fewer, or more. The
 /// buffer is scratch space.
 fn pass_to_end<P: KeyPass>(
@@ -173,7 +194,6 @@ fn pass_to_end<P: KeyPass>(
     requires usable { IsTrue (P.usable keys.old) }
     requires at { P.place keys.old ≡ from }
     requires within { from ≤ m }
-    requires few { m ≤ 67108864 }
     ensures told { P.told keys.new ≡ P.told keys.old }
     ensures cause { HasGatherCause (P.faults keys.old) (P.faults keys.new) result }
     ensures given { OnOk result (P.place keys.new ≡ m) }
@@ -182,12 +202,7 @@ fn pass_to_end<P: KeyPass>(
     ensures fault { IfErr result (λ fault. ForSome (P.told keys.old) (λ told. FailsGather told m fault)) }
 {
     pass_keys(keys, key, from, m, m)?;
-    if keys.next(key)? {
-        return Err(GatherFault::Changed {
-            first: m,
-            now: m + 1,
-        });
-    }
+    expect_end(keys, key, m)?;
     Ok(())
 }
 

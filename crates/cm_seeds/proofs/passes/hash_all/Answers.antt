@@ -1,13 +1,6 @@
-use Rattle.std.proofs.Common.{arith, ◌≡◌, ◌∙◌, ℕ, ◌+◌, [], ◌∷◌, ◌++◌, List, length, length-append, map, drop, true, vec_len, ap, append_assoc, inl, refl, sym}
-use Rattle.std.proofs.lemmas.List.{length-drop}
+use Rattle.std.proofs.Common.{arith, ◌≡◌, ◌∙◌, ℕ, ◌+◌, [], ◌∷◌, ◌++◌, List, length, length-append, map, drop, true, vec_len, ap, append_assoc, sym}
 use Rattle.cm_edges.specs.Graph.{Graph}
-use Rattle.cm_io.specs.Passes.{Told}
-use Rattle.cm_witness.specs.Gathers.{AreOthers}
 use Rattle.cm_seeds.proofs.passes.hash_all.Goals as goal
-
--- a key after the first m shows that there are more
-more_keys : (told : Told) (place m : ℕ) (key : ℕ × List ℕ) (rest : List (ℕ × List ℕ)) → place ≡ m → drop place told.keys ≡ key ∷ rest → AreOthers told m (m + 1)
-more_keys told place m key rest at is = inl (omega (arith, length-drop place told.keys, ap length is), refl)
 
 -- what was made of the keys so far, with one key more
 map_more : {A : Type 0} (f : ℕ × List ℕ → A) (all xs now : List A) (x : A) (left rest : List (ℕ × List ℕ)) (key : ℕ × List ℕ) → now ≡ xs ++ x ∷ [] → left ≡ key ∷ rest → x ≡ f key → xs ++ map f left ≡ all → now ++ map f rest ≡ all
@@ -85,8 +78,3 @@ loop-count-preserved g c =
           (let given = words told (c.add_at_hand.ensures.told ∙ (before.same ∙ is)) in
           map_more _ _ _ _ _ _ _ given.0 (tags kept) (ap (λ (p : ℕ). drop p told.keys) (sym (ap P.place still.0)) ∙ given.1) (ap r.tag given.2) (before.tags kept told is));
     }
-
-pub returns-in-Ok-true-clause-fault : goal.returns-in-Ok-true-clause-fault
-returns-in-Ok-true-clause-fault g c = λ told is.
-    let gives = rw c.in-Ok-true.field-0-test at c.in-Ok-true.ensures.gives in
-    more_keys told _ c.args.m _ _ (omega (arith, c.loop-count.invariant.at, c.loop-count.invariant.few, c.loop-count-test.false)) (gives told (c.loop-count.invariant.same ∙ is))

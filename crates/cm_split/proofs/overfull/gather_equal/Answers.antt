@@ -1,6 +1,5 @@
-use Rattle.std.proofs.Common.{arith, rules, ◌∙◌, ℕ, ◌+◌, ap}
-use Rattle.cm_split.proofs.Equal.{byte_is, byte_most, noted_more}
-use Rattle.cm_split.proofs.Passing.{past_end}
+use Rattle.std.proofs.Common.{arith, rules, ◌∙◌, ℕ, ◌+◌, ap, sym}
+use Rattle.cm_split.proofs.Equal.{byte_is, byte_most, noted_more, pairs_noted, size_noted}
 use Rattle.cm_split.proofs.overfull.gather_equal.Goals as goal
 
 pub returns-in-None-clause-fault : goal.returns-in-None-clause-fault
@@ -23,7 +22,12 @@ loop-count-preserved g c =
       noted = λ told is. noted_more c.loop-count.found _ _ _ _ _ told.keys _ _ _ _ _ c.in-Some.here (before.noted told is) (notes told (before.same ∙ is)) (ap (λ (n : ℕ). c.loop-count.found + n) (byte_is c.in-Some.here));
     }
 
-pub returns-then-branch-clause-fault : goal.returns-then-branch-clause-fault
-returns-then-branch-clause-fault g c = λ told is.
-    let P = g.P.KeyPass in
-    past_end told (P.place c.loop-count.keys) (P.place c.next.new.self) (P.last c.next.new.self) c.args.m c.next.new.key.items c.in_ok-next.field-0 (c.in_ok-next.ensures.gives told (c.loop-count.invariant.same ∙ is)) c.if-branch.true (omega (arith, c.loop-count.invariant.at, c.loop-count-test.false, c.loop-count.auto.count-end)) (c.requires.counted told is).many
+pub returns-then-found-over-clause-fault : goal.returns-then-found-over-clause-fault
+returns-then-found-over-clause-fault g c = λ told is.
+    let before = c.loop-count.invariant in
+    c.if-found-over.true (size_noted c.loop-count.found _ _ told.keys _ _ _ _ (before.noted told is) (c.in_ok-expect_end.ensures.end told (before.same ∙ is)).none_left ∙ sym (c.requires.over told is))
+
+pub returns-clause-equal : goal.returns-clause-equal
+returns-clause-equal g c = λ told is.
+    let before = c.loop-count.invariant in
+    pairs_noted c.loop-count.found _ _ told.keys _ _ _ _ _ (before.noted told is) (c.in_ok-expect_end.ensures.end told (before.same ∙ is)).none_left c.into_pairs.ensures

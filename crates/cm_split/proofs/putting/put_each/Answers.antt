@@ -1,6 +1,6 @@
 use Rattle.std.proofs.Common.{arith, rules, ◌∙◌, ◌<◌, length, refl}
 use Rattle.cm_split.proofs.PutLemmas.{put_more}
-use Rattle.cm_split.specs.SizesLaws.{count_more, counted_less, sum_one_more}
+use Rattle.cm_split.specs.SizesLaws.{all_counted, count_more, counted_less, sum_one_more}
 use Rattle.cm_split.proofs.putting.put_each.Goals as goal
 
 pub returns-in-None-clause-fault : goal.returns-in-None-clause-fault
@@ -46,3 +46,8 @@ returns-then-put-j-eq-MAX_BUCKET-clause-fault g c = λ told is.
     let given = gives told (before.same ∙ is) in
     let less = counted_less c.loop-count.put given.0 _ _ told.keys c.args.split.now.buckets c.args.split.now.seed c.in-Some.bucket (before.counts told is) given.1 given.2 below in
     omega (arith, c.type_inv.sizes c.in-Some.bucket, c.requires.sizes told is c.in-Some.bucket below, less, c.if-put-j-eq-MAX_BUCKET.true)
+
+pub returns-clause-sizes : goal.returns-clause-sizes
+returns-clause-sizes g c = λ told is.
+    let before = c.loop-count.invariant in
+    all_counted c.loop-count.put _ told.keys _ _ (before.counts told is) (c.in_ok-expect_end.ensures.end told (before.same ∙ is)).none_left
