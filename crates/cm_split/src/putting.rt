@@ -173,6 +173,8 @@ pub fn put_all<P: KeyPass, B: Store>(
             now: put[j] as u32,
         });
     }
+    // Freed before memory to read the records back is allocated.
+    drop(table);
     store.seal()?;
     Ok(())
 }
