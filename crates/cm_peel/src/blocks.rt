@@ -13,6 +13,7 @@ use crate::chunk::{CHUNK, CHUNK_ENDS, list_halves};
 use crate::freed;
 use crate::freed::{EDGES, FREED, Plan, Taking};
 use crate::marks::list_marked;
+use crate::tables::{Round, Tables};
 use cm_edges::{Edges, Half, Incidence, Steps};
 use std::sync::ledger::Ledger;
 
@@ -313,38 +314,45 @@ fn plan_round(rounds: u32, edges: u32, counts: usize, long: usize, space: usize)
 }
 
 /// Removes the half-edges of a round, except those of its pivots, takes the edges of the next round, and lists them by rising number.
-/// Returns how many they are. `rounds` went before. No half-edge waits and no edge is marked, before or after. The half-edges wait in
-/// the list, which gets its edges only when none waits any more, so this takes no memory.
+/// Returns how many they are. No half-edge waits and no edge is marked, before or after. The half-edges wait in the list, which gets its
+/// edges only when none waits any more, so this takes no memory.
 pub(crate) fn unlink_by_blocks<const K: usize, I: Incidence<K>, L: Ledger>(
     edges: &Edges<K>,
     incidence: &mut I,
-    round: &[u32],
-    rounds: u32,
-    bytes: &mut [u8],
+    round: Round<'_>,
+    tables: &mut Tables<K>,
     list: &mut [u32],
-    marks: &mut [u64],
-    counts: &mut [u32],
     steps: &mut Steps<L>,
 ) -> usize
     requires graph { IsSmall K edges.now }
-    requires round { round.now ≡ removed_after edges.now.edges rounds }
-    requires early { rounds < length edges.now.edges }
-    requires room { length (left_after edges.now.edges (suc rounds)) ≤ length list.old }
+    requires round { round.edges.now ≡ removed_after edges.now.edges round.before }
+    requires early { round.before < length edges.now.edges }
+    requires room { length (left_after edges.now.edges (suc round.before)) ≤ length list.old }
     requires few { length list.old ≤ 67109056 }
-    requires some { 0 < length counts.old }
-    requires pairs { 128 * length counts.old ≤ length list.old }
+    requires some { 0 < length tables.old.counts.items }
+    requires pairs { 128 * length tables.old.counts.items ≤ length list.old }
     requires space { 8192 ≤ length list.old }
-    requires tables { AreTables edges.now counts.old marks.old }
-    requires state { InRound edges.now rounds [] (I.links incidence.old) [] bytes.old }
+    requires tables { AreTables edges.now tables.old.counts.items tables.old.marks.items }
+    requires state { InRound edges.now round.before [] (I.links incidence.old) [] tables.old.bytes.items }
     ensures within { result ≤ length list.new }
-    ensures state { InRound edges.now rounds (other_places edges.now.edges round.now) (I.links incidence.new) (take result list.new) bytes.new }
+    ensures state { InRound edges.now round.entry.before (other_places edges.now.edges round.entry.edges.now) (I.links incidence.new) (take result list.new) tables.new.bytes.items }
     ensures sorted { IsSorted nat_cmp (take result list.new) }
-    ensures tables { AreTables edges.now counts.new marks.new }
-    ensures steps { steps.new ≤ steps.old + 3 * (K * length round.now) }
+    ensures tables { AreTables edges.now tables.new.counts.items tables.new.marks.items }
+    ensures levels { tables.new.levels.items ≡ tables.old.levels.items }
+    ensures steps { steps.new ≤ steps.old + 3 * (K * length round.entry.edges.now) }
 {
+    let bytes: &mut [u8] = &mut tables.bytes;
+    let marks: &mut [u64] = &mut tables.marks;
+    let counts: &mut [u32] = &mut tables.counts;
     let long = list.len() - list.len() / 8;
     let (room, freed) = list.split_at_mut(long);
-    let plan = plan_round(rounds, edges.len(), counts.len(), room.len(), freed.len());
+    let plan = plan_round(
+        round.before,
+        edges.len(),
+        counts.len(),
+        room.len(),
+        freed.len(),
+    );
     freed::clear(plan.blocks, freed);
     let mut taking = Taking {
         plan,
@@ -353,7 +361,7 @@ pub(crate) fn unlink_by_blocks<const K: usize, I: Incidence<K>, L: Ledger>(
         marks,
         counts,
     };
-    let count = unlink_marked(edges, incidence, round, &mut taking, room, steps);
+    let count = unlink_marked(edges, incidence, round.edges, &mut taking, room, steps);
     list_marked(marks, &mut list[..count]);
     count
 }

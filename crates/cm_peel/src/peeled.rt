@@ -7,6 +7,7 @@ ghost use Rattle.cm_peel.specs.Peeling.{IsPeelingOf, levels_of, untaken_of};
 use crate::blocks::count_blocks;
 use crate::chunk::{CHUNK_ENDS, Scratch, UNTAKEN};
 use crate::round::{advance, begin};
+use crate::tables::{Round, Tables};
 use cm_edges::{Edges, Incidence, Steps};
 use std::alloc::{AllocError, Global};
 use std::marker::Model;
@@ -107,37 +108,35 @@ fn peel_noting<const K: usize, I: Incidence<K> + Drop, L: Ledger>(
         &mut order,
         steps,
     );
-    let mut marks = vec![in alloc; 0; m.div_ceil(64) as usize]?;
+    let marks = vec![in alloc; 0; m.div_ceil(64) as usize]?;
     let blocks = count_blocks(edges.vertices() as usize);
-    let mut counts = vec![in alloc; 0; blocks]?;
-    let mut scratch = Scratch::<K>::new();
+    let counts = vec![in alloc; 0; blocks]?;
+    let mut tables = Tables::<K> {
+        levels,
+        bytes,
+        marks,
+        counts,
+        scratch: Scratch::<K>::new(),
+    };
     let mut start = 0;
     let mut rounds = 0;
     'rounds: while start < end {
         let (done, room) = order.split_at_mut(end);
-        let count = advance(
-            edges,
-            &mut incidence,
-            &done[start..],
-            rounds,
-            &mut levels,
-            &mut bytes,
-            room,
-            &mut marks,
-            &mut counts,
-            &mut scratch,
-            steps,
-        );
+        let round = Round {
+            edges: &done[start..],
+            before: rounds,
+        };
+        let count = advance(edges, &mut incidence, round, &mut tables, room, steps);
         start = end;
         end += count;
         rounds += 1;
     }
     order.truncate(end);
-    let rest = untaken(alloc, &bytes, m as usize - end)?;
+    let rest = untaken(alloc, &tables.bytes, m as usize - end)?;
     Ok(Peeled {
         order,
-        levels,
-        bytes,
+        levels: tables.levels,
+        bytes: tables.bytes,
         rest,
     })
 }

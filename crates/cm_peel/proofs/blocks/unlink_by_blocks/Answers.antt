@@ -1,15 +1,15 @@
-use Rattle.std.proofs.Common.{◌≡◌, ◌∙◌, ℕ, suc, ◌+◌, ◌*◌, ◌/◌, ◌<◌, ◌≤◌, List, [], ◌++◌, length, get_or, take, drop, sym, ap, subst, arith, rules, nat_cmp, length-append}
+use Rattle.std.proofs.Common.{◌≡◌, ◌∙◌, ℕ, suc, ◌+◌, ◌*◌, ◌/◌, ◌<◌, ◌≤◌, List, [], ◌++◌, length, get_or, take, drop, replicate, sym, ap, subst, arith, rules, nat_cmp, length-append}
 use Rattle.std.specs.List.Sorted.{IsSorted}
 use Rattle.std.proofs.lemmas.List.{length-take-le}
 use Rattle.cm_spec.specs.Rounds.{left_after, removed_after}
 use Rattle.cm_edges.specs.Graph.{Graph, Links}
 use Rattle.cm_peel.specs.AtRound.{InRound, other_places}
 use Rattle.cm_peel.specs.Marks.{IsUnmarked, is_marked}
-use Rattle.cm_peel.specs.Waiting.{IsRoom, InTaking, marked_of}
+use Rattle.cm_peel.specs.Waiting.{AreEmpty, AreTables, IsRoom, InTaking, marked_of}
 use Rattle.cm_peel.proofs.ByBlocks.{blocks_begun, part_some, room_of_parts, taking_begun}
 use Rattle.cm_peel.proofs.InRound.{next_few}
 use Rattle.cm_peel.proofs.Listing.{kept_sorted}
-use Rattle.cm_peel.proofs.Pieces.{front_written}
+use Rattle.cm_peel.proofs.Pieces.{front_written, written_back}
 use Rattle.cm_peel.proofs.Settling.{leads_begun}
 use Rattle.cm_peel.proofs.blocks.unlink_by_blocks.Goals as goal
 
@@ -27,24 +27,28 @@ unlink_marked-count-requires g c =
     let p = c.plan_round-plan.ensures in
     let split = c.split_at_mut-room.ensures in
     let front : List ℕ = c.split_at_mut-room.result.0.now in
-    let counts : List ℕ = c.args.counts.now in
+    let l : Links = g.I.Incidence.links c.args.incidence.now in
+    let round : InRound graph c.args.round.before [] l [] c.deref_mut-bytes.result.now = rw c.deref_mut-bytes.ensures.value c.requires.state in
+    let tables : AreTables graph c.deref_mut-counts.result.now c.deref_mut-marks.result.now = rw (c.deref_mut-counts.ensures.value, c.deref_mut-marks.ensures.value) c.requires.tables in
+    let many = ap length c.deref_mut-counts.ensures.value in
+    let blocks : 0 < length c.deref_mut-counts.result.now = omega (arith, c.requires.some, many) in
     let few : length front ≤ 67109056 = omega (arith, split.front_len, c.requires.few) in
-    let fits = fits_for graph c.plan_round-plan.result.size front counts c.args.marks.now p.size few (c.requires.tables.blocks c.requires.some) c.requires.tables.clear in
-    let some : 0 < c.plan_round-plan.result.size = omega (arith, p.size, part_some (length front) (length counts) c.requires.some (omega (arith, split.front_len, c.requires.pairs))) in
-    let state = ready graph c.args.rounds c.plan_round-plan.result.rounds c.plan_round-plan.result.blocks c.plan_round-plan.result.each (g.I.Incidence.links c.args.incidence.now) c.args.marks.now c.args.bytes.now c.clear.new.freed p.rounds c.requires.state c.requires.tables.clear (omega (arith, p.within, c.clear.auto.freed)) (omega (arith, split.back_len, c.clear.auto.freed, c.requires.few)) p.short p.some (omega (arith, p.edges, c.len.ensures.count)) c.clear.ensures.none in (
+    let fits = fits_for graph c.plan_round-plan.result.size front c.deref_mut-counts.result.now c.deref_mut-marks.result.now p.size few (tables.blocks blocks) tables.clear in
+    let some : 0 < c.plan_round-plan.result.size = omega (arith, p.size, part_some (length front) (length c.deref_mut-counts.result.now) blocks (omega (arith, split.front_len, c.requires.pairs, many))) in
+    let state = ready graph c.args.round.before c.plan_round-plan.result.rounds c.plan_round-plan.result.blocks c.plan_round-plan.result.each l c.deref_mut-marks.result.now c.deref_mut-bytes.result.now c.clear.new.freed p.rounds round tables.clear (omega (arith, p.within, c.clear.auto.freed)) (omega (arith, split.back_len, c.clear.auto.freed, c.requires.few)) p.short p.some (omega (arith, p.edges, c.len.ensures.count)) c.clear.ensures.none in (
       search rules,
       (
         c.requires.round ∙ ap (removed_after graph.edges) (sym p.rounds),
         (
-          c.requires.tables.empty,
+          tables.empty,
           (
-            c.requires.tables.clear,
+            tables.clear,
             record {
               small = c.requires.graph;
               early = omega (arith, c.requires.early, p.rounds);
               positive = some;
               space = fits;
-              state = blocks_begun graph c.plan_round-plan.result.rounds c.plan_round-plan.result.size c.plan_round-plan.result.blocks c.plan_round-plan.result.each front counts (g.I.Incidence.links c.args.incidence.now) c.args.marks.now c.args.bytes.now c.clear.new.freed state c.requires.tables.empty;
+              state = blocks_begun graph c.plan_round-plan.result.rounds c.plan_round-plan.result.size c.plan_round-plan.result.blocks c.plan_round-plan.result.each front c.deref_mut-counts.result.now l c.deref_mut-marks.result.now c.deref_mut-bytes.result.now c.clear.new.freed state tables.empty;
             },
           ),
         ),
@@ -59,20 +63,20 @@ pub slice_bounds-list_marked-end : goal.slice_bounds-list_marked-end
 slice_bounds-list_marked-end g c =
     let split = c.split_at_mut-room.ensures in
     let long : length c.unlink_marked-count.new.room + length c.freed-2-1.given.0 ≡ length c.args.list.now = omega (arith, c.unlink_marked-count.auto.room, c.freed-2-1.given.1.0, c.clear.auto.freed, split.front_len, split.back_len) in
-    few_for c.args.edges.now c.args.rounds _ _ _ _ c.unlink_marked-count.new.taking.marks.now c.unlink_marked-count.new.taking.bytes.now c.args.list.now _ _ c.plan_round-plan.ensures.rounds c.unlink_marked-count.ensures.state c.unlink_marked-count.ensures.count c.requires.room long
+    few_for c.args.edges.now c.args.round.before _ _ _ _ c.unlink_marked-count.new.taking.marks.now c.unlink_marked-count.new.taking.bytes.now c.args.list.now _ _ c.plan_round-plan.ensures.rounds c.unlink_marked-count.ensures.state c.unlink_marked-count.ensures.count c.requires.room long
 
 pub slice_bounds-list_marked-end-2 : goal.slice_bounds-list_marked-end-2
 slice_bounds-list_marked-end-2 g c =
     let split = c.split_at_mut-room.ensures in
     let long : length c.unlink_marked-count.new.room + length c.freed-2-1.given.0 ≡ length c.args.list.now = omega (arith, c.unlink_marked-count.auto.room, c.freed-2-1.given.1.0, c.clear.auto.freed, split.front_len, split.back_len) in
-    sym (length-take-le _ (c.unlink_marked-count.new.room ++ c.freed-2-1.given.0) (few_for c.args.edges.now c.args.rounds _ _ _ _ c.unlink_marked-count.new.taking.marks.now c.unlink_marked-count.new.taking.bytes.now c.args.list.now _ _ c.plan_round-plan.ensures.rounds c.unlink_marked-count.ensures.state c.unlink_marked-count.ensures.count c.requires.room long))
+    sym (length-take-le _ (c.unlink_marked-count.new.room ++ c.freed-2-1.given.0) (few_for c.args.edges.now c.args.round.before _ _ _ _ c.unlink_marked-count.new.taking.marks.now c.unlink_marked-count.new.taking.bytes.now c.args.list.now _ _ c.plan_round-plan.ensures.rounds c.unlink_marked-count.ensures.state c.unlink_marked-count.ensures.count c.requires.room long))
 
 pub list_marked-requires-clause-room : goal.list_marked-requires-clause-room
 list_marked-requires-clause-room g c =
     let marks = c.marks-1.given.1.1 (sym c.unlink_marked-count.ensures.taking.marks) in
     let split = c.split_at_mut-room.ensures in
     let long : length c.unlink_marked-count.new.room + length c.freed-2-1.given.0 ≡ length c.args.list.now = omega (arith, c.unlink_marked-count.auto.room, c.freed-2-1.given.1.0, c.clear.auto.freed, split.front_len, split.back_len) in
-    length-take-le _ (c.unlink_marked-count.new.room ++ c.freed-2-1.given.0) (few_for c.args.edges.now c.args.rounds _ _ _ _ c.unlink_marked-count.new.taking.marks.now c.unlink_marked-count.new.taking.bytes.now c.args.list.now _ _ c.plan_round-plan.ensures.rounds c.unlink_marked-count.ensures.state c.unlink_marked-count.ensures.count c.requires.room long) ∙ (sym c.unlink_marked-count.ensures.count ∙ ap (λ (xs : List ℕ). length (marked_of xs)) (sym marks))
+    length-take-le _ (c.unlink_marked-count.new.room ++ c.freed-2-1.given.0) (few_for c.args.edges.now c.args.round.before _ _ _ _ c.unlink_marked-count.new.taking.marks.now c.unlink_marked-count.new.taking.bytes.now c.args.list.now _ _ c.plan_round-plan.ensures.rounds c.unlink_marked-count.ensures.state c.unlink_marked-count.ensures.count c.requires.room long) ∙ (sym c.unlink_marked-count.ensures.count ∙ ap (λ (xs : List ℕ). length (marked_of xs)) (sym marks))
 
 -- the list once the marked edges are written into it
 list_is : (list new kept : List ℕ) (count : ℕ) → count ≤ length list → length new ≡ length (take count list) → new ≡ kept → take count (new ++ drop count list) ≡ kept
@@ -84,17 +88,42 @@ returns-clause-state g c =
     let split = c.split_at_mut-room.ensures in
     let graph : Graph = c.args.edges.now in
     let long : length c.unlink_marked-count.new.room + length c.freed-2-1.given.0 ≡ length c.args.list.now = omega (arith, c.unlink_marked-count.auto.room, c.freed-2-1.given.1.0, c.clear.auto.freed, split.front_len, split.back_len) in
-    let few = few_for graph c.args.rounds _ _ _ _ c.unlink_marked-count.new.taking.marks.now c.unlink_marked-count.new.taking.bytes.now c.args.list.now _ _ c.plan_round-plan.ensures.rounds c.unlink_marked-count.ensures.state c.unlink_marked-count.ensures.count c.requires.room long in
+    let few = few_for graph c.args.round.before _ _ _ _ c.unlink_marked-count.new.taking.marks.now c.unlink_marked-count.new.taking.bytes.now c.args.list.now _ _ c.plan_round-plan.ensures.rounds c.unlink_marked-count.ensures.state c.unlink_marked-count.ensures.count c.requires.room long in
     let list = list_is (c.unlink_marked-count.new.room ++ c.freed-2-1.given.0) c.list_marked.new.list (marked_of c.unlink_marked-count.new.taking.marks.now) _ few c.list_marked.auto.list (c.list_marked.ensures.list ∙ ap (λ (xs : List ℕ). marked_of xs) marks) in
     let bytes = c.bytes-1.given.1.1 (sym c.unlink_marked-count.ensures.taking.bytes) in
-    subst (λ (bs : List ℕ). InRound graph c.args.rounds (other_places graph.edges c.args.round.now) (g.I.Incidence.links c.unlink_marked-count.new.incidence) (take c.unlink_marked-count.result (c.list_marked.new.list ++ drop c.unlink_marked-count.result (c.unlink_marked-count.new.room ++ c.freed-2-1.given.0))) bs) (sym bytes)
-    (subst (λ (xs : List ℕ). InRound graph c.args.rounds (other_places graph.edges c.args.round.now) (g.I.Incidence.links c.unlink_marked-count.new.incidence) xs c.unlink_marked-count.new.taking.bytes.now) (sym list) (subst (λ (n : ℕ). InRound graph n (other_places graph.edges c.args.round.now) (g.I.Incidence.links c.unlink_marked-count.new.incidence) (marked_of c.unlink_marked-count.new.taking.marks.now) c.unlink_marked-count.new.taking.bytes.now) c.plan_round-plan.ensures.rounds c.unlink_marked-count.ensures.state))
+    let old = c.args.tables.now.bytes in
+    let written = written_back c.bytes-1.given.0 old.items old.len old.ok.0 (c.bytes-1.given.1.0 ∙ ap length c.deref_mut-bytes.ensures.value) in
+    rw written
+    (subst (λ (bs : List ℕ). InRound graph c.args.round.before (other_places graph.edges c.args.round.edges.now) (g.I.Incidence.links c.unlink_marked-count.new.incidence) (take c.unlink_marked-count.result (c.list_marked.new.list ++ drop c.unlink_marked-count.result (c.unlink_marked-count.new.room ++ c.freed-2-1.given.0))) bs) (sym bytes)
+    (subst (λ (xs : List ℕ). InRound graph c.args.round.before (other_places graph.edges c.args.round.edges.now) (g.I.Incidence.links c.unlink_marked-count.new.incidence) xs c.unlink_marked-count.new.taking.bytes.now) (sym list) (subst (λ (n : ℕ). InRound graph n (other_places graph.edges c.args.round.edges.now) (g.I.Incidence.links c.unlink_marked-count.new.incidence) (marked_of c.unlink_marked-count.new.taking.marks.now) c.unlink_marked-count.new.taking.bytes.now) c.plan_round-plan.ensures.rounds c.unlink_marked-count.ensures.state)))
 
 pub returns-clause-sorted : goal.returns-clause-sorted
 returns-clause-sorted g c =
     let marks = c.marks-1.given.1.1 (sym c.unlink_marked-count.ensures.taking.marks) in
     let split = c.split_at_mut-room.ensures in
     let long : length c.unlink_marked-count.new.room + length c.freed-2-1.given.0 ≡ length c.args.list.now = omega (arith, c.unlink_marked-count.auto.room, c.freed-2-1.given.1.0, c.clear.auto.freed, split.front_len, split.back_len) in
-    let few = few_for c.args.edges.now c.args.rounds _ _ _ _ c.unlink_marked-count.new.taking.marks.now c.unlink_marked-count.new.taking.bytes.now c.args.list.now _ _ c.plan_round-plan.ensures.rounds c.unlink_marked-count.ensures.state c.unlink_marked-count.ensures.count c.requires.room long in
+    let few = few_for c.args.edges.now c.args.round.before _ _ _ _ c.unlink_marked-count.new.taking.marks.now c.unlink_marked-count.new.taking.bytes.now c.args.list.now _ _ c.plan_round-plan.ensures.rounds c.unlink_marked-count.ensures.state c.unlink_marked-count.ensures.count c.requires.room long in
     let list = list_is (c.unlink_marked-count.new.room ++ c.freed-2-1.given.0) c.list_marked.new.list (marked_of c.unlink_marked-count.new.taking.marks.now) _ few c.list_marked.auto.list (c.list_marked.ensures.list ∙ ap (λ (xs : List ℕ). marked_of xs) marks) in
     subst (λ (xs : List ℕ). IsSorted nat_cmp xs) (sym list) (kept_sorted (is_marked c.unlink_marked-count.new.taking.marks.now) (64 * length c.unlink_marked-count.new.taking.marks.now))
+
+-- the tables after the round
+cleared : (graph : Graph) (counts counts' marks marks' new : List ℕ) → AreTables graph counts marks → length counts' ≡ length counts → AreEmpty counts' → length marks' ≡ length marks → length new ≡ length marks' → new ≡ replicate (length marks') 0 → AreTables graph counts' new
+cleared graph counts counts' marks marks' new old long none many same clear = record {
+  blocks = λ some. omega (arith, old.blocks (omega (arith, some, long)), long);
+  empty = none;
+  clear = record {
+    room = omega (arith, old.clear.room, many, same);
+    fits = omega (arith, old.clear.fits, many, same);
+    clear = clear ∙ ap (λ (n : ℕ). replicate n 0) (sym same);
+  };
+}
+
+pub returns-clause-tables : goal.returns-clause-tables
+returns-clause-tables g c =
+    let old = c.args.tables.now in
+    let long = c.counts-1.given.1.0 ∙ ap length c.deref_mut-counts.ensures.value in
+    let many = c.marks-1.given.1.0 ∙ ap length c.deref_mut-marks.ensures.value in
+    let counts = written_back c.counts-1.given.0 old.counts.items old.counts.len old.counts.ok.0 long in
+    let marks = written_back c.list_marked.new.marks old.marks.items old.marks.len old.marks.ok.0 (c.list_marked.auto.marks ∙ many) in
+    let none = subst (λ (xs : List ℕ). AreEmpty xs) (sym (c.counts-1.given.1.1 (sym c.unlink_marked-count.ensures.taking.counts))) c.unlink_marked-count.ensures.empty in
+    rw (counts, marks) (cleared c.args.edges.now old.counts.items c.counts-1.given.0 old.marks.items c.marks-1.given.0 c.list_marked.new.marks c.requires.tables long none many c.list_marked.auto.marks c.list_marked.ensures.clear)

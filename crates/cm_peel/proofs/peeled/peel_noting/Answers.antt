@@ -3,8 +3,7 @@ use Rattle.std.proofs.Math.Seq.{drop-append_seam, take-append-add}
 use Rattle.std.proofs.lemmas.List.{get_or-replicate, length-replicate, length-take-le, take_all}
 use Rattle.cm_spec.specs.Core.{IsCore}
 use Rattle.cm_spec.specs.Rounds.{left_after, removed_after, order_upto}
-use Rattle.cm_peel.specs.AtRound.{AreFresh, AtRound, IsSmall}
-use Rattle.cm_peel.specs.Waiting.{AreTables}
+use Rattle.cm_peel.specs.AtRound.{AreFresh, IsSmall}
 use Rattle.cm_peel.specs.CoreLaws.{no_length}
 use Rattle.cm_peel.specs.RoundLaws.{length-order}
 use Rattle.cm_peel.specs.CoreLaws as core
@@ -50,11 +49,9 @@ advance-count-requires g c =
     let round = round_is edges t c.rounds.start c.rounds.end c.rounds.order.items _ _ inv.order_is inv.start_is split.front c.deref_mut-in-rounds.ensures.value in
     let early : t < length edges = round_early edges t (omega (arith, c.rounds-test.true, round_long edges t c.rounds.start c.rounds.end inv.start_is inv.end_is)) in
     let room : length (left_after edges (suc t)) + 192 ≤ length c.split_at_mut-done.result.1.now = omega (arith, split.back_len, ap length c.deref_mut-in-rounds.ensures.value, c.rounds.order.ok.0, inv.room, inv.end_is, length-order edges (suc t)) in
-    let state : AtRound c.args.edges.now t (g.I.Incidence.links c.rounds.incidence) c.deref_mut-in-rounds-2.result.now c.deref_mut-in-rounds-3.result.now = rw (c.deref_mut-in-rounds-2.ensures.value, c.deref_mut-in-rounds-3.ensures.value) inv.state in
     let graph : IsSmall g.row.K c.args.edges.now = record { ends = c.len-m.ensures.width.1; fits = inv.fits; edges = c.len-m.ensures.edges } in
-    let tables : AreTables c.args.edges.now c.deref_mut-in-rounds-5.result.now c.deref_mut-in-rounds-4.result.now = rw (c.deref_mut-in-rounds-4.ensures.value, c.deref_mut-in-rounds-5.ensures.value) inv.tables in
     let few : length c.split_at_mut-done.result.1.now ≤ 67109056 = omega (arith, split.back_len, ap length c.deref_mut-in-rounds.ensures.value, c.rounds.order.ok.0, inv.room, inv.fits) in
-    (search rules, (search rules, (graph, (tables, (round, (early, (room, (few, state))))))))
+    (search rules, (search rules, (graph, (inv.tables, (round, (early, (room, (few, inv.state))))))))
 
 pub rounds-smaller : goal.rounds-smaller
 rounds-smaller g c =
@@ -79,10 +76,6 @@ rounds-preserved g c =
     let t : ℕ = c.rounds.rounds in
     let z : t + 1 ≡ suc t = omega arith in
     let split = c.split_at_mut-done.ensures in
-    let levels = written_back c.advance-count.new.levels c.rounds.levels.items c.rounds.levels.len c.rounds.levels.ok.0 (c.advance-count.auto.levels ∙ ap length c.deref_mut-in-rounds-2.ensures.value) in
-    let bytes = written_back c.advance-count.new.bytes c.rounds.bytes.items c.rounds.bytes.len c.rounds.bytes.ok.0 (c.advance-count.auto.bytes ∙ ap length c.deref_mut-in-rounds-3.ensures.value) in
-    let marks = written_back c.advance-count.new.marks c.rounds.marks.items c.rounds.marks.len c.rounds.marks.ok.0 (c.advance-count.auto.marks ∙ ap length c.deref_mut-in-rounds-4.ensures.value) in
-    let counts = written_back c.advance-count.new.counts c.rounds.counts.items c.rounds.counts.len c.rounds.counts.ok.0 (c.advance-count.auto.counts ∙ ap length c.deref_mut-in-rounds-5.ensures.value) in
     let whole : List ℕ = c.split_at_mut-done.result.0.now ++ c.advance-count.new.list in
     let order = written_back whole c.rounds.order.items c.rounds.order.len c.rounds.order.ok.0 (omega (arith, length-append c.split_at_mut-done.result.0.now c.advance-count.new.list, c.advance-count.auto.list, split.front_len, split.back_len, ap length c.deref_mut-in-rounds.ensures.value)) in
     let next = order_next edges t c.rounds.end c.advance-count.result c.rounds.order.items _ _ c.advance-count.new.list _ inv.order_is inv.end_is split.front c.deref_mut-in-rounds.ensures.value order c.advance-count.ensures.list c.advance-count.ensures.within in
@@ -91,15 +84,15 @@ rounds-preserved g c =
     let many : length (removed_after edges t) ≡ c.rounds.end - c.rounds.start = omega (arith, long) in
     let steps = subst (λ (n : ℕ). c.advance-count.new.steps ≤ c.rounds.steps + 3 * (g.row.K * n)) (ap length round ∙ many) c.advance-count.ensures.steps in
     record {
-      state = rw (levels, bytes, z) c.advance-count.ensures.state;
+      state = rw z c.advance-count.ensures.state;
       few = omega (arith, round_early edges t (omega (arith, c.rounds-test.true, long)));
       room = inv.room;
       order_is = rw z next.0;
       start_is = rw z inv.end_is;
       end_is = rw z next.1;
-      long = ap length levels ∙ (c.advance-count.auto.levels ∙ (ap length c.deref_mut-in-rounds-2.ensures.value ∙ inv.long));
+      long = c.advance-count.ensures.levels ∙ inv.long;
       fits = inv.fits;
-      tables = rw (marks, counts) c.advance-count.ensures.tables;
+      tables = c.advance-count.ensures.tables;
       steps = steps_next g.row.K c.args.steps.now c.rounds.steps c.advance-count.new.steps (length edges) c.rounds.start c.rounds.end inv.steps steps (omega (arith, long));
     }
 
@@ -126,13 +119,13 @@ pub returns-clause-peeling : goal.returns-clause-peeling
 returns-clause-peeling g c =
     let inv = c.rounds.invariant in
     let none = none_left c.args.edges.now.edges c.rounds.rounds c.rounds.start c.rounds.end inv.start_is inv.end_is (omega (arith, c.rounds-test.false)) in
-    ended g.row.K c.args.edges.now c.rounds.rounds _ c.truncate.new.self.items c.rounds.levels.items c.rounds.bytes.items c.in_ok-rest.rest.items c.len-m.ensures.width.1 c.len-m.ensures.edges inv.state inv.few none (c.truncate.ensures.items ∙ inv.order_is) c.in_ok-rest.ensures
+    ended g.row.K c.args.edges.now c.rounds.rounds _ c.truncate.new.self.items c.rounds.tables.levels.items c.rounds.tables.bytes.items c.in_ok-rest.rest.items c.len-m.ensures.width.1 c.len-m.ensures.edges inv.state inv.few none (c.truncate.ensures.items ∙ inv.order_is) c.in_ok-rest.ensures
 
 pub returns-clause-levels : goal.returns-clause-levels
 returns-clause-levels g c =
     let inv = c.rounds.invariant in
     let none = none_left c.args.edges.now.edges c.rounds.rounds c.rounds.start c.rounds.end inv.start_is inv.end_is (omega (arith, c.rounds-test.false)) in
-    (inv.long, λ e h. levels_ended c.args.edges.now c.rounds.rounds _ c.rounds.levels.items c.rounds.bytes.items inv.state inv.few none e (omega (arith, inv.long)))
+    (inv.long, λ e h. levels_ended c.args.edges.now c.rounds.rounds _ c.rounds.tables.levels.items c.rounds.tables.bytes.items inv.state inv.few none e (omega (arith, inv.long)))
 
 pub returns-clause-core : goal.returns-clause-core
 returns-clause-core g c = subst (λ (r : List ℕ). IsCore c.args.edges.now.edges r) (sym (returns-clause-peeling g c).rest) (core.rest_is_core c.args.edges.now.edges)
