@@ -1,6 +1,7 @@
 -- From the parts of a build to the whole.
-use Rattle.std.proofs.Common.{◌≡◌, ◌∙◌, ℕ, ◌<◌, List, length, get_or, sym, ap, subst, None, Some, is_some}
+use Rattle.std.proofs.Common.{◌≡◌, ◌∙◌, ℕ, ◌<◌, List, length, get_or, sym, ap, subst, None, Some, is_some, Result, Ok, Err}
 use Rattle.std.specs.Prelude.{slice_index}
+use Rattle.std.specs.Result.{IsErrAnd}
 use Rattle.cm_brz.specs.BrzOf.{AreBuilt, IsBrzOf, bucket_from}
 use Rattle.cm_brz.specs.Fails.{FailsBrz, FailsBuckets, HasBrzForm, HasBuildingForm, HasOverfullForm, IsCoredIn, IsDamage, RefusesOverfull}
 use Rattle.cm_split.specs.Faults.{FailsPassing, HasPassingForm}
@@ -56,6 +57,11 @@ fails_whole told c b split seeds records (Key fault) whole chosen is h = absurd 
 fails_whole told c b split seeds records (Changed first now) whole chosen is h = absurd h
 fails_whole told c b split seeds records SpillFailed whole chosen is h = tt
 fails_whole told c b split seeds records (SpillDamaged offset expected found) whole chosen is h = absurd h
+
+-- a failure that `?` returns is that of the call
+pub returned : {T E : Type 0} (result : Result T E) (fault : E) → IsErrAnd result (λ e. e ≡ fault) → result ≡ Err fault
+returned (Ok x) fault is = absurd is
+returned {T = T} {E = E} (Err e) fault is = ap (λ (x : E). let r : Result T E = Err x in r) is
 
 pub fails_passing : (told : Told) (c b : ℕ) (seeds : List ℕ) (e : BrzFault) → FailsPassing told e → FailsBrz told c b seeds e
 fails_passing told c b seeds Memory h = tt

@@ -16,7 +16,6 @@ ghost use Rattle.cm_io.specs.declared.key_pass.TheConstants.{MAX_KEYS};
 ghost use Rattle.cm_spec.specs.Bdz.{bdz_rule, bdz_size};
 ghost use Rattle.cm_spec.specs.Built.{IsFirst};
 ghost use Rattle.cm_spec.specs.Cells.{is_busy};
-ghost use Rattle.cm_spec.specs.Rule.{IsRatio};
 
 use cm_algorithm::Algorithm;
 use cm_bdz::{BdzScheme, PartsFault};
@@ -106,39 +105,41 @@ fn in_bucket(certificate: Certificate, place: InBucket) -> Certificate
     }
 }
 
-/// Builds the function of a bucket's keys, of which there is one at least. The buffer is scratch space.
+/// Builds the function of the next bucket's keys, of which there is one at least. The buffer is scratch space.
 fn build_bucket<L: Ledger>(
     alloc: Global,
     held: &mut BucketKeys,
     key: &mut KeyBuf,
-    place: InBucket,
-    c: u32,
+    parts: &BrzParts,
     seeds: &[u32],
     steps: &mut Steps<L>,
 ) -> Result<Built<Crumbs>, BrzFault>
-    requires ratio { IsRatio c }
     requires some { 0 < length seeds.now }
     requires keys { 0 < length held.old.keys }
     ensures many { IfOk result (λ b. b.m ≡ length held.old.keys) }
-    ensures made { IfOk result (λ b. bucket_from held.old.keys c seeds.now ≡ Some (record { size = b.m; seed = b.seed; cells = ⟦<Crumbs as Cells>⟧.cells b.cells })) }
-    ensures first { IfOk result (λ b. (t : ℕ) × IsFirst bdz_rule held.old.keys c seeds.now t b.seed) }
-    ensures cells { IfOk result (λ b. length (⟦<Crumbs as Cells>⟧.cells b.cells) ≡ bdz_size b.m c) }
+    ensures made { IfOk result (λ b. bucket_from held.old.keys parts.now.ratio seeds.now ≡ Some (record { size = b.m; seed = b.seed; cells = ⟦<Crumbs as Cells>⟧.cells b.cells })) }
+    ensures first { IfOk result (λ b. (t : ℕ) × IsFirst bdz_rule held.old.keys parts.now.ratio seeds.now t b.seed) }
+    ensures cells { IfOk result (λ b. length (⟦<Crumbs as Cells>⟧.cells b.cells) ≡ bdz_size b.m parts.now.ratio) }
     ensures busy { IfOk result (λ b. count_by (is_busy 3) (⟦<Crumbs as Cells>⟧.cells b.cells) ≡ b.m) }
     ensures steps { steps.new ≤ steps.old + 24 * length held.old.keys * length seeds.now }
-    ensures fault { IfErr result (FailsBucket held.old.keys c seeds.now place) }
+    ensures fault { IfErr result (FailsBucket held.old.keys parts.now.ratio seeds.now (record { split = parts.now.split; bucket = length parts.now.buckets })) }
 {
     match build_with::<BdzScheme, Xored<3>, BucketKeys, 3, L>(
         alloc,
         &BdzScheme {},
         held,
         key,
-        c,
+        parts.c(),
         seeds,
         steps,
     ) {
         Ok(built) => Ok(built),
         Err(BuildFault::Memory) => Err(BrzFault::Memory),
         Err(BuildFault::Cored(certificate)) => {
+            let place = InBucket {
+                split: parts.split(),
+                bucket: parts.len(),
+            };
             Err(BrzFault::Cored(in_bucket(certificate, place)))
         }
         // The keys are in memory: there is one at least, and each pass yields all of them.
@@ -166,27 +167,23 @@ fn push_bucket(parts: &mut BrzParts, size: u32, seed: u32, cells: Crumbs) -> Res
     }
 }
 
-/// Builds the function of a bucket's keys and adds it. A bucket without keys has none. The buffer is scratch space.
+/// Builds the function of the next bucket's keys and adds it. A bucket without keys has none. The buffer is scratch space.
 fn add_bucket<L: Ledger>(
     alloc: Global,
     held: &mut BucketKeys,
     key: &mut KeyBuf,
-    place: InBucket,
-    c: u32,
     seeds: &[u32],
     parts: &mut BrzParts,
     steps: &mut Steps<L>,
 ) -> Result<(), BrzFault>
-    requires ratio { IsRatio c }
     requires some { 0 < length seeds.now }
-    requires same { parts.old.ratio ≡ c }
     requires small { length held.old.keys ≤ MAX_BUCKET }
     requires room { length parts.old.buckets < bucket_count parts.old.keys parts.old.width }
     requires within { keys_in parts.old.buckets + length held.old.keys ≤ parts.old.keys }
     requires all { length parts.old.buckets + 1 ≡ bucket_count parts.old.keys parts.old.width → keys_in parts.old.buckets + length held.old.keys ≡ parts.old.keys }
-    ensures pushed { OnOk result (PushesBucket parts.old parts.new held.old.keys c seeds.now) }
+    ensures pushed { OnOk result (PushesBucket parts.old parts.new held.old.keys parts.old.ratio seeds.now) }
     ensures steps { steps.new ≤ steps.old + 24 * length held.old.keys * length seeds.now }
-    ensures fault { IfErr result (FailsBucket held.old.keys c seeds.now place) }
+    ensures fault { IfErr result (FailsBucket held.old.keys parts.old.ratio seeds.now (record { split = parts.old.split; bucket = length parts.old.buckets })) }
 {
     if held.len() == 0 {
         let cells = Crumbs::zeroed(alloc, 0, 4)?;
@@ -194,7 +191,7 @@ fn add_bucket<L: Ledger>(
         return Ok(());
     }
     held.hash()?;
-    let built = build_bucket(alloc, held, key, place, c, seeds, steps)?;
+    let built = build_bucket(alloc, held, key, parts, seeds, steps)?;
     push_bucket(parts, built.m, built.seed, built.cells)?;
     Ok(())
 }
@@ -217,20 +214,17 @@ pub(crate) fn build_buckets<B: Store, L: Ledger>(
     alloc: Global,
     store: &mut B,
     key: &mut KeyBuf,
-    split: u32,
     sizes: &[u8],
-    c: u32,
     seeds: &[u32],
     parts: &mut BrzParts,
     steps: &mut Steps<L>,
 ) -> Result<(), BrzFault>
-    requires ratio { IsRatio c }
     requires some { 0 < length seeds.now }
     requires store { IsTrue (B.usable store.old) }
     requires sealed { B.sealed store.old ≡ true }
     requires asks { B.may_ask store.old 0 }
     requires none { (j : ℕ) → (B.given store.old j ≡ 0) × (B.given_last store.old j ≡ 0) }
-    requires new { (parts.old.buckets ≡ []) × (parts.old.ratio ≡ c) }
+    requires new { parts.old.buckets ≡ [] }
     requires few { length sizes.now ≤ MAX_KEYS }
     requires count { length sizes.now ≡ bucket_count parts.old.keys parts.old.width }
     requires all { sum sizes.now ≡ parts.old.keys }
@@ -239,17 +233,15 @@ pub(crate) fn build_buckets<B: Store, L: Ledger>(
     ensures cause { HasSpillCause (B.faults store.old) (B.faults store.new) result }
     ensures known { B.known store.new ≡ B.known store.old }
     ensures sealed { OnOk result (B.sealed store.new ≡ true) }
-    ensures built { (records : List Record) → B.holds store.old records → OnOk result (B.holds store.new records × AreBuilt (keys_in_bucket records) c seeds.now parts.new.buckets) }
-    ensures fault { (records : List Record) → B.holds store.old records → HaveSizes records sizes.now (length sizes.now) → IfErr result (FailsBuckets (keys_in_bucket records) (length sizes.now) c split seeds.now) }
+    ensures built { (records : List Record) → B.holds store.old records → OnOk result (B.holds store.new records × AreBuilt (keys_in_bucket records) parts.old.ratio seeds.now parts.new.buckets) }
+    ensures fault { (records : List Record) → B.holds store.old records → HaveSizes records sizes.now (length sizes.now) → IfErr result (FailsBuckets (keys_in_bucket records) (length sizes.now) parts.old.ratio parts.old.split seeds.now) }
     ensures form { IfErr result (HasBuildingForm seeds.now) }
     ensures steps { steps.new ≤ steps.old + 24 * parts.old.keys * length seeds.now }
 {
     let mut held = BucketKeys::new(alloc, first_four(seeds));
     for (j, size) in sizes.iter().enumerate() {
-        let bucket = j as u32;
-        read_bucket(store, bucket, *size as u32, &mut held, key)?;
-        let place = InBucket { split, bucket };
-        add_bucket(alloc, &mut held, key, place, c, seeds, parts, steps)?;
+        read_bucket(store, j as u32, *size as u32, &mut held, key)?;
+        add_bucket(alloc, &mut held, key, seeds, parts, steps)?;
     }
     Ok(())
 }

@@ -109,54 +109,6 @@ fn split_keys<P: KeyPass>(
     }
 }
 
-/// `brz_over` of keys that were counted. The buffer is scratch space.
-fn brz_counted<P: KeyPass, B: Store, L: Ledger>(
-    alloc: Global,
-    keys: &mut P,
-    key: &mut KeyBuf,
-    store: &mut B,
-    m: u32,
-    c: u32,
-    b: u8,
-    seeds: &[u32],
-    steps: &mut Steps<L>,
-) -> Result<Brz, BrzFault>
-    requires many { (1 ≤ m) × (m ≤ MAX_KEYS) }
-    requires ratio { IsRatio c }
-    requires width { (MIN_WIDTH ≤ b) × (b ≤ MAX_WIDTH) }
-    requires some { 0 < length seeds.now }
-    requires store { IsTrue (B.usable store.old) }
-    requires open { B.sealed store.old ≡ false }
-    requires new { B.put_last store.old ≡ 0 }
-    requires counted { ForSome (P.told keys.old) (AreCounted m) }
-    ensures told { P.told keys.new ≡ P.told keys.old }
-    ensures keys_cause { HasKeysCause (P.faults keys.old) (P.faults keys.new) result }
-    ensures spill_cause { HasSpillCause (B.faults store.old) (B.faults store.new) result }
-    ensures known { B.known store.new ≡ B.known store.old }
-    ensures sealed { OnOk result (B.sealed store.new ≡ true) }
-    ensures numbers { IfOk result (λ f. (f.ratio ≡ c) × (f.width ≡ b) × Contains seeds.now f.split) }
-    ensures made { B.holds store.old [] → IfOk result (λ f. ForSome (P.told keys.old) (λ told. IsBrzOf told.keys c b seeds.now f)) }
-    ensures put { B.holds store.old [] → IfOk result (λ f. ForSome (P.told keys.old) (λ told. B.holds store.new (records_under told.keys (length f.buckets) f.split))) }
-    ensures fault { B.holds store.old [] → IfErr result (λ e. ForSome (P.told keys.old) (λ told. FailsBrz told c b seeds.now e)) }
-    ensures undamaged { B.holds store.old [] → IfErr result (λ e. IsDamage e → ⊥) }
-    ensures form { IfErr result (HasBrzForm seeds.now) }
-    ensures steps { steps.new ≤ steps.old + 24 * m * length seeds.now }
-{
-    let splitting = match split_keys(alloc, keys, key, m, b, seeds) {
-        Ok(splitting) => splitting,
-        Err(fault) => return Err(fault),
-    };
-    put_all(alloc, keys, key, m, &splitting, store)?;
-    let mut parts = BrzParts::new(alloc, m, c, b, splitting.split.seed);
-    parts.expect_all();
-    let split = splitting.split.seed;
-    let sizes: &[u8] = &splitting.sizes;
-    match build_buckets(alloc, store, key, split, sizes, c, seeds, &mut parts, steps) {
-        Ok(()) => Ok(parts.finish()),
-        Err(fault) => Err(fault),
-    }
-}
-
 /// The function by BRZ of the keys of a pass. The first seed of the list under which no bucket has more than `MAX_BUCKET` keys splits
 /// them into buckets of `b` on average. Each bucket takes the first seed of the list whose graph by BDZ has an empty 2-core. The ratio
 /// `c` is in millionths. The keys wait for their buckets in the store, which is new. They are passed once to be counted, once for each
@@ -194,8 +146,11 @@ pub(crate) fn brz_over<P: KeyPass, B: Store, L: Ledger>(
     if m == 0 {
         return Err(BrzFault::NoKeys);
     }
-    match brz_counted(alloc, keys, &mut key, store, m, c, b, seeds, steps) {
-        Ok(function) => Ok(function),
-        Err(fault) => Err(fault),
-    }
+    let splitting = split_keys(alloc, keys, &mut key, m, b, seeds)?;
+    put_all(alloc, keys, &mut key, m, &splitting, store)?;
+    let mut parts = BrzParts::new(alloc, m, c, b, splitting.split.seed);
+    parts.expect_all();
+    let sizes: &[u8] = &splitting.sizes;
+    build_buckets(alloc, store, &mut key, sizes, seeds, &mut parts, steps)?;
+    Ok(parts.finish())
 }

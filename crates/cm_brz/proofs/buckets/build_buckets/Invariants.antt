@@ -20,5 +20,5 @@ invariant-loop-j g l =
       held : keys_in l.parts.buckets ≡ sum (take l.j l.sizes);
       steps : l.steps ≤ l.fn.steps + 24 * sum (take l.j l.sizes) * length l.seeds;
       holds : (records : List Record) → B.holds l.fn.store records → B.holds l.store records;
-      built : (records : List Record) → B.holds l.fn.store records → AreBuilt (keys_in_bucket records) l.c l.seeds l.parts.buckets;
+      built : (records : List Record) → B.holds l.fn.store records → AreBuilt (keys_in_bucket records) l.fn.parts.ratio l.seeds l.parts.buckets;
     }
