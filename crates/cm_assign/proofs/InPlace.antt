@@ -41,21 +41,38 @@ pub length-one_by_one : (p : Plan) (before es : List ℕ) → length (one_by_one
 length-one_by_one p before [] = refl
 length-one_by_one p before (e ∷ es) = length-set _ _ _ ∙ length-one_by_one p before es
 
--- edges none of which has the pivot of another: the order does not matter
-pub at_once_is : (p : Plan) (before es : List ℕ) → Rises 0 es → ((e f : ℕ) → has es e ≡ true → has es f ≡ true → f ≢ e → has (ends_at p.edges f) (pivot_vertex p.edges e) ≡ false) → one_by_one p before es ≡ at_once p before es
-at_once_is p before es r apart = go 0 es r apart where
-  go : (low : ℕ) (es : List ℕ) → Rises low es → ((e f : ℕ) → has es e ≡ true → has es f ≡ true → f ≢ e → has (ends_at p.edges f) (pivot_vertex p.edges e) ≡ false) → one_by_one p before es ≡ at_once p before es
-  go low [] r apart = refl
-  go low (e ∷ es) r apart =
-      let rest : one_by_one p before es ≡ at_once p before es = go (suc e) es r.1 (λ a b m n ne. apart a b (or_right (eqb e a) (has es a) m) (or_right (eqb e b) (has es b) n) ne) in
-      let same : value_at p (one_by_one p before es) e ≡ value_at p before e = value_same p (one_by_one p before es) before e (λ u m ne. kept p before es u (λ f n s.
-      let other : e ≢ f = λ d. both_ways _ (rises_below (suc e) f es r.1 (let d' : e ≡ f = d in omega arith)) n in
-      both_ways _ (apart f e (or_right (eqb e f) (has es f) n) (or_left _ _ (eq-eqb e e refl)) other) (subst (λ w. has (ends_at p.edges e) w ≡ true) (sym s) m))) in
-      ap (λ c. set c (pivot_vertex p.edges e) (value_at p (one_by_one p before es) e)) rest ∙ ap (λ x. set (at_once p before es) (pivot_vertex p.edges e) x) same
+-- no number stands twice in a list
+abbrev pub AreDistinct : List ℕ → Type 0
+AreDistinct [] = Unit {0}
+AreDistinct (x ∷ xs) = (has xs x ≡ false) × AreDistinct xs
 
--- one round
+-- no edge has the vertex at the pivot of a later one as an end
+abbrev pub AreFree : List (List ℕ) → List ℕ → Type 0
+AreFree edges [] = Unit {0}
+AreFree edges (e ∷ es) = ((f : ℕ) → has es f ≡ true → has (ends_at edges e) (pivot_vertex edges f) ≡ false) × AreFree edges es
+
+-- then each value may be taken from the cells before all of them
+pub at_once_is : (p : Plan) (before es : List ℕ) → AreFree p.edges es → one_by_one p before es ≡ at_once p before es
+at_once_is p before [] free = refl
+at_once_is p before (e ∷ es) free =
+    let same : value_at p (one_by_one p before es) e ≡ value_at p before e = value_same p (one_by_one p before es) before e (λ u m ne. kept p before es u (λ f n s.
+    both_ways _ (free.0 f n) (subst (λ w. has (ends_at p.edges e) w ≡ true) (sym s) m))) in
+    ap (λ c. set c (pivot_vertex p.edges e) (value_at p (one_by_one p before es) e)) (at_once_is p before es free.1) ∙ ap (λ x. set (at_once p before es) (pivot_vertex p.edges e) x) same
+
+-- so it is with edges of one round
+pub free_round : (edges : List (List ℕ)) (t : ℕ) (es : List ℕ) → ((e : ℕ) → has es e ≡ true → has (removed_after edges t) e ≡ true) → AreDistinct es → AreFree edges es
+free_round edges t [] within distinct = tt
+free_round edges t (e ∷ es) within distinct = (
+  λ f m. alone edges t f e (within f (or_right (eqb e f) (has es f) m)) (removed_is_left edges t e (within e (or_left _ _ (eq-eqb e e refl)))) (λ s. both_ways _ distinct.0 (subst (λ x. has es x ≡ true) (sym s) m)),
+  free_round edges t es (λ f m. within f (or_right (eqb e f) (has es f) m)) distinct.1,
+)
+
+rises_distinct : (low : ℕ) (es : List ℕ) → Rises low es → AreDistinct es
+rises_distinct low [] r = tt
+rises_distinct low (e ∷ es) r = (rises_below (suc e) e es r.1 (omega arith), rises_distinct (suc e) es r.1)
+
 pub round_is : (p : Plan) (before : List ℕ) (t : ℕ) → one_by_one p before (removed_after p.edges t) ≡ at_once p before (removed_after p.edges t)
-round_is p before t = at_once_is p before (removed_after p.edges t) (removed_rises p.edges t) (λ e f m n ne. alone p.edges t e f m (removed_is_left p.edges t f n) ne)
+round_is p before t = at_once_is p before (removed_after p.edges t) (free_round p.edges t (removed_after p.edges t) (λ e m. m) (rises_distinct 0 (removed_after p.edges t) (removed_rises p.edges t)))
 
 -- the edges of d rounds from the one after t rounds on
 abbrev pub rounds : List (List ℕ) → ℕ → ℕ → List ℕ

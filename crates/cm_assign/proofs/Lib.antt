@@ -1,4 +1,5 @@
 pub mod Alone
 pub mod Completing
 pub mod InPlace
+pub mod OneRound
 pub mod Solving

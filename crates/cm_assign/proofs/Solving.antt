@@ -4,7 +4,7 @@ use Rattle.std.specs.List.{All, AllPairs, sum_by, count_by}
 use Rattle.std.proofs.lemmas.Bool.{both_ways, cases_Bool, cases_eq, eqb-true, eq-eqb, ne_eqb, or_cases, or_left, or_right, false≢true}
 use Rattle.std.proofs.lemmas.List.Sums.{sum_by-cons, sum_by-set}
 use Rattle.std.proofs.lemmas.List.Folds.{list_any-append, Any-from_list_any, sum_by-replicate}
-use Rattle.std.proofs.lemmas.List.{drop-drop, take-append-drop, get_or-set_same, get_or-set_other, get_or-replicate, length-replicate}
+use Rattle.std.proofs.lemmas.List.{drop-drop, take-append-drop, get_or-map, length-map, get_or-set_same, get_or-set_other, get_or-replicate, length-replicate}
 use Rattle.std.proofs.lemmas.Nat.{mod_below}
 use Rattle.std.proofs.Math.Nat.{mod-eq_of_lt, div-add-mod, add-mul-mod_self_left, mul-add}
 use Rattle.cm_spec.specs.Graph.{ends_at}
@@ -15,10 +15,10 @@ use Rattle.cm_peel.specs.CoreLaws.{left_after-zero, left_after-suc}
 use Rattle.cm_peel.specs.RoundLaws.{removed_rises, removed_is_left, has_place, has_removed, length-order}
 use Rattle.cm_spec.specs.Graph.{AreEdges}
 use Rattle.cm_assign.specs.OneByOne.{one_by_one}
-use Rattle.cm_spec.specs.Cells.{plan_of, Plan, pivot_vertex, cell_but, sum_but, completing, value_at, cells_of, all_idle, is_busy, AreSolved}
+use Rattle.cm_spec.specs.Cells.{plan_of, Plan, pivot_vertex, cell_but, sum_but, completing, value_at, at_once, cells_of, all_idle, is_busy, AreSolved}
 use Rattle.cm_spec.specs.Rule.{Rule, IsRule, IsCount}
 use Rattle.cm_assign.proofs.Alone.{alone, left_before, removed_not_left, removed_place, removed_level, pivot_at}
-use Rattle.cm_assign.proofs.InPlace.{kept, length-one_by_one, one_by_one-append, rounds, rounds_are, sum_by-agree, cells_are}
+use Rattle.cm_assign.proofs.InPlace.{AreDistinct, kept, length-one_by_one, one_by_one-append, rounds, rounds_are, sum_by-agree, cells_are}
 
 -- an edge that some round removes
 pub record IsRemoved (edges : List (List ℕ)) (e : ℕ) : Type 0 where
@@ -32,12 +32,16 @@ removed_is edges t e h =
     let p = pivot_at edges t e h in
     record { place = removed_place edges t e h; level = omega (arith, removed_level edges t e h); within = p.within; touching = p.touching }
 
-pub order_removed : (edges : List (List ℕ)) (t e : ℕ) → has (order_upto edges t) e ≡ true → IsRemoved edges e
-order_removed edges zero e h = absurd (false≢true h)
-order_removed edges (suc t) e h = go (or_cases (has (order_upto edges t) e) (has (removed_after edges t) e) (sym (list_any-append (λ x. eqb x e) (order_upto edges t) (removed_after edges t)) ∙ h)) (order_removed edges t e) where
-  go : (has (order_upto edges t) e ≡ true) ⊎ (has (removed_after edges t) e ≡ true) → (has (order_upto edges t) e ≡ true → IsRemoved edges e) → IsRemoved edges e
+-- the round of an edge in the order
+pub in_round : (edges : List (List ℕ)) (t e : ℕ) → has (order_upto edges t) e ≡ true → (u : ℕ) × (has (removed_after edges u) e ≡ true)
+in_round edges zero e h = absurd (false≢true h)
+in_round edges (suc t) e h = go (or_cases (has (order_upto edges t) e) (has (removed_after edges t) e) (sym (list_any-append (λ x. eqb x e) (order_upto edges t) (removed_after edges t)) ∙ h)) (in_round edges t e) where
+  go : (has (order_upto edges t) e ≡ true) ⊎ (has (removed_after edges t) e ≡ true) → (has (order_upto edges t) e ≡ true → (u : ℕ) × (has (removed_after edges u) e ≡ true)) → (u : ℕ) × (has (removed_after edges u) e ≡ true)
   go (inl before) ih = ih before
-  go (inr now) ih = removed_is edges t e now
+  go (inr now) ih = (t, now)
+
+pub order_removed : (edges : List (List ℕ)) (t e : ℕ) → has (order_upto edges t) e ≡ true → IsRemoved edges e
+order_removed edges t e h = let r = in_round edges t e h in removed_is edges r.0 e r.1
 
 has_at : (xs : List ℕ) (i : ℕ) → i < length xs → has xs (get_or xs i 0) ≡ true
 has_at [] i h = absurd (omega arith)
@@ -120,11 +124,7 @@ pivots_apart : (edges : List (List ℕ)) (e f : ℕ) → has (order_of edges) e 
 pivots_apart edges = apart_in edges (order_of edges) (apart-order edges) (λ e m. (order_removed edges (length edges) e m).touching)
 
 -- sums
-abbrev pub Distinct : List ℕ → Type 0
-Distinct [] = Unit {0}
-Distinct (x ∷ xs) = (has xs x ≡ false) × Distinct xs
-
-pub distinct-from : (xs : List ℕ) → AllPairs (λ u v. u ≢ v) xs → Distinct xs
+pub distinct-from : (xs : List ℕ) → AllPairs (λ u v. u ≢ v) xs → AreDistinct xs
 distinct-from [] h = tt
 distinct-from (x ∷ xs) h = (go (cases_Bool (has xs x)), distinct-from xs (λ i j d l m. h (suc i) (suc j) d (omega arith) (omega arith))) where
   go : (has xs x ≡ true) ⊎ (has xs x ≡ false) → has xs x ≡ false
@@ -140,7 +140,7 @@ sum_without cells ends v h = sum_by-agree (cell_but cells v) (λ u. get_or cells
   go u m (inl same) = absurd (both_ways _ h (subst (λ w. has ends w ≡ true) same m))
   go u m (inr other) = let f : eqb u v ≡ false = ne_eqb _ _ other in rw f refl
 
-pub sum_split : (cells ends : List ℕ) (v : ℕ) → Distinct ends → has ends v ≡ true → sum_by (λ u. get_or cells u 0) ends ≡ get_or cells v 0 + sum_but cells v ends
+pub sum_split : (cells ends : List ℕ) (v : ℕ) → AreDistinct ends → has ends v ≡ true → sum_by (λ u. get_or cells u 0) ends ≡ get_or cells v 0 + sum_but cells v ends
 sum_split cells [] v d m = absurd (false≢true m)
 sum_split cells (x ∷ xs) v d m = go (cases_eq x v) (sum_split cells xs v d.1) where
   go : (x ≡ v) ⊎ (x ≡ v → ⊥) → (has xs v ≡ true → sum_by (λ u. get_or cells u 0) xs ≡ get_or cells v 0 + sum_but cells v xs) → sum_by (λ u. get_or cells u 0) (x ∷ xs) ≡ get_or cells v 0 + sum_but cells v (x ∷ xs)
@@ -181,7 +181,7 @@ pub record Solves (p : Plan) (es cells : List ℕ) : Type 0 where
 pub record IsFit (p : Plan) (e : ℕ) : Type 0 where
   pub touching : has (ends_at p.edges e) (pivot_vertex p.edges e) ≡ true
   pub within : pivot_vertex p.edges e < p.vertices
-  pub distinct : Distinct (ends_at p.edges e)
+  pub distinct : AreDistinct (ends_at p.edges e)
   pub target : p.target e < p.modulus
 
 untouched : (cells ends : List ℕ) (v x : ℕ) → has ends v ≡ false → sum_by (λ u. get_or (set cells v x) u 0) ends ≡ sum_by (λ u. get_or cells u 0) ends
@@ -291,29 +291,46 @@ map_agree f g [] h = refl
 map_agree f g (x ∷ xs) h =
     ap (λ y. y ∷ map f xs) (h 0 0 (omega arith)) ∙ ap (λ ys. g x ∷ ys) (map_agree f g xs (λ k d low. h (suc k) d (omega arith)))
 
+-- an element of a list that is made of another
+pub at_place : {Y : Type 0} (f : ℕ → Y) (xs : List ℕ) (ys : List Y) (i : ℕ) (d : Y) → ys ≡ map f xs → i < length ys → get_or ys i d ≡ f (get_or xs i 0)
+at_place f xs ys i d is h =
+    let long : length ys ≡ length xs = ap length is ∙ length-map xs f in
+    ap (λ zs. get_or zs i d) is ∙ get_or-map f xs i 0 d (omega arith)
+
 -- the loops
 pub drop_one : (xs : List ℕ) (i : ℕ) → i < length xs → drop i xs ≡ get_or xs i 0 ∷ drop (suc i) xs
 drop_one [] i h = absurd (omega arith)
 drop_one (x ∷ xs) zero h = refl
 drop_one (x ∷ xs) (suc i) h = drop_one xs i (omega arith)
 
-pub settle_step : (p : Plan) (before cells new es ends : List ℕ) (i position target modulus : ℕ) → cells ≡ one_by_one p before (drop i es)
-    → new ≡ set cells (get_or ends position 0) (completing modulus target (sum_but cells (get_or ends position 0) ends))
-    → ends ≡ ends_at p.edges (get_or es (i - 1) 0) → position ≡ pivot_of p.edges (get_or es (i - 1) 0) → target ≡ p.target (get_or es (i - 1) 0) → modulus ≡ p.modulus → 0 < i → i ≤ length es
-    → new ≡ one_by_one p before (drop (i - 1) es)
-settle_step p before cells new es ends zero position target modulus h n en po ta mo some within = absurd (omega arith)
-settle_step p before cells new es ends (suc i) position target modulus h n en po ta mo some within =
-    let less : suc i - 1 ≡ i = omega arith in
+-- the cell of an edge is set to its value in the cells that were read
+set_is : (p : Plan) (read cells new : List ℕ) (e : ℕ) (ends : List ℕ) (position target modulus sum : ℕ) → new ≡ set cells (get_or ends position 0) (completing modulus target sum) → sum ≡ sum_but read (get_or ends position 0) ends
+    → ends ≡ ends_at p.edges e → position ≡ pivot_of p.edges e → target ≡ p.target e → modulus ≡ p.modulus → new ≡ set cells (pivot_vertex p.edges e) (value_at p read e)
+set_is p read cells new e ends position target modulus sum n is en po ta mo =
+    let at : get_or ends position 0 ≡ pivot_vertex p.edges e = ap (λ xs. get_or xs position 0) en ∙ ap (λ k. get_or (ends_at p.edges e) k 0) po in
+    n ∙ (ap (λ k. set cells k (completing modulus target sum)) at
+    ∙ ap (λ x. set cells (pivot_vertex p.edges e) x) (ap (λ k. completing k target sum) mo ∙ (ap (λ k. completing p.modulus k sum) ta
+    ∙ ap (completing p.modulus (p.target e)) (is ∙ (ap (λ k. sum_but read k ends) at ∙ ap (sum_but read (pivot_vertex p.edges e)) en)))))
+
+pub settle_step : (p : Plan) (before cells new es ends : List ℕ) (i position target modulus sum : ℕ) → cells ≡ one_by_one p before (drop (suc i) es)
+    → new ≡ set cells (get_or ends position 0) (completing modulus target sum) → sum ≡ sum_but cells (get_or ends position 0) ends
+    → ends ≡ ends_at p.edges (get_or es i 0) → position ≡ pivot_of p.edges (get_or es i 0) → target ≡ p.target (get_or es i 0) → modulus ≡ p.modulus → i < length es
+    → new ≡ one_by_one p before (drop i es)
+settle_step p before cells new es ends i position target modulus sum h n is en po ta mo within =
     let e : ℕ = get_or es i 0 in
-    let e_is : get_or es (suc i - 1) 0 ≡ e = ap (λ k. get_or es k 0) less in
-    let same : ends ≡ ends_at p.edges e = en ∙ ap (ends_at p.edges) e_is in
-    let at : get_or ends position 0 ≡ pivot_vertex p.edges e = ap (λ xs. get_or xs position 0) same ∙ ap (λ k. get_or (ends_at p.edges e) k 0) (po ∙ ap (pivot_of p.edges) e_is) in
-    let value : completing modulus target (sum_but cells (get_or ends position 0) ends) ≡ value_at p cells e =
-    ap (λ k. completing k target (sum_but cells (get_or ends position 0) ends)) mo ∙ (ap (λ k. completing p.modulus k (sum_but cells (get_or ends position 0) ends)) (ta ∙ ap p.target e_is)
-    ∙ (ap (λ k. completing p.modulus (p.target e) (sum_but cells k ends)) at ∙ ap (λ xs. completing p.modulus (p.target e) (sum_but cells (pivot_vertex p.edges e) xs)) same)) in
-    n ∙ (ap (λ k. set cells k (completing modulus target (sum_but cells (get_or ends position 0) ends))) at ∙ (ap (λ x. set cells (pivot_vertex p.edges e) x) value
+    set_is p cells cells new e ends position target modulus sum n is en po ta mo
     ∙ (ap (λ c. set c (pivot_vertex p.edges e) (value_at p c e)) h
-    ∙ (ap (one_by_one p before) (sym (drop_one es i (omega arith))) ∙ ap (λ k. one_by_one p before (drop k es)) (sym less)))))
+    ∙ ap (one_by_one p before) (sym (drop_one es i within)))
+
+pub set_step : (p : Plan) (before cells new es ends : List ℕ) (i position target modulus sum : ℕ) → cells ≡ at_once p before (drop (suc i) es)
+    → new ≡ set cells (get_or ends position 0) (completing modulus target sum) → sum ≡ sum_but before (get_or ends position 0) ends
+    → ends ≡ ends_at p.edges (get_or es i 0) → position ≡ pivot_of p.edges (get_or es i 0) → target ≡ p.target (get_or es i 0) → modulus ≡ p.modulus → i < length es
+    → new ≡ at_once p before (drop i es)
+set_step p before cells new es ends i position target modulus sum h n is en po ta mo within =
+    let e : ℕ = get_or es i 0 in
+    set_is p before cells new e ends position target modulus sum n is en po ta mo
+    ∙ (ap (λ c. set c (pivot_vertex p.edges e) (value_at p before e)) h
+    ∙ ap (at_once p before) (sym (drop_one es i within)))
 
 -- one more chunk
 pub chunk_step : (p : Plan) (before cells new order : List ℕ) (at n : ℕ) → cells ≡ one_by_one p before (drop (at + n) order) → new ≡ one_by_one p cells (take n (drop at order)) → new ≡ one_by_one p before (drop at order)

@@ -1,5 +1,5 @@
 -- What holds when a round would remove nothing.
-use Rattle.std.proofs.Common.{◌≡◌, ◌⊎◌, ℕ, zero, suc, ◌+◌, ◌-◌, ◌*◌, ◌%◌, ◌<◌, ◌≤◌, Bool, true, false, cond, leb, not, ltb, ◌&&◌, List, [], ◌∷◌, ◌++◌, length, get_or, map, sym, refl, ap, ◌∙◌, inl, inr, arith, append-nil}
+use Rattle.std.proofs.Common.{◌≡◌, ◌⊎◌, ℕ, zero, suc, ◌+◌, ◌-◌, ◌*◌, ◌/◌, ◌%◌, ◌<◌, ◌≤◌, Bool, true, false, cond, leb, not, ltb, ◌&&◌, List, [], ◌∷◌, ◌++◌, length, get_or, map, sym, refl, ap, ◌∙◌, inl, inr, arith, append-nil}
 use Rattle.std.specs.List.{filter, list_all}
 use Rattle.std.proofs.lemmas.Bool.{cases_Bool, cases_lt, and_from, cond-true, cond-false, le-leb, le-ltb, lt-leb, lt-ltb}
 use Rattle.std.proofs.Math.Nat.{mul-le-mul_left}
@@ -10,23 +10,11 @@ use Rattle.cm_spec.specs.Graph.{AreEdges, places}
 use Rattle.cm_spec.specs.Rounds.{is_left, is_held, left_after, removed_after, rest_of, level_of, pivot_of, order_upto, order_of}
 use Rattle.cm_edges.specs.Graph.{Graph, Links}
 use Rattle.cm_peel.specs.AtRound.{AtRound, byte_of}
-use Rattle.cm_peel.specs.Peeling.{IsPeelingOf, levels_of, is_taken, pivots_in, untaken_of}
+use Rattle.cm_peel.specs.Peeling.{IsPeelingOf, levels_of, is_taken, parities_in, pivots_in, untaken_of}
 use Rattle.cm_peel.proofs.Unlinking.{pivot_small}
 use Rattle.cm_peel.specs.SetLaws.{filter_agree_on}
 use Rattle.cm_peel.specs.CoreLaws.{left_after_is, IsStable, stable_stays, stable_next}
-use Rattle.cm_peel.specs.RoundLaws.{has_left_from, place_below, length-order}
-
-pub passes_all : (p : ℕ → Bool) (xs : List ℕ) → filter (λ e. not (p e)) xs ≡ [] → list_all p xs ≡ true
-passes_all p [] h = refl
-passes_all p (x ∷ xs) h = go (p x) refl (passes_all p xs) where
-  go : (b : Bool) → p x ≡ b → (filter (λ e. not (p e)) xs ≡ [] → list_all p xs ≡ true) → (p x && list_all p xs) ≡ true
-  go true is ih = and_from _ _ is (ih (sym (ap (λ b. cond (not b) (x ∷ filter (λ e. not (p e)) xs) (filter (λ e. not (p e)) xs)) is) ∙ h))
-  go false is ih =
-      let e : x ∷ filter (λ e. not (p e)) xs ≡ [] = sym (ap (λ b. cond (not b) (x ∷ filter (λ e. not (p e)) xs) (filter (λ e. not (p e)) xs)) is) ∙ h in
-      cc
-
-pub stable_at : (edges : List (List ℕ)) (t : ℕ) → removed_after edges t ≡ [] → IsStable edges t
-stable_at edges t none = passes_all (is_held edges (left_after edges t)) (left_after edges t) none
+use Rattle.cm_peel.specs.RoundLaws.{has_left_from, place_below, stable_at, removed_same, length-order}
 
 -- d rounds later nothing has changed
 pub stable_later : (edges : List (List ℕ)) (t d : ℕ) → IsStable edges t → (left_after edges (d + t) ≡ left_after edges t) × IsStable edges (d + t)
@@ -35,9 +23,6 @@ stable_later edges t (suc d) s =
     let ih = stable_later edges t d s in
     let z : suc d + t ≡ suc (d + t) = omega arith in
     (ap (left_after edges) z ∙ (stable_stays edges (d + t) ih.1 ∙ ih.0), rw z (stable_next edges (d + t) ih.1))
-
-pub removed_same : (edges : List (List ℕ)) (t k : ℕ) → left_after edges k ≡ left_after edges t → removed_after edges k ≡ removed_after edges t
-removed_same edges t k same = ap (λ (s : List ℕ). filter (λ e. not (is_held edges s e)) s) same
 
 pub order_later : (edges : List (List ℕ)) (t d : ℕ) → removed_after edges t ≡ [] → order_upto edges (d + t) ≡ order_upto edges t
 order_later edges t zero none = let z : 0 + t ≡ t = omega arith in ap (order_upto edges) z
@@ -88,11 +73,13 @@ pub untaken_many : (graph : Graph) (t : ℕ) (l : Links) (levels bytes : List �
 untaken_many graph t l levels bytes a = omega (arith, length-order graph.edges (suc t), ap length (untaken_are graph t l levels bytes a))
 
 pub ended : (k : ℕ) (graph : Graph) (t : ℕ) (l : Links) (order levels bytes rest : List ℕ) → k ≤ 3 → AreEdges k graph.vertices graph.edges → AtRound graph t l levels bytes → t ≤ length graph.edges → removed_after graph.edges t ≡ [] → order ≡ order_upto graph.edges (suc t) → rest ≡ untaken_of bytes
-    → IsPeelingOf graph.edges (record { order = order; levels = levels; pivots = pivots_in bytes; rest = rest })
+    → IsPeelingOf graph.edges (record { order = order; levels = levels; pivots = pivots_in bytes; parities = parities_in bytes; rest = rest })
 ended k graph t l order levels bytes rest small are a few none order_are rest_are = record {
   order = order_are ∙ (ap (λ (xs : List ℕ). order_upto edges t ++ xs) none ∙ (append-nil _ ∙ sym (order_is edges t few none)));
   pivot = λ e h above. pivot e h (a.round.byte e h (gone e h above (cases_Bool (is_left edges (suc t) e))));
   pivots_long = length-map bytes (λ b. b % 4) ∙ a.round.bytes_long;
+  parity = λ e h above. parity e h (a.round.byte e h (gone e h above (cases_Bool (is_left edges (suc t) e))));
+  parities_long = length-map bytes (λ b. b / 4 % 2) ∙ a.round.bytes_long;
   rest = rest_are ∙ (untaken_are graph t l levels bytes a ∙ sym (rest_now edges t few none));
 } where
   edges : List (List ℕ)
@@ -104,6 +91,13 @@ ended k graph t l order levels bytes rest small are a few none order_are rest_ar
       let small_pivot : pivot_of edges e ≤ 3 = pivot_small k graph e small are h in
       let whole : get_or bytes e 0 ≡ 4 * tag + pivot_of edges e = is in
       get_or-map (λ b. b % 4) bytes e 0 0 (omega (arith, a.round.bytes_long)) ∙ omega (arith, whole, small_pivot)
+
+  parity : (e : ℕ) → e < length graph.edges → get_or bytes e 0 ≡ byte_of graph.edges e → get_or (map (λ b. b / 4 % 2) bytes) e 0 ≡ (level_of graph.edges e - 1) % 2
+  parity e h is =
+      let tag : ℕ = (level_of edges e - 1) % 2 in
+      let small_pivot : pivot_of edges e ≤ 3 = pivot_small k graph e small are h in
+      let whole : get_or bytes e 0 ≡ 4 * tag + pivot_of edges e = is in
+      get_or-map (λ b. b / 4 % 2) bytes e 0 0 (omega (arith, a.round.bytes_long)) ∙ omega (arith, whole, small_pivot)
 
   gone : (e : ℕ) → e < length graph.edges → 0 < level_of graph.edges e → (is_left graph.edges (suc t) e ≡ true) ⊎ (is_left graph.edges (suc t) e ≡ false) → is_left graph.edges (suc t) e ≡ false
   gone e h above (inl here) =

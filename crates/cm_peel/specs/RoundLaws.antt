@@ -7,7 +7,7 @@ use Rattle.cm_spec.specs.Lists.{has}
 use Rattle.cm_spec.specs.Graph.{touches, places, ends_at, degree_in}
 use Rattle.cm_spec.specs.Rounds.{is_left, is_held, left_after, rest_of, removed_after, level_of, order_upto}
 use Rattle.cm_peel.specs.SetLaws.{has-filter, Rises, Rises-filter, has-numbers, has-numbers_high, length-numbers, count_by_some, get_or-numbers}
-use Rattle.cm_peel.specs.CoreLaws.{left_after-zero, left_after-suc, left_after_is, left_after_rises}
+use Rattle.cm_peel.specs.CoreLaws.{left_after-zero, left_after-suc, left_after_is, left_after_rises, IsStable, stable_stays}
 
 -- what is left, by membership
 pub has_left : (edges : List (List ℕ)) (t e : ℕ) → has (left_after edges t) e ≡ (has (places edges) e && is_left edges t e)
@@ -96,3 +96,22 @@ length-left edges t = ap (λ (s : List ℕ). length s + length (removed_after ed
 pub length-order : (edges : List (List ℕ)) (t : ℕ) → length (order_upto edges t) + length (left_after edges t) ≡ length edges
 length-order edges zero = let e : length (left_after edges 0) ≡ length edges = ap length (left_after-zero edges) ∙ length-numbers 0 (length edges) in omega arith
 length-order edges (suc t) = omega (arith, length-order edges t, length-left edges t, length-append (order_upto edges t) (removed_after edges t))
+
+-- a round that removes nothing is followed by none that does
+passes_all : (p : ℕ → Bool) (xs : List ℕ) → filter (λ e. not (p e)) xs ≡ [] → list_all p xs ≡ true
+passes_all p [] h = refl
+passes_all p (x ∷ xs) h = go (p x) refl (passes_all p xs) where
+  go : (b : Bool) → p x ≡ b → (filter (λ e. not (p e)) xs ≡ [] → list_all p xs ≡ true) → (p x && list_all p xs) ≡ true
+  go true is ih = and_from _ _ is (ih (sym (ap (λ b. cond (not b) (x ∷ filter (λ e. not (p e)) xs) (filter (λ e. not (p e)) xs)) is) ∙ h))
+  go false is ih =
+      let e : x ∷ filter (λ e. not (p e)) xs ≡ [] = sym (ap (λ b. cond (not b) (x ∷ filter (λ e. not (p e)) xs) (filter (λ e. not (p e)) xs)) is) ∙ h in
+      cc
+
+pub stable_at : (edges : List (List ℕ)) (t : ℕ) → removed_after edges t ≡ [] → IsStable edges t
+stable_at edges t none = passes_all (is_held edges (left_after edges t)) (left_after edges t) none
+
+pub removed_same : (edges : List (List ℕ)) (t k : ℕ) → left_after edges k ≡ left_after edges t → removed_after edges k ≡ removed_after edges t
+removed_same edges t k same = ap (λ (s : List ℕ). filter (λ e. not (is_held edges s e)) s) same
+
+pub none_after : (edges : List (List ℕ)) (t : ℕ) → removed_after edges t ≡ [] → removed_after edges (suc t) ≡ []
+none_after edges t none = removed_same edges t (suc t) (stable_stays edges t (stable_at edges t none)) ∙ none

@@ -25,11 +25,11 @@ pub struct Peeled<const K: usize> {
 }
 
 impl<const K: usize> Model for Peeled<K> {
-    ghost use Rattle.cm_peel.specs.Peeling.{Peeling, pivots_in};
+    ghost use Rattle.cm_peel.specs.Peeling.{Peeling, parities_in, pivots_in};
 
     ghost Value = { Peeling };
 
-    ghost view = { λ p. record { order = p.order.items; levels = p.levels.items; pivots = pivots_in p.bytes.items; rest = p.rest.items } };
+    ghost view = { λ p. record { order = p.order.items; levels = p.levels.items; pivots = pivots_in p.bytes.items; parities = parities_in p.bytes.items; rest = p.rest.items } };
 }
 
 impl<const K: usize> Peeled<K> {
@@ -61,6 +61,15 @@ impl<const K: usize> Peeled<K> {
         ensures { result ≡ slice_index self.now.pivots e }
     {
         (self.bytes[e as usize] % 4) as u32
+    }
+
+    /// The parity, 0 or 1, of the number of rounds before the one that removed the edge. Two edges that follow each other in the order are
+    /// of one round exactly if they have the same.
+    pub fn parity(&self, e: u32) -> u32
+        requires { e < length self.now.parities }
+        ensures { result ≡ slice_index self.now.parities e }
+    {
+        (self.bytes[e as usize] / 4 % 2) as u32
     }
 }
 

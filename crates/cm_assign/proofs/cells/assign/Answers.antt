@@ -2,7 +2,7 @@ use Rattle.std.proofs.Common.{rules, arith, ◌≡◌, ℕ, ◌+◌, ◌-◌, �
 use Rattle.std.specs.List.{All}
 use Rattle.std.proofs.lemmas.List.{length-take-le}
 use Rattle.std.proofs.lemmas.List.Elements.{All-from_get_or, All-take, All-drop}
-use Rattle.cm_assign.specs.OneByOne.{one_by_one}
+use Rattle.cm_assign.specs.OneByOne.{IsPart, one_by_one}
 use Rattle.cm_spec.specs.Cells.{Plan, plan_of, all_idle, AreSolved}
 use Rattle.cm_spec.specs.Rounds.{order_of}
 use Rattle.cm_assign.proofs.Solving.{long_at, order_at, plan_solved, chunk_step, loop_end}
@@ -27,31 +27,11 @@ settle_chunk-requires g c =
     let short : n ≤ length (drop at order) = omega (arith, c.min-count.ensures, c.chunks.invariant.within, length-drop at order) in
     let long : length (take n (drop at order)) ≡ n = length-take-le n (drop at order) short in
     let few : length (take (at + n - at) (drop at order)) ≤ 64 = omega (arith, small, long, ap (λ k. length (take k (drop at order))) moved) in
-    let places : All (λ e. e < length edges) order = order_places edges order (c.order-order.ensures ∙ c.requires.peeling.order) in (
-      search rules,
-      (
-        search rules,
-        (
-          c.requires.peeling,
-          (
-            c.requires.empty,
-            (
-              c.requires.many,
-              (
-                few,
-                (
-                  All-take (λ e. e < length edges) (at + n - at) (drop at order) (All-drop (λ e. e < length edges) at order places),
-                  (
-                    c.chunks.invariant.bound,
-                    long_at (plan_of (g.S.Scheme.rule c.args.scheme.now) c.args.edges.now.vertices edges c.args.tags.now) (g.S.Table.Cells.cells c.chunks.table) (drop c.chunks.at order) c.chunks.invariant.cells,
-                  ),
-                ),
-              ),
-            ),
-          ),
-        ),
-      ),
-    )
+    let places : All (λ e. e < length edges) order = order_places edges order (c.order-order.ensures ∙ c.requires.peeling.order) in
+    let some : 0 < length (take (at + n - at) (drop at order)) = omega (arith, long, ap (λ k. length (take k (drop at order))) moved, c.min-count.ensures, c.chunks-test.true) in
+    let part : IsPart (order_of edges) (take (at + n - at) (drop at order)) = (at, at + n - at, ap (λ (xs : List ℕ). take (at + n - at) (drop at xs)) (c.order-order.ensures ∙ c.requires.peeling.order)) in
+    let cells = long_at (plan_of (g.S.Scheme.rule c.args.scheme.now) c.args.edges.now.vertices edges c.args.tags.now) (g.S.Table.Cells.cells c.chunks.table) (drop c.chunks.at order) c.chunks.invariant.cells in
+    (search rules, (search rules, (c.requires.peeling, (c.requires.empty, (c.requires.many, ((some, few), (part, (All-take (λ e. e < length edges) (at + n - at) (drop at order) (All-drop (λ e. e < length edges) at order places), (c.chunks.invariant.bound, cells)))))))))
 
 pub chunks-preserved : goal.chunks-preserved
 chunks-preserved g c =

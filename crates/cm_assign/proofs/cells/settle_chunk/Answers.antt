@@ -1,11 +1,15 @@
-use Rattle.std.proofs.Common.{rules, ◌≡◌, ◌∙◌, ℕ, ◌<◌, ◌≤◌, List, [], length, map, get_or, sym, ap, subst, arith}
+use Rattle.std.proofs.Common.{rules, Bool, false, cond, ◌≡◌, ◌∙◌, ℕ, ◌-◌, ◌%◌, ◌<◌, true, List, [], length, map, take, drop, get_or, sym, refl, ap, subst, arith}
 use Rattle.std.specs.List.{All}
 use Rattle.std.proofs.lemmas.List.{length-map}
-use Rattle.std.proofs.lemmas.List.Elements.{All-map}
+use Rattle.std.proofs.lemmas.List.Elements.{All-map, All-contains}
 use Rattle.cm_peel.specs.Peeling.{Peeling, IsPeelingOf}
-use Rattle.cm_spec.specs.Cells.{plan_of}
+use Rattle.cm_spec.specs.Cells.{Plan, plan_of, at_once}
 use Rattle.cm_spec.specs.Graph.{ends_at, AreEdges}
-use Rattle.cm_spec.specs.Rounds.{rest_of, pivot_of}
+use Rattle.cm_spec.specs.Lists.{has}
+use Rattle.cm_spec.specs.Rounds.{rest_of, pivot_of, order_of, level_of}
+use Rattle.cm_peel.specs.SetLaws.{Contains-from_has}
+use Rattle.cm_assign.specs.OneByOne.{AreOf, AreReady, IsPart, one_by_one}
+use Rattle.cm_assign.proofs.OneRound.{one_round}
 use Rattle.cm_spec.specs.Rule.{Rule, IsRule, IsCount}
 use Rattle.cm_assign.proofs.Solving.{map_agree, removed_at}
 use Rattle.cm_assign.proofs.cells.settle_chunk.Goals as goal
@@ -35,6 +39,36 @@ targets_below k n r edges tags chunk law many are none places = All-map (λ targ
     let place : e < length edges = places i d h in
     law.target_below (length edges) e (pivot_of edges e) (get_or tags e 0) many place (omega (arith, (removed_at edges e none place).within, (are e [] place).0)))
 
+-- the edges of a chunk are ready
+ready : (k n bound modulus : ℕ) (r : Rule) (edges : List (List ℕ)) (tags chunk cells : List ℕ) (ends : List (List ℕ)) (positions targets : List ℕ) → IsRule k r → IsCount (length edges) → AreEdges k n edges → rest_of edges ≡ [] → All (λ e. e < length edges) chunk
+    → bound ≡ r.bound (length edges) → All (λ each. All (λ u. u < length cells) each) ends → AreOf (plan_of r n edges tags) chunk modulus ends positions targets → AreReady k bound cells modulus ends positions targets
+ready k n bound modulus r edges tags chunk cells ends positions targets law many are none places b_is within of =
+    let long : length ends ≡ length chunk = ap length of.ends_are ∙ length-map chunk (ends_at edges) in
+    record {
+      modulus_within = omega (arith, of.modulus_is, b_is, law.modulus_within (length edges) many);
+      within = within;
+      positions_below = subst (λ (xs : List ℕ). All (λ position. position < k) xs) (sym of.positions_are) (pivots_within k n edges chunk are none places);
+      targets_below = subst (λ (xs : List ℕ). All (λ target. target < modulus) xs) (sym of.targets_are) (subst (λ (m : ℕ). All (λ target. target < m) (map (plan_of r n edges tags).target chunk)) (sym of.modulus_is) (targets_below k n r edges tags chunk law many are none places));
+      positions_long = ap length of.positions_are ∙ (length-map chunk (pivot_of edges) ∙ sym long);
+      targets_long = ap length of.targets_are ∙ (length-map chunk _ ∙ sym long);
+    }
+
+-- the edges of a chunk whose rounds have one parity may be settled at once
+at_once_in_part : (q : Plan) (before : List ℕ) (p : Peeling) (chunk : List ℕ) → IsPeelingOf q.edges p → rest_of q.edges ≡ [] → All (λ e. e < length q.edges) chunk → IsPart (order_of q.edges) chunk
+    → All (λ e. get_or p.parities e 0 ≡ get_or p.parities (get_or chunk 0 0) 0) chunk → at_once q before chunk ≡ one_by_one q before chunk
+at_once_in_part q before p chunk peeling none places part same =
+    let is : chunk ≡ take part.1 (drop part.0 (order_of q.edges)) = part.2 in
+    let parity : (e : ℕ) → has chunk e ≡ true → (level_of q.edges e - 1) % 2 ≡ get_or p.parities (get_or chunk 0 0) 0 = λ e m.
+    (let in_chunk = Contains-from_has chunk e m in
+    let place : e < length q.edges = All-contains (λ e. e < length q.edges) chunk e places in_chunk in
+    sym (peeling.parity e place (removed_at q.edges e none place).level) ∙ All-contains (λ e. get_or p.parities e 0 ≡ get_or p.parities (get_or chunk 0 0) 0) chunk e same in_chunk) in
+    sym (ap (one_by_one q before) is ∙ (one_round q before part.0 part.1 _ (λ e m. parity e (ap (λ (xs : List ℕ). has xs e) is ∙ m)) ∙ ap (at_once q before) (sym is)))
+
+either : (q : Plan) (before : List ℕ) (p : Peeling) (chunk : List ℕ) → IsPeelingOf q.edges p → rest_of q.edges ≡ [] → All (λ e. e < length q.edges) chunk → IsPart (order_of q.edges) chunk
+    → (b : Bool) → (b ≡ true → All (λ e. get_or p.parities e 0 ≡ get_or p.parities (get_or chunk 0 0) 0) chunk) → cond b (at_once q before chunk) (one_by_one q before chunk) ≡ one_by_one q before chunk
+either q before p chunk peeling none places part true same = at_once_in_part q before p chunk peeling none places part (same refl)
+either q before p chunk peeling none places part false same = refl
+
 -- some edge has a target below the modulus
 modulus_some : (k m : ℕ) (r : Rule) → IsRule k r → IsCount m → 0 < r.modulus m
 modulus_some k m r law many = omega (arith, law.target_below m 0 0 0 many (omega (arith, many.0)) (omega (arith, law.two_or_three.0)))
@@ -46,35 +80,30 @@ new-modulus-requires g c =
     let some = modulus_some g.row.K (length c.args.edges.now.edges) (g.S.Scheme.rule c.args.scheme.now) (g.met.S.Scheme.laws c.args.scheme.now) many in
     omega (arith, is, some)
 
-pub settle_each-requires : goal.settle_each-requires
-settle_each-requires g c =
+-- what is looked up is of the plan
+of_plan : (r : Rule) (n modulus : ℕ) (edges : List (List ℕ)) (tags : List ℕ) (p : Peeling) (chunk : List ℕ) (ends : List (List ℕ)) (positions targets : List ℕ) → IsPeelingOf edges p → rest_of edges ≡ [] → All (λ e. e < length edges) chunk → modulus ≡ r.modulus (length edges)
+    → ends ≡ map (ends_at edges) chunk → positions ≡ map (λ e. get_or p.pivots e 0) chunk → targets ≡ map (λ e. r.target e (get_or p.pivots e 0) (get_or tags e 0)) chunk → AreOf (plan_of r n edges tags) chunk modulus ends positions targets
+of_plan r n modulus edges tags p chunk ends positions targets peeling none places m_is en po ta = record {
+  modulus_is = m_is;
+  ends_are = en;
+  positions_are = pivots_are edges p chunk positions peeling none places po;
+  targets_are = targets_are r n edges tags p chunk targets peeling none places ta;
+}
+
+pub settle_all-requires : goal.settle_all-requires
+settle_all-requires g c =
     let edges : List (List ℕ) = c.args.edges.now.edges in
-    let chunk : List ℕ = c.args.chunk.now in
-    let n : ℕ = c.args.edges.now.vertices in
-    let tags : List ℕ = c.args.tags.now in
-    let law = g.met.S.Scheme.laws c.args.scheme.now in
-    let many : IsCount (length edges) = c.requires.many in
-    let m_is : c.new-modulus.result ≡ (g.S.Scheme.rule c.args.scheme.now).modulus (length edges) = c.new-modulus.ensures.value ∙ (c.modulus.ensures.modulus ∙ ap (λ (m : ℕ). (g.S.Scheme.rule c.args.scheme.now).modulus m) c.len.ensures.count) in
-    let within : c.new-modulus.result ≤ g.S.Table.Cells.bound_of c.args.table.now = omega (arith, m_is, c.requires.bound, law.modulus_within (length edges) many) in
-    let ends : length c.gather.new.ends ≡ length chunk = ap length c.gather.ensures.ends ∙ length-map chunk (ends_at edges) in
-    let positions : c.look_up.new.positions ≡ map (pivot_of edges) chunk = pivots_are edges c.args.peeled.now chunk _ c.requires.peeling c.requires.empty c.requires.places c.look_up.ensures.positions in
-    let targets : c.look_up.new.targets ≡ map (plan_of (g.S.Scheme.rule c.args.scheme.now) n edges tags).target chunk = targets_are (g.S.Scheme.rule c.args.scheme.now) n edges tags c.args.peeled.now chunk _ c.requires.peeling c.requires.empty c.requires.places c.look_up.ensures.targets in
-    let below : All (λ target. target < c.new-modulus.result) (map (plan_of (g.S.Scheme.rule c.args.scheme.now) n edges tags).target chunk) = subst (λ (m : ℕ). All (λ target. target < m) (map (plan_of (g.S.Scheme.rule c.args.scheme.now) n edges tags).target chunk)) (sym m_is) (targets_below g.row.K n (g.S.Scheme.rule c.args.scheme.now) edges tags chunk law many c.len.ensures.edges c.requires.empty c.requires.places) in (
+    let r : Rule = g.S.Scheme.rule c.args.scheme.now in
+    let of = of_plan r c.args.edges.now.vertices c.new-modulus.result edges c.args.tags.now c.args.peeled.now c.args.chunk.now _ _ _ c.requires.peeling c.requires.empty c.requires.places
+    (c.new-modulus.ensures.value ∙ (c.modulus.ensures.modulus ∙ ap (λ (m : ℕ). r.modulus m) c.len.ensures.count)) c.gather.ensures.ends c.look_up.ensures.positions c.look_up.ensures.targets in (
       search rules,
       (
         c.len.ensures.width.1,
         (
-          within,
-          (
-            λ k d h k' d' h'. omega (arith, (c.gather.ensures.edges k d h).0 k' d' h', c.requires.long),
-            (
-              subst (λ (xs : List ℕ). All (λ position. position < g.row.K) xs) (sym positions) (pivots_within g.row.K n edges chunk c.len.ensures.edges c.requires.empty c.requires.places),
-              (
-                subst (λ (xs : List ℕ). All (λ target. target < c.new-modulus.result) xs) (sym targets) below,
-                (ap length positions ∙ (length-map chunk (pivot_of edges) ∙ sym ends), ap length targets ∙ (length-map chunk _ ∙ sym ends)),
-              ),
-            ),
-          ),
+          omega (arith, c.requires.few.1, ap length c.gather.ensures.ends, length-map c.args.chunk.now (ends_at edges)),
+          ready g.row.K c.args.edges.now.vertices (g.S.Table.Cells.bound_of c.args.table.now) c.new-modulus.result r edges c.args.tags.now c.args.chunk.now (g.S.Table.Cells.cells c.args.table.now) _ _ _
+              (g.met.S.Scheme.laws c.args.scheme.now) c.requires.many c.len.ensures.edges c.requires.empty c.requires.places c.requires.bound
+              (λ k d h k' d' h'. omega (arith, (c.gather.ensures.edges k d h).0 k' d' h', c.requires.long)) of,
         ),
       ),
     )
@@ -84,8 +113,8 @@ returns-clause-cells g c =
     let edges : List (List ℕ) = c.args.edges.now.edges in
     let chunk : List ℕ = c.args.chunk.now in
     let r : Rule = g.S.Scheme.rule c.args.scheme.now in
-    c.settle_each.ensures.cells (plan_of r c.args.edges.now.vertices edges c.args.tags.now) chunk
-    (sym (c.new-modulus.ensures.value ∙ (c.modulus.ensures.modulus ∙ ap (λ (m : ℕ). r.modulus m) c.len.ensures.count)))
-    c.gather.ensures.ends
-    (pivots_are edges c.args.peeled.now chunk _ c.requires.peeling c.requires.empty c.requires.places c.look_up.ensures.positions)
-    (targets_are r c.args.edges.now.vertices edges c.args.tags.now c.args.peeled.now chunk _ c.requires.peeling c.requires.empty c.requires.places c.look_up.ensures.targets)
+    let p : Plan = plan_of r c.args.edges.now.vertices edges c.args.tags.now in
+    let before : List ℕ = g.S.Table.Cells.cells c.args.table.now in
+    let of = of_plan r c.args.edges.now.vertices c.new-modulus.result edges c.args.tags.now c.args.peeled.now chunk _ _ _ c.requires.peeling c.requires.empty c.requires.places
+    (c.new-modulus.ensures.value ∙ (c.modulus.ensures.modulus ∙ ap (λ (m : ℕ). r.modulus m) c.len.ensures.count)) c.gather.ensures.ends c.look_up.ensures.positions c.look_up.ensures.targets in
+    c.settle_all.ensures.cells p chunk of ∙ either p before c.args.peeled.now chunk c.requires.peeling c.requires.empty c.requires.places c.requires.part c.is_at_once-all_at_once.result (λ is. (c.is_at_once-all_at_once.ensures.0 is).1)

@@ -1,8 +1,6 @@
-use Rattle.std.proofs.Common.{◌≡◌, ◌≤◌, ℕ, List, length, map, drop}
-use Rattle.cm_assign.specs.OneByOne.{one_by_one}
+use Rattle.std.proofs.Common.{◌≡◌, ◌≤◌, ℕ, List, length, drop}
+use Rattle.cm_assign.specs.OneByOne.{AreOf, one_by_one}
 use Rattle.cm_spec.specs.Cells.{Plan}
-use Rattle.cm_spec.specs.Graph.{ends_at}
-use Rattle.cm_spec.specs.Rounds.{pivot_of}
 use Rattle.cm_assign.proofs.cells.settle_each.Given as goal
 
 abbrev pub invariant-edges : goal.invariant-edges
@@ -10,7 +8,7 @@ invariant-edges g l = record {
   bound : g.C.Cells.bound_of l.table ≡ g.C.Cells.bound_of l.fn.table;
   long : length (g.C.Cells.cells l.table) ≡ length (g.C.Cells.cells l.fn.table);
   within : l.i ≤ length l.ends;
-  cells : (p : Plan) (chunk : List ℕ) → p.modulus ≡ l.modulus → l.ends ≡ map (ends_at p.edges) chunk → l.positions ≡ map (pivot_of p.edges) chunk → l.targets ≡ map p.target chunk → g.C.Cells.cells l.table ≡ one_by_one p (g.C.Cells.cells l.fn.table) (drop l.i chunk);
+  cells : (p : Plan) (chunk : List ℕ) → AreOf p chunk l.modulus l.ends l.positions l.targets → g.C.Cells.cells l.table ≡ one_by_one p (g.C.Cells.cells l.fn.table) (drop l.i chunk);
 }
 
 abbrev pub decreases-edges : goal.decreases-edges
