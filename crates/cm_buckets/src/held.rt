@@ -15,7 +15,7 @@ use cm_bits::{Cells, Crumbs};
 use cm_rank::Counted;
 use cm_scheme::{Divisor, Scheme};
 
-/// How many cells are counted without a branch that depends on their number: four fifths of the vertices of a bucket of average size.
+/// How many cells are counted without a branch that depends on their number: of a bucket of 128 keys, four fifths of its vertices.
 const NEAR: u32 = 128;
 
 /// What is kept of a bucket beside its cells. It has 12 bytes.

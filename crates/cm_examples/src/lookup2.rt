@@ -72,7 +72,7 @@ fn hash_values_under_four_seeds(rt: HostRuntime) -> Result<(), Fail> {
     Ok(())
 }
 
-// Prefixes of 8 to 11, 12 to 15 and 20 to 23 bytes have the same number of whole blocks, other four have not.
+// Prefixes from 9, 10 or 11 bytes on, or from 21, have not the same number of whole blocks; all other four have.
 #[test]
 fn hash_values_of_four_keys(rt: HostRuntime) -> Result<(), Fail> {
     for n in 2..22usize {
