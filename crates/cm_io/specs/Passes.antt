@@ -1,5 +1,6 @@
 -- What a pass over keys yields.
-use Rattle.std.specs.Prelude.{◌≡◌, ◌≤◌, ◌-◌, ℕ, List, length, Option, None, Some, Result, Ok, Err, Bool, true, false, [], ◌∷◌, drop, slice_index_or}
+use Rattle.std.specs.Prelude.{◌≡◌, ◌≤◌, ◌-◌, ◌+◌, ℕ, List, length, Option, None, Some, Result, Ok, Err, Bool, true, false, [], ◌∷◌, drop, map, take, slice_index_or}
+use Rattle.cm_spec.specs.Lookup2.{words}
 use Rattle.cm_io.specs.Causes.{Rose}
 use Rattle.cm_io.specs.declared.key_pass.KeyFault.{KeyFault}
 use Rattle.cm_io.specs.declared.key_pass.KeyFault.TheVariants.{Read, TooLong, TooMany}
@@ -29,6 +30,11 @@ GivesKey told before now line key (Ok false) = Ends told before None
 GivesKey told before now line key (Err Read) = Unit {0}
 GivesKey told before now line key (Err (TooLong at)) = Ends told before (Some (TooLong at))
 GivesKey told before now line key (Err TooMany) = Ends told before (Some TooMany)
+
+-- Four of the known keys, from the place on, have these hash values under the seed, in order.
+pub record GivesFour (told : Told) (place seed : ℕ) (four : List (List ℕ)) : Type 0 where
+  pub enough : place + 4 ≤ length told.keys
+  pub words_are : four ≡ map (λ k. words k.1 seed) (take 4 (drop place told.keys))
 
 -- This many of the known keys have passed, the last of them of this line.
 abbrev pub PassesKeys : Told → ℕ → ℕ → Type 0

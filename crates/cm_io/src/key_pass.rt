@@ -1,6 +1,6 @@
 ghost use Rattle.std.specs.Prelude.{◌≡◌, ◌<◌, ◌≤◌, ◌+◌, ℕ, List, length, Option, Ok, Bool, true, false, OnOk, OnErr, IfOk, IfSome, IfNone, IsTrue, IsOkUnless, if◌then◌else◌};
 ghost use Rattle.std.specs.Option.{ForSome};
-ghost use Rattle.cm_io.specs.Passes.{Told, HasKeyCause, GivesKey, PassesKeys};
+ghost use Rattle.cm_io.specs.Passes.{Told, HasKeyCause, GivesFour, GivesKey, PassesKeys};
 ghost use Rattle.cm_spec.specs.Lookup2.{words};
 
 use arrayvec::ArrayVec;
@@ -88,9 +88,9 @@ pub trait KeyPass {
 
     /// The hash values of the next key under a seed, by lookup2, if the key is buffered and was hashed under this seed before. None says
     /// nothing.
-    fn hashed(&self, _seed: u32) -> Option<[u32; 3]>
+    fn hashed(&self, seed: u32) -> Option<[u32; 3]>
         requires usable { IsTrue (usable self.now) }
-        ensures words { IfSome result (λ hashed. (key : List ℕ) → stands self.now key → hashed ≡ words key _seed) }
+        ensures words { IfSome result (λ hashed. (key : List ℕ) → stands self.now key → hashed ≡ words key seed) }
     {
         None
     }
@@ -109,6 +109,23 @@ pub trait KeyPass {
         ensures line { last self.new ≡ next_line self.old }
         ensures rises { last self.old < last self.new }
         ensures usable { usable self.new ≡ true };
+
+    /// Passes the next four keys, if they are buffered, and returns their hash values under a seed, by lookup2, in order. None says
+    /// nothing of what comes: nothing has changed then.
+    fn hash_four(&mut self, seed: u32) -> Option<[[u32; 3]; 4]>
+        requires usable { IsTrue (usable self.old) }
+        ensures told { told self.new ≡ told self.old }
+        ensures gives { IfSome result (λ four. ForSome (told self.old) (λ told. GivesFour told (place self.old) seed four)) }
+        ensures cause { faults self.new ≡ faults self.old }
+        ensures counts { IfSome result (λ _. place self.new ≡ place self.old + 4) }
+        ensures few { IfSome result (λ _. place self.new ≤ MAX_KEYS) }
+        ensures line { IfSome result (λ _. ForSome (told self.old) (λ told. PassesKeys told (place self.new) (last self.new))) }
+        ensures rises { IfSome result (λ _. last self.old < last self.new) }
+        ensures usable { usable self.new ≡ true }
+        ensures unchanged { IfNone result (self.new ≡ self.old) }
+    {
+        None
+    }
 
     /// Passes some of the next keys without returning them, if they are buffered, and returns how many. 0 says nothing of what comes:
     /// nothing has changed then, and `next` shows what comes.

@@ -79,7 +79,7 @@ leaves_key whole given key left is =
     let e : drop (given + 1) whole.keys ≡ left.keys = sym (drop-drop 1 given whole.keys) ∙ ap (λ (l : List (ℕ × List ℕ)). drop 1 l) is.keys in
     (record { keys = e; count = omega (arith, is.count); fault = is.fault }, is.keys ∙ ap (λ (l : List (ℕ × List ℕ)). key ∷ l) (sym e))
 
-open_within : (first : Option ℕ) (given n : ℕ) → IsWithin first (given + suc n) → IsOpen first given
+pub open_within : (first : Option ℕ) (given n : ℕ) → IsWithin first (given + suc n) → IsOpen first given
 open_within None given n within = _
 open_within (Some first) given n within = omega (arith, within)
 

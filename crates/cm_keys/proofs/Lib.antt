@@ -4,4 +4,5 @@ mod WholeLemmas
 mod LeaveLemmas
 pub mod NumberingLemmas
 mod NextLemmas
+mod FourLemmas
 pub mod SplittingLemmas

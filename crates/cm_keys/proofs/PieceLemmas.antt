@@ -1,10 +1,10 @@
 -- Lines of bytes that come in parts.
-use Rattle.std.proofs.Common.{◌≡◌, ◌∙◌, ℕ, zero, suc, ◌+◌, ◌-◌, ◌<◌, ◌≤◌, ◌==◌, List, [], ◌∷◌, ◌++◌, length, take, drop, ap, sym, arith, append_assoc, length-append, refl, subst, length-take, Option, Some, None, Bool, true, false}
+use Rattle.std.proofs.Common.{◌≡◌, ◌∙◌, ℕ, zero, suc, ◌+◌, ◌-◌, ◌<◌, ◌≤◌, ◌==◌, List, [], ◌∷◌, ◌++◌, length, take, drop, ap, sym, arith, append_assoc, length-append, refl, subst, length-drop, length-take, Option, Some, None, Bool, true, false}
 use Rattle.std.specs.Option.{option_map, ForSome}
-use Rattle.std.proofs.lemmas.List.{drop-drop, drop-take}
+use Rattle.std.proofs.lemmas.List.{drop-drop, drop-take, take_all}
 use Rattle.memchr.specs.Find.{Nowhere, Passes, is_byte}
 use Rattle.cm_keys.specs.Lines.{push_first, pieces}
-use Rattle.cm_keys.specs.Buffering.{with_front, HasNoEnd, IsLong, TakesPart, left_bytes, ready_in}
+use Rattle.cm_keys.specs.Buffering.{with_front, BeginsWith, HasNoEnd, IsLong, TakesPart, left_bytes, ready_in}
 use Rattle.cm_keys.specs.declared.buffered.Part.TheVariants.{Whole, More, Long}
 
 pub not_true : (b : Bool) → (b ≡ true → ⊥) → b ≡ false
@@ -127,17 +127,17 @@ ready_split end buf start until n inside p =
     split_there end (ready_in buf start until) n inside p
     ∙ ap (λ (k : ℕ). take n (ready_in buf start until) ++ end ∷ drop k (ready_in buf start until)) e ∙ ap (λ (l : List ℕ). take n (ready_in buf start until) ++ end ∷ l) (sym (ready_after buf start until n inside))
 
--- the first whole line in the buffer
-pub line_taken : (end longest : ℕ) (buf : List ℕ) (start until n : ℕ) → n < length (ready_in buf start until) → Nowhere (Passes (is_byte end) (ready_in buf start until)) 0 n
-    → Passes (is_byte end) (ready_in buf start until) n → until ≤ longest + 1
-    → TakesPart longest end (ready_in buf start until) (ready_in buf (start + (n + 1)) until) [] (take n (ready_in buf start until)) Whole
-line_taken end longest buf start until n inside before at room =
-    let hay = ready_in buf start until in (
+-- the first line of some bytes
+pub line_taken : (end longest : ℕ) (hay : List ℕ) (n : ℕ) → n < length hay → Nowhere (Passes (is_byte end) hay) 0 n → Passes (is_byte end) hay n → length hay ≤ longest + 1
+    → TakesPart longest end hay (ready_in hay (n + 1) (length hay)) [] (take n hay) Whole
+line_taken end longest hay n inside before at room =
+    let e : suc n ≡ n + 1 = omega arith in
+    let left : ready_in hay (n + 1) (length hay) ≡ drop (n + 1) hay = take_all (length hay - (n + 1)) (drop (n + 1) hay) (omega (arith, length-drop (n + 1) hay)) in (
       take n hay,
       no_end_before end hay n inside before,
       refl,
-      ready_split end buf start until n inside at,
-      omega (arith, inside, room, length-take n hay, length-take (until - start) (drop start buf)),
+      split_there end hay n inside at ∙ ap (λ (k : ℕ). take n hay ++ end ∷ drop k hay) e ∙ ap (λ (l : List ℕ). take n hay ++ end ∷ l) (sym left),
+      omega (arith, inside, room, length-take n hay),
     )
 
 -- Bytes that have no end of a line don't begin with a line and its end.
@@ -158,13 +158,22 @@ line_inside longest end len ready left key takes long =
     omega (arith, long, ap length takes.2, ap length takes.3, length-append takes.0 (end ∷ left))
 
 -- After it comes what is left.
+pub after_line : (longest end len : ℕ) (ready left key after : List ℕ) → TakesPart longest end ready left [] key Whole → length key ≡ len → after ≡ drop (len + 1) ready → after ≡ left
+after_line longest end len ready left key after takes long is =
+    let part = takes.0 in
+    let many : len + 1 ≡ suc (length part) = omega (arith, long, ap length takes.2) in
+    is ∙ ap (λ (k : ℕ). drop k ready) many ∙ ap (drop (suc (length part))) takes.3 ∙ drop_front end part left
+
 pub line_passed : (longest end len : ℕ) (ready left key after : List ℕ) → TakesPart longest end ready left [] key Whole → length key ≡ len → after ≡ drop (len + 1) ready
     → TakesPart longest end ready after [] key Whole
 line_passed longest end len ready left key after takes long is =
-    let part = takes.0 in
-    let many : len + 1 ≡ suc (length part) = omega (arith, long, ap length takes.2) in
-    let same : after ≡ left = is ∙ ap (λ (k : ℕ). drop k ready) many ∙ ap (drop (suc (length part))) takes.3 ∙ drop_front end part left in
-    subst (λ (rest : List ℕ). TakesPart longest end ready rest [] key Whole) (sym same) takes
+    subst (λ (rest : List ℕ). TakesPart longest end ready rest [] key Whole) (sym (after_line longest end len ready left key after takes long is)) takes
+
+-- After the first of some lines come the others.
+pub lines_after : (longest end len : ℕ) (ready after line : List ℕ) (lines : List (List ℕ)) → BeginsWith longest end ready (line ∷ lines) → length line ≡ len → after ≡ drop (len + 1) ready
+    → BeginsWith longest end after lines
+lines_after longest end len ready after line lines (left, takes, others) long is =
+    subst (λ (rest : List ℕ). BeginsWith longest end rest lines) (sym (after_line longest end len ready left line after takes long is)) others
 
 -- A line that is read part by part.
 

@@ -36,6 +36,11 @@ TakesPart longest end ready left old new Whole = (part : List ℕ) × HasNoEnd e
 TakesPart longest end ready left old new More = HasNoEnd end ready × (new ≡ old ++ ready) × (left ≡ []) × (0 < length ready) × (length new ≤ longest)
 TakesPart longest end ready left old new Long = (part : List ℕ) × (rest : List ℕ) × HasNoEnd end part × (ready ≡ part ++ rest) × (longest < length old + length part)
 
+-- The bytes begin with these lines, each with its end.
+abbrev pub BeginsWith : ℕ → ℕ → List ℕ → List (List ℕ) → Type 0
+BeginsWith longest end ready [] = Unit {0}
+BeginsWith longest end ready (line ∷ lines) = (left : List ℕ) × TakesPart longest end ready left [] line Whole × BeginsWith longest end left lines
+
 -- This many whole lines in the buffer pass with their ends.
 pub record TakesLines (longest end : ℕ) (ready left : List ℕ) (count : ℕ) : Type 0 where
   pub lines : List (List ℕ)

@@ -1,9 +1,9 @@
 // A source with a buffer.
-ghost use Rattle.std.specs.Prelude.{◌≡◌, ◌<◌, ◌≤◌, ◌++◌, ◌+◌, ℕ, List, [], true, false, Ok, IfOk, IfSome, IfNone, OnOk, length, drop};
+ghost use Rattle.std.specs.Prelude.{◌≡◌, ◌<◌, ◌≤◌, ◌++◌, ◌+◌, ℕ, List, [], ◌∷◌, true, false, Ok, IfOk, IfSome, IfNone, OnOk, length, drop};
 ghost use Rattle.std.specs.Option.{ForSome};
 ghost use Rattle.cm_io.specs.Causes.{HasCause};
 ghost use Rattle.memchr.specs.Find.{IsFirstByte, is_byte};
-ghost use Rattle.cm_keys.specs.Buffering.{ready_in, left_bytes, HasNoEnd, TakesLines, TakesPart, ReadsLine};
+ghost use Rattle.cm_keys.specs.Buffering.{ready_in, left_bytes, BeginsWith, HasNoEnd, TakesLines, TakesPart, ReadsLine};
 ghost use Rattle.cm_keys.specs.declared.buffered.TheConstants.{ROOM};
 
 use cm_io::{Failed, KeyBuf, MAX_KEY_LEN, Source};
@@ -180,12 +180,35 @@ impl<S: Source> Buffered<S> {
             × TakesPart MAX_KEY_LEN end (ready_in self.now.buf self.now.start self.now.until) left [] line.now Part.Whole) }
         ensures none { IfNone result (HasNoEnd end (ready_in self.now.buf self.now.start self.now.until)) }
     {
+        match first_line(end, &self.buf[self.start..self.until]) {
+            Some((line, _)) => Some(line),
+            None => None,
+        }
+    }
+
+    /// The next four lines, without their ends, if all of them are in the buffer with their ends.
+    #[inline(always)]
+    pub fn peek_four(&self, end: u8) -> Option<(&[u8], &[u8], &[u8], &[u8])>
+        ensures lines { IfSome result (λ four. BeginsWith MAX_KEY_LEN end (ready_in self.now.buf self.now.start self.now.until)
+            (four.0.now ∷ four.1.now ∷ four.2.now ∷ four.3.now ∷ [])) }
+    {
         let ready = &self.buf[self.start..self.until];
-        let n = match near_end(end, ready) {
-            Some(n) => n,
+        let (p, ready) = match first_line(end, ready) {
+            Some(split) => split,
             None => return None,
         };
-        Some(&ready[..n])
+        let (q, ready) = match first_line(end, ready) {
+            Some(split) => split,
+            None => return None,
+        };
+        let (r, ready) = match first_line(end, ready) {
+            Some(split) => split,
+            None => return None,
+        };
+        match first_line(end, ready) {
+            Some((t, _)) => Some((p, q, r, t)),
+            None => None,
+        }
     }
 
     /// Passes a line of `len` bytes, with its end. The whole line is in the buffer.
@@ -225,6 +248,19 @@ fn near_end(end: u8, bytes: &[u8]) -> Option<usize>
     ensures { IsFirstByte (is_byte end) bytes.now result }
 {
     memchr_iter(end, bytes).next()
+}
+
+/// The first line, without its end, and the bytes after its end, if the bytes have one.
+#[inline(always)]
+fn first_line(end: u8, bytes: &[u8]) -> Option<(&[u8], &[u8])>
+    requires few { length bytes.now ≤ ROOM }
+    ensures line { IfSome result (λ split. TakesPart MAX_KEY_LEN end bytes.now split.1.now [] split.0.now Part.Whole) }
+    ensures none { IfNone result (HasNoEnd end bytes.now) }
+{
+    match near_end(end, bytes) {
+        Some(n) => Some((&bytes[..n], &bytes[n + 1..])),
+        None => None,
+    }
 }
 
 /// Appends to a key, if there is room.

@@ -1,6 +1,6 @@
-ghost use Rattle.std.specs.Prelude.{◌≡◌, ◌⊎◌, ◌<◌, ◌≤◌, ◌+◌, ◌↔◌, ℕ, List, length, Ok, true, false, OnOk, OnErr, IfOk, IfErr, IfSome, IfNone, IsTrue, IsOkUnless, if◌then◌else◌, option_map};
+ghost use Rattle.std.specs.Prelude.{◌≡◌, ◌⊎◌, ◌<◌, ◌≤◌, ◌+◌, ◌↔◌, ℕ, List, length, drop, Ok, true, false, OnOk, OnErr, IfOk, IfErr, IfSome, IfNone, IsTrue, IsOkUnless, if◌then◌else◌, option_map};
 ghost use Rattle.std.specs.Option.{ForSome};
-ghost use Rattle.cm_io.specs.Passes.{HasKeyCause, GivesKey, PassesKeys};
+ghost use Rattle.cm_io.specs.Passes.{HasKeyCause, GivesFour, GivesKey, PassesKeys};
 ghost use Rattle.cm_keys.specs.Buffering.{HasNoEnd};
 ghost use Rattle.cm_keys.specs.Lines.{lines_of};
 ghost use Rattle.cm_keys.specs.NumberingLaws.{IsWithin};
@@ -9,6 +9,7 @@ ghost use Rattle.cm_keys.specs.LinePass.{IsAtHand, IsDone, IsFull, IsNearEnd, Is
 
 use crate::buffered::{Buffered, Line, ROOM};
 use cm_io::{Failed, KeyBuf, KeyFault, KeyPass, MAX_KEY_LEN, MAX_KEYS, Source};
+use cm_lookup2::words_of_four;
 use std::marker::Model;
 
 /// The byte that ends a line.
@@ -101,14 +102,15 @@ fn may_give(first: Option<u32>, given: u32) -> bool
     given < MAX_KEYS && is_open(first, given)
 }
 
-/// Whether as many further lines as fit in the buffer may be keys.
-fn may_give_many(first: Option<u32>, given: u32) -> bool
+/// Whether this many further lines may be keys.
+fn may_give_many(first: Option<u32>, given: u32, many: u32) -> bool
     requires few { given ≤ MAX_KEYS }
-    ensures within { result ≡ true → IsWithin first (given + ROOM) }
-    ensures few { result ≡ true → given + ROOM ≤ MAX_KEYS }
-    ensures none { result ≡ false → IsNearEnd MAX_KEYS ROOM first given }
+    requires many { many ≤ ROOM }
+    ensures within { result ≡ true → IsWithin first (given + many) }
+    ensures few { result ≡ true → given + many ≤ MAX_KEYS }
+    ensures none { result ≡ false → IsNearEnd MAX_KEYS many first given }
 {
-    let most = given + ROOM as u32;
+    let most = given + many;
     let within = match first {
         None => true,
         Some(first) => most <= first,
@@ -227,13 +229,50 @@ impl<S: Source> KeyPass for Keys<S> {
         ensures rises { self.old.given < self.new.given }
         ensures usable { self.new.usable ≡ true }
 
-        // The bytes of the source, the number of lines to read and `ended` stay the same.
+        // The line with its end is no longer buffered. The bytes of the source, the number of lines to read and `ended` stay the same.
+        ensures waiting { self.new.waiting ≡ drop (len + 1) self.old.waiting }
         ensures bytes { self.new.bytes ≡ self.old.bytes }
         ensures first { self.new.first ≡ self.old.first }
         ensures ended { self.new.ended ≡ self.old.ended }
     {
         self.bytes.pass_line(len);
         self.given += 1;
+    }
+
+    fn hash_four(&mut self, seed: u32) -> Option<[[u32; 3]; 4]>
+        requires usable { IsTrue self.old.usable }
+        ensures told { keys_of MAX_KEYS MAX_KEY_LEN LINE_END self.new ≡ keys_of MAX_KEYS MAX_KEY_LEN LINE_END self.old }
+        ensures gives { IfSome result (λ four. ForSome (keys_of MAX_KEYS MAX_KEY_LEN LINE_END self.old) (λ told.
+            GivesFour told self.old.given seed four)) }
+        ensures cause { self.new.faults ≡ self.old.faults }
+        ensures counts { IfSome result (λ _. self.new.given ≡ self.old.given + 4) }
+        ensures few { IfSome result (λ _. self.new.given ≤ MAX_KEYS) }
+        ensures line { IfSome result (λ _. ForSome (keys_of MAX_KEYS MAX_KEY_LEN LINE_END self.old) (λ told.
+            PassesKeys told self.new.given self.new.given)) }
+        ensures rises { IfSome result (λ _. self.old.given < self.new.given) }
+        ensures usable { self.new.usable ≡ true }
+        ensures unchanged { IfNone result (self.new ≡ self.old) }
+
+        // The bytes of the source, the number of lines to read and `ended` stay the same.
+        ensures bytes { self.new.bytes ≡ self.old.bytes }
+        ensures first { self.new.first ≡ self.old.first }
+        ensures ended { self.new.ended ≡ self.old.ended }
+    {
+        if !may_give_many(self.first, self.given, 4) {
+            return None;
+        }
+        let (p, q, r, t) = match self.bytes.peek_four(LINE_END) {
+            Some(four) => four,
+            None => return None,
+        };
+        let four = words_of_four(p, q, r, t, [seed; 4]);
+        // The lines are borrowed from the buffer, so only their lengths are kept.
+        let (p, q, r, t) = (p.len(), q.len(), r.len(), t.len());
+        self.pass(p);
+        self.pass(q);
+        self.pass(r);
+        self.pass(t);
+        Some([four.at(0), four.at(1), four.at(2), four.at(3)])
     }
 
     fn skip(&mut self) -> u32
@@ -256,7 +295,7 @@ impl<S: Source> KeyPass for Keys<S> {
         ensures first { self.new.first ≡ self.old.first }
         ensures ended { self.new.ended ≡ self.old.ended }
     {
-        if !may_give_many(self.first, self.given) {
+        if !may_give_many(self.first, self.given, ROOM as u32) {
             return 0;
         }
         let count = self.bytes.skip_lines(LINE_END);

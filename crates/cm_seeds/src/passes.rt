@@ -1,7 +1,7 @@
 //! Passes over keys.
 ghost use Rattle.std.specs.Prelude.{◌≡◌, ◌≢◌, ℕ, ◌+◌, ◌*◌, ◌<◌, ◌≤◌, ◌^◌, [], ◌∷◌, List, length, map, drop, vec_len, vec_capacity, IfOk, IfErr, IfSome, IfNone, IsTrue, OnOk, ◌++◌, None, Some, Ok, Err, true, false};
 ghost use Rattle.std.specs.Option.{ForSome};
-ghost use Rattle.cm_io.specs.Passes.{Told, HasKeyCause};
+ghost use Rattle.cm_io.specs.Passes.{Told, HasKeyCause, GivesFour};
 ghost use Rattle.cm_spec.specs.Built.{edge_of, tag_of};
 ghost use Rattle.cm_spec.specs.Lookup2.{words as words_of};
 ghost use Rattle.cm_spec.specs.Rule.{IsCount, IsSize};
@@ -84,6 +84,48 @@ fn add_key<S: Scheme<K>, const K: usize>(
     if S::KEEPS_TAGS {
         tags.push_reserved(scheme.tag(hashed));
     }
+}
+
+/// Adds the edges of keys by their hash values, in order, and their tags if tags are kept. There is room for all.
+#[inline(always)]
+fn add_keys<S: Scheme<K>, const K: usize>(
+    scheme: &S,
+    divisor: &Divisor,
+    all: &[[u32; 3]],
+    edges: &mut Edges<K>,
+    tags: &mut Vec<u32>,
+)
+    requires room { length edges.old.edges + length all.now ≤ edges.old.room }
+    requires tag_room { S.KEEPS_TAGS ≡ true → vec_len tags.old + length all.now ≤ vec_capacity tags.old }
+    requires size { IsSize (S.rule scheme.now) edges.old.vertices }
+    requires divisor { divisor.now ≡ S.divisor_of scheme.now edges.old.vertices }
+    ensures edges { edges.new ≡ record edges.old { edges = edges.old.edges ++ map (λ hashed. (S.rule scheme.now).edge hashed edges.old.vertices) all.now } }
+    ensures tags { S.KEEPS_TAGS ≡ true → tags.new.items ≡ tags.old.items ++ map (S.rule scheme.now).tag all.now }
+    ensures untagged { S.KEEPS_TAGS ≡ false → tags.new.items ≡ tags.old.items }
+    ensures tag_count { S.KEEPS_TAGS ≡ true → vec_len tags.new ≡ vec_len tags.old + length all.now }
+    ensures capacity { vec_capacity tags.new ≡ vec_capacity tags.old }
+{
+    for hashed in all {
+        add_key(scheme, divisor, *hashed, edges, tags);
+    }
+}
+
+/// Passes the next four keys, if they are buffered and at least four are left, and returns their hash values under a seed.
+#[inline(always)]
+fn four_at_hand<P: KeyPass>(keys: &mut P, left: u32, seed: u32) -> Option<[[u32; 3]; 4]>
+    requires usable { IsTrue (P.usable keys.old) }
+    ensures told { P.told keys.new ≡ P.told keys.old }
+    ensures gives { IfSome result (λ four. ForSome (P.told keys.old) (λ told. GivesFour told (P.place keys.old) seed four)) }
+    ensures four { IfSome result (λ four. (length four ≡ 4) × (4 ≤ left)) }
+    ensures cause { P.faults keys.new ≡ P.faults keys.old }
+    ensures counts { IfSome result (λ _. P.place keys.new ≡ P.place keys.old + 4) }
+    ensures usable { P.usable keys.new ≡ true }
+    ensures unchanged { IfNone result (keys.new ≡ keys.old) }
+{
+    if left < 4 {
+        return None;
+    }
+    keys.hash_four(seed)
 }
 
 /// The hash values of the next key under a seed, with its length, if it is buffered. Those that the pass has at hand are not computed
@@ -172,8 +214,15 @@ pub(crate) fn hash_all<S: Scheme<K>, P: KeyPass, const K: usize>(
 {
     keys.rewind()?;
     let divisor = scheme.divisor(edges.vertices());
-    for count in 0..m {
+    let mut count = 0;
+    'more: while count < m {
+        if let Some(four) = four_at_hand(keys, m - count, seed) {
+            add_keys(scheme, &divisor, &four, edges, tags);
+            count += 4;
+            continue;
+        }
         if add_at_hand(scheme, &divisor, keys, seed, edges, tags) {
+            count += 1;
             continue;
         }
         match read_words(keys, key, seed) {
@@ -186,6 +235,7 @@ pub(crate) fn hash_all<S: Scheme<K>, P: KeyPass, const K: usize>(
             }
             Err(fault) => return Err(GatherFault::Key(fault)),
         }
+        count += 1;
     }
     expect_end(keys, key, m)?;
     Ok(())

@@ -1,10 +1,10 @@
-use Rattle.std.proofs.Common.{◌≡◌, ◌≤◌, vec_len, vec_capacity, true, false, ◌++◌, map, drop, length, []}
+use Rattle.std.proofs.Common.{◌≡◌, ◌-◌, ◌≤◌, vec_len, vec_capacity, true, false, ◌++◌, map, drop, length, []}
 use Rattle.std.specs.Option.{ForSome}
 use Rattle.cm_spec.specs.Built.{edge_of, tag_of}
 use Rattle.cm_seeds.proofs.passes.hash_all.Given as goal
 
-abbrev pub invariant-loop-count : goal.invariant-loop-count
-invariant-loop-count g l =
+abbrev pub invariant-more : goal.invariant-more
+invariant-more g l =
     let P = g.P.KeyPass in
     record {
       ready : P.usable l.keys ≡ true;
@@ -23,3 +23,6 @@ invariant-loop-count g l =
       untagged : g.S.Scheme.KEEPS_TAGS ≡ false → l.tags.items ≡ [];
       tags : g.S.Scheme.KEEPS_TAGS ≡ true → ForSome (P.told l.fn.keys) (λ told. l.tags.items ++ map (tag_of (g.S.Scheme.rule l.scheme) l.seed) (drop (P.place l.keys) told.keys) ≡ map (tag_of (g.S.Scheme.rule l.scheme) l.seed) told.keys);
     }
+
+abbrev pub decreases-more : goal.decreases-more
+decreases-more g l = l.m - l.count
