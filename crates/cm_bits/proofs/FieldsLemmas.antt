@@ -94,6 +94,12 @@ field_room w n i bytes len l =
     let e : w * i ≤ w * n = mul-le-mul_left w (let m : i ≤ n = omega arith in m) in
     omega (arith, len, e)
 
+-- the same of a group of eight cells
+pub group_room : (w n g : ℕ) (bytes : List ℕ) → length bytes ≡ fields_len w n + 8 → 8 * g ≤ n → g * w + 8 ≤ length bytes
+group_room w n g bytes len l =
+    let e : w * (8 * g) ≤ w * n = mul-le-mul_left w l in
+    omega (arith, len, e)
+
 -- a cell lies in the eight bytes from that of its lowest bit on
 pub field_read : (w i : ℕ) (bytes : List ℕ) → w ≤ 26 → ((k : ℕ) → slice_index bytes k < 256) → i * w / 8 + 8 ≤ length bytes → bytes_number bytes / (2 ^ w) ^ i % 2 ^ w ≡ window_at bytes (i * w / 8) / 2 ^ (i * w % 8) % 2 ^ w
 field_read w i bytes short fit room =
@@ -123,16 +129,15 @@ abbrev pub IsPairBelow : List ℕ → ℕ → ℕ → ℕ → ℕ → Type 0
 IsPairBelow bytes at bit w bound = (window_at bytes (at + bit / 8) / 2 ^ (bit % 8) % 2 ^ w < bound) × (window_at bytes (at + bit / 8) / 2 ^ (bit % 8 + w) % 2 ^ w < bound)
 
 -- a group of eight cells more is below a bound
-pub group_more : (w n g at bound : ℕ) (bytes : List ℕ) → w ≤ 26 → ((k : ℕ) → slice_index bytes k < 256) → length bytes ≡ fields_len w n + 8 → 8 * (g + 1) ≤ n → at ≡ g * w
+pub group_more : (w g at bound : ℕ) (bytes : List ℕ) → w ≤ 26 → ((k : ℕ) → slice_index bytes k < 256) → (g + 1) * w + 8 ≤ length bytes → at ≡ g * w
     → IsPairBelow bytes at 0 w bound → IsPairBelow bytes at (2 * w) w bound → IsPairBelow bytes at (4 * w) w bound → IsPairBelow bytes at (6 * w) w bound
     → ((j : ℕ) → j < 8 * g → bytes_number bytes / (2 ^ w) ^ j % 2 ^ w < bound)
     → (j : ℕ) → j < 8 * (g + 1) → bytes_number bytes / (2 ^ w) ^ j % 2 ^ w < bound
-group_more w n g at bound bytes short fit len inside is a b c d before j l =
-    let room : (i : ℕ) → i < n → i * w / 8 + 8 ≤ length bytes = λ i m. field_room w n i bytes len m in
-    let one = pair_more w (8 * g) at 0 bound bytes short fit (room (8 * g) (omega (arith, inside))) (omega (arith, is)) (omega arith) a before in
-    let two = pair_more w (8 * g + 2) at (2 * w) bound bytes short fit (room (8 * g + 2) (omega (arith, inside))) (omega (arith, is)) (omega arith) b one in
-    let three = pair_more w (8 * g + 2 + 2) at (4 * w) bound bytes short fit (room (8 * g + 2 + 2) (omega (arith, inside))) (omega (arith, is)) (omega arith) c two in
-    pair_more w (8 * g + 2 + 2 + 2) at (6 * w) bound bytes short fit (room (8 * g + 2 + 2 + 2) (omega (arith, inside))) (omega (arith, is)) (omega arith) d three j (omega (arith, l))
+group_more w g at bound bytes short fit room is a b c d before j l =
+    let one = pair_more w (8 * g) at 0 bound bytes short fit (omega arith) (omega (arith, is)) (omega arith) a before in
+    let two = pair_more w (8 * g + 2) at (2 * w) bound bytes short fit (omega arith) (omega (arith, is)) (omega arith) b one in
+    let three = pair_more w (8 * g + 2 + 2) at (4 * w) bound bytes short fit (omega arith) (omega (arith, is)) (omega arith) c two in
+    pair_more w (8 * g + 2 + 2 + 2) at (6 * w) bound bytes short fit (omega arith) (omega (arith, is)) (omega arith) d three j (omega (arith, l))
 
 -- the cell's place in the number
 field_unit : (w i : ℕ) → (2 ^ w) ^ i ≡ 256 ^ (i * w / 8) * 2 ^ (i * w % 8)

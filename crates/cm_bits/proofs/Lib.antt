@@ -1,5 +1,6 @@
 mod AppendLemmas
 pub mod ByteLemmas
+pub mod CarryLemmas
 pub mod ClearLemmas
 pub mod DigitsLemmas
 pub mod FaultLemmas

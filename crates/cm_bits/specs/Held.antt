@@ -1,5 +1,5 @@
 -- How a table holds its cells: in the bytes of their image.
-use Rattle.std.specs.Prelude.{◌≡◌, ℕ, ◌+◌, ◌/◌, ◌%◌, ◌^◌, ◌<◌, ◌≤◌, List, length, slice_index}
+use Rattle.std.specs.Prelude.{◌≡◌, ℕ, ◌+◌, ◌/◌, ◌%◌, ◌^◌, ◌<◌, ◌≤◌, List, length, slice_index, bit_xor}
 use Rattle.cm_spec.specs.Image.{digits_sum, packed_len, packed_byte, fields_len}
 use Rattle.cm_spec.specs.Lists.{list_of}
 use Rattle.cm_bits.specs.Fault.{bytes_number}
@@ -31,6 +31,10 @@ IsMask mask = (w : ℕ) × (w ≤ 26) × (mask + 1 ≡ 2 ^ w)
 -- the number that eight bytes from a place on make, the first the lowest
 unfoldable pub window_at : List ℕ → ℕ → ℕ
 window_at bytes at = digits_sum 256 (λ k. slice_index bytes (at + k)) 8
+
+-- the carries into each bit, when two numbers of 64 bits are added
+abbrev pub carries_of : ℕ → ℕ → ℕ
+carries_of x y = bit_xor (bit_xor x y) ((x + y) % 2 ^ 64)
 
 -- eight bytes from a place on become those of a number, and the others stay
 pub record PutsWindow (at number : ℕ) (old new : List ℕ) : Type 0 where

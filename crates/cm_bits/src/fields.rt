@@ -7,6 +7,7 @@ ghost use Rattle.cm_bits.specs.Held.{IsFields, window_at};
 ghost use Rattle.cm_spec.specs.Image.{width_of, fields_byte, fields_len};
 ghost use Rattle.cm_bits.specs.declared.TheConstants.{MAX_CELLS, MAX_FIELD_BOUND};
 
+use crate::blocks::blocks_below;
 use crate::bytes::{first_byte_from, is_part_below, ones, part, put_window, window, with_part};
 use crate::{Cells, ImageFault, SPARE};
 use std::alloc::{AllocError, Global};
@@ -245,7 +246,8 @@ fn bad_cell(held: &[u8], n: u32, width: u32, bound: u32) -> Option<u32>
     }
     let mask = ones(width);
     let clear = clear_cells(held, width).min(n as u64) as u32;
-    let groups = groups_below(held, clear / 8, n, width, bound);
+    let blocks = blocks_below(held, clear / 8, n, width, bound);
+    let groups = groups_below(held, blocks, n, width, bound);
     for i in 8 * groups..n {
         if cell(held, i, width, mask) >= bound {
             return Some(i);

@@ -10,6 +10,7 @@ ghost use Rattle.cm_bits.specs.declared.TheConstants.{MAX_CELLS};
 
 use std::alloc::{AllocError, Global};
 
+mod blocks;
 mod bytes;
 pub mod fault;
 pub mod fields;

@@ -9,8 +9,8 @@ returns-then-bound-width c =
     let all : c.args.bound ≡ 2 ^ c.args.width = c.if-bound-width.true ∙ one_shl c.args.width 32 (omega (arith, c.requires.width)) in
     sym (bad_none c.args.width c.args.n c.args.bound (bytes_number c.args.held.now) (λ k l. rw all (mod_below _ (2 ^ c.args.width) (pow_pos c.args.width))))
 
-pub groups_below-groups-requires-clause-below : goal.groups_below-groups-requires-clause-below
-groups_below-groups-requires-clause-below c k l =
+pub blocks_below-blocks-requires-clause-below : goal.blocks_below-blocks-requires-clause-below
+blocks_below-blocks-requires-clause-below c k l =
     let none = c.clear_cells.ensures k (omega arith) in
     rw none c.requires.positive
 

@@ -1,5 +1,5 @@
 use Rattle.std.proofs.Common.{arith, refl, ◌+◌, ◌*◌}
-use Rattle.cm_bits.proofs.FieldsLemmas.{field_room, group_more}
+use Rattle.cm_bits.proofs.FieldsLemmas.{field_room, group_more, group_room}
 use Rattle.cm_bits.proofs.fields.groups_below.Goals as goal
 
 pub is_pair_below-requires-clause-room : goal.is_pair_below-requires-clause-room
@@ -20,6 +20,7 @@ is_pair_below-requires-in-loop-g-3-clause-room c =
 
 pub loop-g-preserved : goal.loop-g-preserved
 loop-g-preserved c =
-    group_more c.args.width c.args.n c.loop-g.g (c.loop-g.g * c.args.width) c.args.bound c.args.held.now c.requires.width c.requires.fit c.requires.whole (omega (arith, c.loop-g-test.true)) refl
+    let room = group_room c.args.width c.args.n (c.loop-g.g + 1) c.args.held.now c.requires.whole (omega (arith, c.loop-g-test.true)) in
+    group_more c.args.width c.loop-g.g (c.loop-g.g * c.args.width) c.args.bound c.args.held.now c.requires.width c.requires.fit room refl
     (c.if-not-is_pair_below.ensures.0 refl) (c.if-not-is_pair_below-2.ensures.0 refl) (c.if-not-is_pair_below-3.ensures.0 refl) (c.if-not-is_pair_below-4.ensures.0 refl)
     c.loop-g.invariant

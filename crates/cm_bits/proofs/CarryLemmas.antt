@@ -1,0 +1,207 @@
+-- Which carries of a sum show that a cell is not below a bound.
+use Rattle.std.specs.Prelude.{◌≡◌, ℕ, zero, suc, ◌+◌, ◌-◌, ◌*◌, ◌/◌, ◌%◌, ◌^◌, ◌<◌, ◌≤◌, List, [], ◌∷◌, length, slice_index, bit_and, bit_or, bit_xor, refl}
+use Rattle.std.specs.Int.{bit_at}
+use Rattle.std.specs.Simd.Lanes.{fold_l, zip2}
+use Rattle.std.proofs.Common.{arith, ap, sym, ◌∙◌, inl, inr}
+use Rattle.std.proofs.Math.Nat.{add-mul-div_left, div-add-mod, div-eq_of_lt, mod-eq_of_lt, mul-le-mul, mul-le-mul_left, pow-le-pow_right}
+use Rattle.std.proofs.lemmas.Bool.{cases_lt}
+use Rattle.std.proofs.lemmas.Nat.{mod_below, div_below, pow_pos, one_shl, or_lt, shr-shr, shr_high}
+use Rattle.std.proofs.lemmas.Nat.Bits.{bit_at-lt, bit_at-pow_same, bit_at-zero, bit_at_and, bit_at_cat_high, bit_at_cat_low, bit_at_or, bit_at_xor}
+use Rattle.std.proofs.lemmas.Simd.{get_or-zip2, length-zip2}
+use Rattle.cm_bits.specs.Fault.{bytes_number}
+use Rattle.cm_bits.specs.Held.{carries_of, window_at}
+use Rattle.cm_bits.proofs.FieldsLemmas.{IsPairBelow, group_more}
+
+-- a carry is what makes a bit of the sum differ from those of the two numbers
+carry_at : (x y i : ℕ) → i < 64 → bit_at (carries_of x y) i ≡ (bit_at x i + bit_at y i + bit_at (x + y) i) % 2
+carry_at x y i l =
+    let parts : (x + y) / 2 ^ 64 * 2 ^ 64 + (x + y) % 2 ^ 64 ≡ x + y = omega arith in
+    let low : bit_at ((x + y) % 2 ^ 64) i ≡ bit_at (x + y) i = sym (bit_at_cat_low ((x + y) / 2 ^ 64) 64 ((x + y) % 2 ^ 64) i l) ∙ ap (λ n. bit_at n i) parts in
+    bit_at_xor (bit_xor x y) ((x + y) % 2 ^ 64) i ∙ rw (bit_at_xor x y i, low) (omega arith)
+
+-- what is left of the parities of two numbers and of their sum with a third
+parity_left : (x y c : ℕ) → (x % 2 + y % 2 + (x + y + c) % 2) % 2 ≡ c % 2
+parity_left x y c = omega arith
+
+parity_alone : (x c : ℕ) → (x % 2 + 0 % 2 + (x + c) % 2) % 2 ≡ 0 → c % 2 ≡ 0
+parity_alone x c even = omega arith
+
+-- a quotient of a sum
+sum_over : (p x y : ℕ) → 0 < p → (x + y) / p ≡ x / p + (x % p + y) / p
+sum_over p x y some =
+    let whole : x + y ≡ x % p + y + p * (x / p) = omega (arith, div-add-mod x p) in
+    ap (λ n. n / p) whole ∙ add-mul-div_left (x % p + y) (x / p) some ∙ omega arith
+
+-- a cell that doesn't carry is below the bound
+no_carry : (p bound r : ℕ) → 0 < p → 0 < bound → bound ≤ p → r < p → (r + (p - bound)) / p % 2 ≡ 0 → ((r + (p - bound)) / p ≡ 0) × (r < bound)
+no_carry p bound r some positive most small even =
+    let two : (r + (p - bound)) / p < 2 = div_below (r + (p - bound)) p 2 some (omega arith) in
+    let none : (r + (p - bound)) / p ≡ 0 = omega arith in
+    let rest : (r + (p - bound)) % p < p = mod_below (r + (p - bound)) p some in
+    let whole : p * 0 + (r + (p - bound)) % p ≡ r + (p - bound) = rw none at (div-add-mod (r + (p - bound)) p) in
+    (none, omega arith)
+
+-- what is added to a pair if the same is added to each of its cells
+abbrev pub added_of : ℕ → ℕ → ℕ
+added_of w lack = lack * 2 ^ w + lack
+
+-- a pair from bit s on is below the bound if neither cell carries
+pair_clear : (w s bound x : ℕ) → 0 < bound → bound ≤ 2 ^ w → s + 2 * w < 64
+    → bit_at (carries_of x (added_of w (2 ^ w - bound) * 2 ^ s)) (s + w) ≡ 0 → bit_at (carries_of x (added_of w (2 ^ w - bound) * 2 ^ s)) (s + 2 * w) ≡ 0
+    → (x / 2 ^ s % 2 ^ w < bound) × (x / 2 ^ (s + w) % 2 ^ w < bound)
+pair_clear w s bound x positive most room low high =
+    let p : ℕ = 2 ^ w in
+    let some : 0 < p = pow_pos w in
+    let lack : ℕ = p - bound in
+    let small : lack < p = omega arith in
+    let y : ℕ = x / 2 ^ s in
+    let a : ℕ = added_of w lack * 2 ^ s in
+    let twice : s + 2 * w ≡ s + w + w = omega arith in
+    let y1 : x / 2 ^ (s + w) ≡ y / p = sym (shr-shr x s w) in
+    let y2 : x / 2 ^ (s + 2 * w) ≡ y / p / p = ap (λ k. x / 2 ^ k) twice ∙ sym (shr-shr x (s + w) w) ∙ ap (λ n. n / p) y1 in
+    let a0 : a / 2 ^ s ≡ added_of w lack = ap (λ n. n / 2 ^ s) (let t : a ≡ a + 0 = omega arith in t) ∙ shr_high (added_of w lack) s 0 (pow_pos s) in
+    let a1 : a / 2 ^ (s + w) ≡ lack = sym (shr-shr a s w) ∙ ap (λ n. n / p) a0 ∙ shr_high lack w lack small in
+    let a2 : a / 2 ^ (s + 2 * w) ≡ 0 = ap (λ k. a / 2 ^ k) twice ∙ sym (shr-shr a (s + w) w) ∙ ap (λ n. n / p) a1 ∙ div-eq_of_lt small in
+    let s0 : (x + a) / 2 ^ s ≡ y + added_of w lack = ap (λ n. n / 2 ^ s) (let t : x + a ≡ x + 2 ^ s * added_of w lack = omega arith in t) ∙ add-mul-div_left x (added_of w lack) (pow_pos s) in
+    let s1 : (x + a) / 2 ^ (s + w) ≡ y / p + lack + (y % p + lack) / p =
+    sym (shr-shr (x + a) s w) ∙ ap (λ n. n / p) s0 ∙ ap (λ n. n / p) (let t : y + added_of w lack ≡ y + lack + p * lack = omega arith in t)
+    ∙ add-mul-div_left (y + lack) lack some ∙ ap (λ n. n + lack) (sum_over p y lack some) ∙ omega arith in
+    let even : (y % p + lack) / p % 2 ≡ 0 = sym (parity_left (y / p) lack ((y % p + lack) / p)) ∙ (rw (carry_at x a (s + w) (omega arith), y1, a1, s1) at low) in
+    let first = no_carry p bound (y % p) some positive most (mod_below y p some) (omega arith) in
+    let s2 : (x + a) / 2 ^ (s + 2 * w) ≡ y / p / p + (y / p % p + lack) / p =
+    ap (λ k. (x + a) / 2 ^ k) twice ∙ sym (shr-shr (x + a) (s + w) w) ∙ ap (λ n. n / p) (s1 ∙ rw first.0 (omega arith)) ∙ sum_over p (y / p) lack some in
+    let even2 : (y / p % p + lack) / p % 2 ≡ 0 = parity_alone (y / p / p) ((y / p % p + lack) / p) (rw (carry_at x a (s + 2 * w) (omega arith), y2, a2, s2) at high) in
+    let second = no_carry p bound (y / p % p) some positive most (mod_below (y / p) p some) (omega arith) in
+    (first.1, rw y1 second.1)
+
+-- the carries of each lane, from operations on vectors
+pub crossed : (cross plus : ℕ → ℕ → ℕ) (xs ys : List ℕ) → zip2 cross (zip2 cross xs ys) (zip2 plus xs ys) ≡ zip2 (λ x y. cross (cross x y) (plus x y)) xs ys
+crossed cross plus [] ys = refl
+crossed cross plus (x ∷ xs) [] = refl
+crossed cross plus (x ∷ xs) (y ∷ ys) = ap (λ (l : List ℕ). cross (cross x y) (plus x y) ∷ l) (crossed cross plus xs ys)
+
+-- a fact of each of four lanes
+pub of_four : (P : ℕ → Type 0) → P 0 → P 1 → P 2 → P 3 → (j : ℕ) → j < 4 → P j
+of_four P a b c d zero l = a
+of_four P a b c d (suc zero) l = b
+of_four P a b c d (suc (suc zero)) l = c
+of_four P a b c d (suc (suc (suc zero))) l = d
+of_four P a b c d (suc (suc (suc (suc j)))) l = absurd (omega arith)
+
+-- the bits after the two cells of a pair
+abbrev pub after_of : ℕ → ℕ
+after_of w = bit_or (2 ^ w) (2 ^ (2 * w))
+
+-- what is added, as words of 64 bits compute it
+pub added_is : (w bound : ℕ) → w ≤ 26 → 0 < bound → bound ≤ 2 ^ w
+    → ((1 * 2 ^ w % 2 ^ 64 - bound) * 2 ^ w % 2 ^ 64 + (1 * 2 ^ w % 2 ^ 64 - bound) ≡ added_of w (2 ^ w - bound)) × (added_of w (2 ^ w - bound) < 2 ^ 57)
+added_is w bound short positive most =
+    let p : 2 ^ w ≤ 2 ^ 26 = pow-le-pow_right (omega arith) {j = 26} short in
+    let m : (2 ^ w - bound) * 2 ^ w ≤ 2 ^ 26 * 2 ^ 26 = mul-le-mul (let t : 2 ^ w - bound ≤ 2 ^ 26 = omega arith in t) p in
+    let top : (2 ^ w - bound) * 2 ^ w % 2 ^ 64 ≡ (2 ^ w - bound) * 2 ^ w = mod-eq_of_lt (omega arith) in
+    (rw (one_shl w 64 (omega arith), top) refl, omega arith)
+
+-- the bits after two cells, likewise
+pub after_is : (w : ℕ) → w ≤ 26 → (bit_or (1 * 2 ^ w % 2 ^ 64) (1 * 2 ^ (2 * w) % 2 ^ 64) ≡ after_of w) × (after_of w < 2 ^ 57)
+after_is w short =
+    let p : 2 ^ w ≤ 2 ^ 52 = pow-le-pow_right (omega arith) {j = 52} (omega arith) in
+    let q : 2 ^ (2 * w) ≤ 2 ^ 52 = pow-le-pow_right (omega arith) {j = 52} (omega arith) in
+    (rw (one_shl w 64 (omega arith), one_shl (2 * w) 64 (omega arith)) refl, or_lt 57 (2 ^ w) (2 ^ (2 * w)) (omega arith) (omega arith))
+
+-- a number that stays in place, as the first pair does
+pub unmoved : (x w : ℕ) → x ≡ x * 2 ^ (2 * 0 * w % 8)
+unmoved x w = let e : 2 * 0 * w ≡ 0 = omega arith in rw e (omega arith)
+
+-- a number that is moved by less than a byte
+pub moved : (x bit : ℕ) → x < 2 ^ 57 → x * 2 ^ (bit % 8) % 2 ^ 64 ≡ x * 2 ^ (bit % 8)
+moved x bit small =
+    let most : 2 ^ (bit % 8) ≤ 2 ^ 7 = pow-le-pow_right (omega arith) {j = 7} (omega arith) in
+    mod-eq_of_lt (omega (arith, mul-le-mul_left x most))
+
+-- the carries of pair j of group g, if so much is added to each cell
+abbrev pub carries_at : List ℕ → ℕ → ℕ → ℕ → ℕ → ℕ
+carries_at bytes w lack g j = carries_of (window_at bytes (g * w + 2 * j * w / 8)) (added_of w lack * 2 ^ (2 * j * w % 8))
+
+-- lane j has each carry of the pairs j of the groups from the first on and before g
+abbrev pub HasCarries : List ℕ → ℕ → ℕ → ℕ → ℕ → List ℕ → Type 0
+HasCarries bytes w lack first g found =
+    (length found ≡ 4) × ((j : ℕ) → j < 4 → (h : ℕ) → first ≤ h → h < g → (i : ℕ) → bit_at (slice_index found j) i ≡ 0 → bit_at (carries_at bytes w lack h j) i ≡ 0)
+
+or_clear : (x y i : ℕ) → bit_at (bit_or x y) i ≡ 0 → (bit_at x i ≡ 0) × (bit_at y i ≡ 0)
+or_clear x y i e = omega (arith, bit_at_or x y i)
+
+-- the carries of one group more
+pub carries_more : (w lack first g : ℕ) (bytes found windows added : List ℕ) → HasCarries bytes w lack first g found
+    → length windows ≡ 4 → ((j : ℕ) → j < 4 → slice_index windows j ≡ window_at bytes (g * w + 2 * j * w / 8))
+    → length added ≡ 4 → ((j : ℕ) → j < 4 → slice_index added j ≡ added_of w lack * 2 ^ (2 * j * w % 8))
+    → HasCarries bytes w lack first (g + 1) (zip2 bit_or found (zip2 carries_of windows added))
+carries_more w lack first g bytes found windows added has wide window long add =
+    let lanes : length (zip2 carries_of windows added) ≡ 4 = length-zip2 carries_of windows added (wide ∙ sym long) ∙ wide in (
+      length-zip2 bit_or found (zip2 carries_of windows added) (has.0 ∙ sym lanes) ∙ has.0,
+      λ j l h from to i e.
+          let here : slice_index (zip2 carries_of windows added) j ≡ carries_at bytes w lack g j =
+          get_or-zip2 carries_of windows added j 0 0 0 (omega arith) (omega arith) ∙ rw (window j l, add j l) refl in
+          let both = or_clear (slice_index found j) (carries_at bytes w lack g j) i (rw (get_or-zip2 bit_or found (zip2 carries_of windows added) j 0 0 0 (omega (arith, has.0)) (omega arith), here) at e) in
+          elim (cases_lt h g) [
+            | inl m ↦ has.1 j l h from m i both.0
+            | inr m ↦ let same : h ≡ g = omega arith in rw same both.1
+          ],
+    )
+
+-- no lane has a bit that all lanes together don't have
+first_clear : (xs : List ℕ) (x i : ℕ) → bit_at (fold_l bit_or x xs) i ≡ 0 → bit_at x i ≡ 0
+first_clear [] x i none = none
+first_clear (y ∷ ys) x i none = (or_clear x y i (first_clear ys (bit_or x y) i none)).0
+
+lane_clear : (xs : List ℕ) (x i j : ℕ) → bit_at (fold_l bit_or x xs) i ≡ 0 → bit_at (slice_index xs j) i ≡ 0
+lane_clear [] x i j none = bit_at-zero i
+lane_clear (y ∷ ys) x i zero none = (or_clear x y i (first_clear ys (bit_or x y) i none)).1
+lane_clear (y ∷ ys) x i (suc j) none = lane_clear ys (bit_or x y) i j none
+
+-- a bit of a number that is moved
+moved_bit : (x s i : ℕ) → bit_at (x * 2 ^ s) (s + i) ≡ bit_at x i
+moved_bit x s i =
+    ap (λ n. bit_at n (s + i)) (let t : x * 2 ^ s ≡ x * 2 ^ s + 0 = omega arith in t)
+    ∙ bit_at_cat_high x s 0 (s + i) (pow_pos s) (omega arith) ∙ ap (bit_at x) (omega arith)
+
+and_clear : (x y i : ℕ) → bit_at (bit_and x y) i ≡ 0 → bit_at y i ≡ 1 → bit_at x i ≡ 0
+and_clear x y i none is = omega (arith, bit_at_and x y i, bit_at-lt x i)
+
+-- lane j has neither bit that is after a cell
+after_clear : (w s j : ℕ) (found after : List ℕ) → length found ≡ 4 → length after ≡ 4 → j < 4 → slice_index after j ≡ after_of w * 2 ^ s → fold_l bit_or 0 (zip2 bit_and found after) ≡ 0
+    → (bit_at (slice_index found j) (s + w) ≡ 0) × (bit_at (slice_index found j) (s + 2 * w) ≡ 0)
+after_clear w s j found after wide long l is none =
+    let clear : (i : ℕ) → bit_at (bit_and (slice_index found j) (after_of w * 2 ^ s)) i ≡ 0 = λ i.
+    rw (← is, ← get_or-zip2 bit_and found after j 0 0 0 (omega arith) (omega arith)) (lane_clear (zip2 bit_and found after) 0 i j (ap (λ n. bit_at n i) none ∙ bit_at-zero i)) in
+    let one : bit_at (after_of w) w ≡ 1 = omega (arith, bit_at_or (2 ^ w) (2 ^ (2 * w)) w, bit_at-pow_same w, bit_at-lt (2 ^ (2 * w)) w) in
+    let two : bit_at (after_of w) (2 * w) ≡ 1 = omega (arith, bit_at_or (2 ^ w) (2 ^ (2 * w)) (2 * w), bit_at-pow_same (2 * w), bit_at-lt (2 ^ w) (2 * w)) in
+    (and_clear (slice_index found j) _ _ (clear _) (moved_bit (after_of w) s w ∙ one), and_clear (slice_index found j) _ _ (clear _) (moved_bit (after_of w) s (2 * w) ∙ two))
+
+-- groups more are below a bound
+groups_more : (w first bound : ℕ) (bytes : List ℕ) → w ≤ 26 → ((k : ℕ) → slice_index bytes k < 256)
+    → ((j : ℕ) → j < 8 * first → bytes_number bytes / (2 ^ w) ^ j % 2 ^ w < bound)
+    → (count : ℕ) → (first + count) * w + 8 ≤ length bytes
+    → ((g : ℕ) → first ≤ g → g < first + count → (j : ℕ) → j < 4 → IsPairBelow bytes (g * w) (2 * j * w) w bound)
+    → (k : ℕ) → k < 8 * (first + count) → bytes_number bytes / (2 ^ w) ^ k % 2 ^ w < bound
+groups_more w first bound bytes short fit before zero room pairs k l = before k (omega arith)
+groups_more w first bound bytes short fit before (suc count) room pairs k l =
+    let g : ℕ = first + count in
+    let less : g * w + 8 ≤ length bytes = omega arith in
+    let here : (j : ℕ) → j < 4 → IsPairBelow bytes (g * w) (2 * j * w) w bound = pairs g (omega arith) (omega arith) in
+    let start : 2 * 0 * w ≡ 0 = omega arith in
+    group_more w g (g * w) bound bytes short fit (omega arith) refl
+    (rw start at (here 0 (omega arith))) (here 1 (omega arith)) (here 2 (omega arith)) (here 3 (omega arith))
+    (groups_more w first bound bytes short fit before count less (λ h from to. pairs h from (omega arith))) k (omega arith)
+
+-- a block is below the bound if no cell of it carries
+pub block_more : (w first count bound : ℕ) (bytes found after : List ℕ) → w ≤ 26 → 0 < bound → bound ≤ 2 ^ w → ((k : ℕ) → slice_index bytes k < 256) → (first + count) * w + 8 ≤ length bytes
+    → HasCarries bytes w (2 ^ w - bound) first (first + count) found
+    → length after ≡ 4 → ((j : ℕ) → j < 4 → slice_index after j ≡ after_of w * 2 ^ (2 * j * w % 8))
+    → fold_l bit_or 0 (zip2 bit_and found after) ≡ 0
+    → ((j : ℕ) → j < 8 * first → bytes_number bytes / (2 ^ w) ^ j % 2 ^ w < bound)
+    → (k : ℕ) → k < 8 * (first + count) → bytes_number bytes / (2 ^ w) ^ k % 2 ^ w < bound
+block_more w first count bound bytes found after short positive most fit room has long is none before =
+    groups_more w first bound bytes short fit before count room (λ g from to j l.
+    let both = after_clear w (2 * j * w % 8) j found after has.0 long l (is j l) none in
+    pair_clear w (2 * j * w % 8) bound (window_at bytes (g * w + 2 * j * w / 8)) positive most (omega arith)
+    (has.1 j l g from to _ both.0) (has.1 j l g from to _ both.1))
