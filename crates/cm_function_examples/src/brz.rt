@@ -14,6 +14,7 @@ use cm_io::Spill;
 use cm_outer::{MemSink, MemSpill};
 use std::alloc::{AllocError, Global};
 use std::marker::Brand;
+use std::process::Abort;
 use std::sync::ledger::{Blank, Ledger};
 use std::test::Fail;
 
@@ -54,6 +55,9 @@ const SEEDS: [u32; 8] = [0, 1, 2, 3, 4, 5, 6, 7];
 
 /// How many bytes the spill has room for.
 const ROOM: usize = 4_194_304;
+
+/// How many bytes a long key has.
+const LONG: usize = 40_000;
 
 /// The records of the empty key and `a`: bucket, line, the key's length, and the key.
 const RECORDS_TWO: [u8; 21] = [
@@ -121,6 +125,94 @@ fn a_bucket_of_two(rt: HostRuntime) -> Result<(), Fail> {
         panic!(rt; "a failed read");
     };
     expect_bytes(&rt, &records[..n], &RECORDS_TWO);
+    Ok(())
+}
+
+/// 65 keys, one after the other, each of `LONG` equal bytes: 48 in the first, and one more in each further one.
+fn long_keys(alloc: Global) -> Result<Vec<u8>, AllocError> {
+    let mut all = Vec::new(alloc);
+    for byte in 48..113u8 {
+        all.resize((byte as usize - 47) * LONG, byte)?;
+    }
+    Ok(all)
+}
+
+/// The line of each record in the spill, as far as there are 65 of them. All keys have `LONG` bytes.
+fn lines_in(alloc: Global, spill: &mut MemSpill) -> Result<Vec<u8>, AllocError> {
+    let mut lines = Vec::new(alloc);
+    let mut line = [0; 4];
+    'records: for i in 0..65 {
+        if let Ok(4) = spill.read_at((LONG as u64 + 10) * i + 4, &mut line) {
+            lines.push(line[0])?;
+        }
+    }
+    Ok(lines)
+}
+
+/// The dump of a function built through a buffer of this many bytes, and the lines in its spill. The dump is empty if the keys are refused.
+fn spilled(alloc: Global, keys: &[&[u8]], buffer: u32) -> Result<(Vec<u8>, Vec<u8>), AllocError>
+    requires buffer { (MIN_BYTES ≤ buffer) × (buffer ≤ MAX_BYTES) }
+{
+    let (made, mut spill) = built(alloc, keys, 64, buffer)?;
+    let lines = lines_in(alloc, &mut spill)?;
+    let Ok(function) = made else {
+        return Ok((Vec::new(alloc), lines));
+    };
+    let mut out = MemSink::new(alloc, 65_536, Vec::new(alloc))?;
+    if save(&Func::Brz(function), &mut out).is_err() {
+        return Ok((Vec::new(alloc), lines));
+    }
+    Ok((out.bytes().to_vec(alloc)?, lines))
+}
+
+/// Fails the test unless the buffers lead to the same dump. Returns the lines in the spill of each.
+fn expect_same(
+    rt: &impl Abort,
+    alloc: Global,
+    keys: &[&[u8]],
+    buffers: (u32, u32),
+) -> Result<(Vec<u8>, Vec<u8>), AllocError>
+    requires first { (MIN_BYTES ≤ buffers.0) × (buffers.0 ≤ MAX_BYTES) }
+    requires second { (MIN_BYTES ≤ buffers.1) × (buffers.1 ≤ MAX_BYTES) }
+{
+    let (first, lines) = spilled(alloc, keys, buffers.0)?;
+    let (second, others) = spilled(alloc, keys, buffers.1)?;
+    expect_true(rt, !first.is_empty());
+    expect_bytes(rt, second.as_slice(), first.as_slice());
+    Ok((lines, others))
+}
+
+/// How often a line is lower than the one before it.
+fn falls(lines: &[u8]) -> u32 {
+    let mut falls = 0u32;
+    let mut last = 0;
+    for line in lines {
+        if *line < last {
+            falls = falls.wrapping_add(1);
+        }
+        last = *line;
+    }
+    falls
+}
+
+/// With the least buffer each record is a run, so the spill has the records by line. With a large one all are one run, by bucket and then
+/// by line.
+#[test]
+fn long_keys_by_two_buffers(rt: HostRuntime) -> Result<(), Fail> {
+    let alloc = rt.alloc();
+    let all = long_keys(alloc)?;
+    let mut keys: Vec<&[u8]> = Vec::new(alloc);
+    for key in all.chunks(LONG) {
+        keys.push(key)?;
+    }
+    let Some(three) = keys.get(49..52) else {
+        panic!(rt; "fewer keys");
+    };
+    let (lines, _) = expect_same(&rt, alloc, three, (MIN_BYTES, 1_048_576))?;
+    expect_bytes(&rt, lines.as_slice(), &[1, 2, 3]);
+    let (lines, others) = expect_same(&rt, alloc, keys.as_slice(), (MIN_BYTES, 4_194_304))?;
+    expect_equal(&rt, &(lines.len(), falls(lines.as_slice())), &(65, 0));
+    expect_equal(&rt, &(others.len(), falls(others.as_slice())), &(65, 1));
     Ok(())
 }
 
