@@ -4,7 +4,7 @@ use Rattle.std.specs.Option.{option_map, ForSome}
 use Rattle.std.proofs.lemmas.List.{drop-drop, drop-take, take_all}
 use Rattle.memchr.specs.Find.{Nowhere, Passes, is_byte}
 use Rattle.cm_keys.specs.Lines.{push_first, pieces}
-use Rattle.cm_keys.specs.Buffering.{with_front, BeginsWith, HasNoEnd, IsLong, TakesPart, left_bytes, ready_in}
+use Rattle.cm_keys.specs.Buffering.{with_front, BeginsWith, HasFewer, HasNoEnd, IsLong, TakesPart, left_bytes, ready_in}
 use Rattle.cm_keys.specs.declared.buffered.Part.TheVariants.{Whole, More, Long}
 
 pub not_true : (b : Bool) → (b ≡ true → ⊥) → b ≡ false
@@ -174,6 +174,27 @@ pub lines_after : (longest end len : ℕ) (ready after line : List ℕ) (lines :
     → BeginsWith longest end after lines
 lines_after longest end len ready after line lines (left, takes, others) long is =
     subst (λ (rest : List ℕ). BeginsWith longest end rest lines) (sym (after_line longest end len ready left line after takes long is)) others
+
+-- Bytes begin with one line only.
+same_left_after : (longest end : ℕ) (ready left left' key key' : List ℕ) → TakesPart longest end ready left [] key Whole → TakesPart longest end ready left' [] key' Whole → left' ≡ left
+same_left_after longest end ready left left' key key' takes takes' =
+    let part = takes.0 in
+    let part' = takes'.0 in
+    let bytes : part' ++ end ∷ left' ≡ part ++ end ∷ left = sym takes'.3 ∙ takes.3 in
+    let first : part' ∷ pieces end (left' ++ []) ≡ part ∷ pieces end (left ++ []) =
+    sym (front_whole end [] part' left' [] takes'.1) ∙ ap (λ (l : List ℕ). pieces end (l ++ [])) bytes ∙ front_whole end [] part left [] takes.1 in
+    sym (drop_front end part' left') ∙ ap (λ (l : List ℕ). drop (suc (length part')) l) bytes ∙ ap (λ (k : ℕ). drop (suc k) (part ++ end ∷ left)) (ap first_len first) ∙ drop_front end part left
+
+-- Without an end there is no line.
+pub fewer_here : (longest end count : ℕ) (ready : List ℕ) → 0 < count → HasNoEnd end ready → HasFewer longest end count ready
+fewer_here longest end count ready some none [] many begin = absurd (omega (arith, some, many))
+fewer_here longest end count ready some none (line ∷ lines) many (left, takes, others) = no_line longest end ready left line none takes
+
+-- After a line there is one less.
+pub fewer_after : (longest end count : ℕ) (ready left key : List ℕ) → TakesPart longest end ready left [] key Whole → HasFewer longest end count left → HasFewer longest end (suc count) ready
+fewer_after longest end count ready left key takes fewer [] many begin = absurd (omega (arith, many))
+fewer_after longest end count ready left key takes fewer (line ∷ lines) many (left', takes', others) =
+    fewer lines (omega (arith, many)) (subst (λ (rest : List ℕ). BeginsWith longest end rest lines) (same_left_after longest end ready left left' key line takes takes') others)
 
 -- A line that is read part by part.
 

@@ -41,6 +41,10 @@ abbrev pub BeginsWith : ℕ → ℕ → List ℕ → List (List ℕ) → Type 0
 BeginsWith longest end ready [] = Unit {0}
 BeginsWith longest end ready (line ∷ lines) = (left : List ℕ) × TakesPart longest end ready left [] line Whole × BeginsWith longest end left lines
 
+-- The bytes don't begin with this many lines, each with its end.
+abbrev pub HasFewer : ℕ → ℕ → ℕ → List ℕ → Type 0
+HasFewer longest end count ready = (lines : List (List ℕ)) → length lines ≡ count → BeginsWith longest end ready lines → ⊥
+
 -- This many whole lines in the buffer pass with their ends.
 pub record TakesLines (longest end : ℕ) (ready left : List ℕ) (count : ℕ) : Type 0 where
   pub lines : List (List ℕ)

@@ -3,7 +3,7 @@ ghost use Rattle.std.specs.Prelude.{◌≡◌, ◌<◌, ◌≤◌, ◌++◌, ◌
 ghost use Rattle.std.specs.Option.{ForSome};
 ghost use Rattle.cm_io.specs.Causes.{HasCause};
 ghost use Rattle.memchr.specs.Find.{IsFirstByte, is_byte};
-ghost use Rattle.cm_keys.specs.Buffering.{ready_in, left_bytes, BeginsWith, HasNoEnd, TakesLines, TakesPart, ReadsLine};
+ghost use Rattle.cm_keys.specs.Buffering.{ready_in, left_bytes, BeginsWith, HasFewer, HasNoEnd, TakesLines, TakesPart, ReadsLine};
 ghost use Rattle.cm_keys.specs.declared.buffered.TheConstants.{ROOM};
 
 use cm_io::{Failed, KeyBuf, MAX_KEY_LEN, Source};
@@ -191,6 +191,7 @@ impl<S: Source> Buffered<S> {
     pub fn peek_four(&self, end: u8) -> Option<(&[u8], &[u8], &[u8], &[u8])>
         ensures lines { IfSome result (λ four. BeginsWith MAX_KEY_LEN end (ready_in self.now.buf self.now.start self.now.until)
             (four.0.now ∷ four.1.now ∷ four.2.now ∷ four.3.now ∷ [])) }
+        ensures none { IfNone result (HasFewer MAX_KEY_LEN end 4 (ready_in self.now.buf self.now.start self.now.until)) }
     {
         let ready = &self.buf[self.start..self.until];
         let (p, ready) = match first_line(end, ready) {

@@ -1,7 +1,7 @@
 ghost use Rattle.std.specs.Prelude.{◌≡◌, ◌⊎◌, ◌<◌, ◌≤◌, ◌+◌, ◌↔◌, ℕ, List, length, drop, Ok, true, false, OnOk, OnErr, IfOk, IfErr, IfSome, IfNone, IsTrue, IsOkUnless, if◌then◌else◌, option_map};
 ghost use Rattle.std.specs.Option.{ForSome};
 ghost use Rattle.cm_io.specs.Passes.{HasKeyCause, GivesFour, GivesKey, PassesKeys};
-ghost use Rattle.cm_keys.specs.Buffering.{HasNoEnd};
+ghost use Rattle.cm_keys.specs.Buffering.{HasFewer, HasNoEnd};
 ghost use Rattle.cm_keys.specs.Lines.{lines_of};
 ghost use Rattle.cm_keys.specs.NumberingLaws.{IsWithin};
 ghost use Rattle.cm_keys.specs.declared.buffered.TheConstants.{ROOM};
@@ -252,6 +252,9 @@ impl<S: Source> KeyPass for Keys<S> {
         ensures rises { IfSome result (λ _. self.old.given < self.new.given) }
         ensures usable { self.new.usable ≡ true }
         ensures unchanged { IfNone result (self.new ≡ self.old) }
+
+        // Passes four lines if they are in the buffer, except near the last line to read and near `MAX_KEYS` keys.
+        ensures none { IfNone result (IsNearEnd MAX_KEYS 4 self.old.first self.old.given ⊎ HasFewer MAX_KEY_LEN LINE_END 4 self.old.waiting) }
 
         // The bytes of the source, the number of lines to read and `ended` stay the same.
         ensures bytes { self.new.bytes ≡ self.old.bytes }
