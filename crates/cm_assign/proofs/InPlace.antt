@@ -8,7 +8,7 @@ use Rattle.std.proofs.lemmas.List.{get_or-set_other}
 use Rattle.cm_spec.specs.Graph.{ends_at}
 use Rattle.cm_spec.specs.Lists.{has}
 use Rattle.cm_spec.specs.Rounds.{removed_after, order_upto, order_of}
-use Rattle.cm_peel.specs.SetLaws.{Rises, rises_below}
+use Rattle.cm_peel.specs.SetLaws.{AreApart, Rises-apart}
 use Rattle.cm_peel.specs.RoundLaws.{removed_rises, removed_is_left}
 use Rattle.cm_assign.specs.OneByOne.{one_by_one}
 use Rattle.cm_spec.specs.Cells.{Plan, pivot_vertex, cell_but, completing, value_at, at_once, cells_from, cells_of, all_idle}
@@ -41,11 +41,6 @@ pub length-one_by_one : (p : Plan) (before es : List ℕ) → length (one_by_one
 length-one_by_one p before [] = refl
 length-one_by_one p before (e ∷ es) = length-set _ _ _ ∙ length-one_by_one p before es
 
--- no number stands twice in a list
-abbrev pub AreDistinct : List ℕ → Type 0
-AreDistinct [] = Unit {0}
-AreDistinct (x ∷ xs) = (has xs x ≡ false) × AreDistinct xs
-
 -- no edge has the vertex at the pivot of a later one as an end
 abbrev pub AreFree : List (List ℕ) → List ℕ → Type 0
 AreFree edges [] = Unit {0}
@@ -60,19 +55,15 @@ at_once_is p before (e ∷ es) free =
     ap (λ c. set c (pivot_vertex p.edges e) (value_at p (one_by_one p before es) e)) (at_once_is p before es free.1) ∙ ap (λ x. set (at_once p before es) (pivot_vertex p.edges e) x) same
 
 -- so it is with edges of one round
-pub free_round : (edges : List (List ℕ)) (t : ℕ) (es : List ℕ) → ((e : ℕ) → has es e ≡ true → has (removed_after edges t) e ≡ true) → AreDistinct es → AreFree edges es
+pub free_round : (edges : List (List ℕ)) (t : ℕ) (es : List ℕ) → ((e : ℕ) → has es e ≡ true → has (removed_after edges t) e ≡ true) → AreApart es → AreFree edges es
 free_round edges t [] within distinct = tt
 free_round edges t (e ∷ es) within distinct = (
   λ f m. alone edges t f e (within f (or_right (eqb e f) (has es f) m)) (removed_is_left edges t e (within e (or_left _ _ (eq-eqb e e refl)))) (λ s. both_ways _ distinct.0 (subst (λ x. has es x ≡ true) (sym s) m)),
   free_round edges t es (λ f m. within f (or_right (eqb e f) (has es f) m)) distinct.1,
 )
 
-rises_distinct : (low : ℕ) (es : List ℕ) → Rises low es → AreDistinct es
-rises_distinct low [] r = tt
-rises_distinct low (e ∷ es) r = (rises_below (suc e) e es r.1 (omega arith), rises_distinct (suc e) es r.1)
-
 pub round_is : (p : Plan) (before : List ℕ) (t : ℕ) → one_by_one p before (removed_after p.edges t) ≡ at_once p before (removed_after p.edges t)
-round_is p before t = at_once_is p before (removed_after p.edges t) (free_round p.edges t (removed_after p.edges t) (λ e m. m) (rises_distinct 0 (removed_after p.edges t) (removed_rises p.edges t)))
+round_is p before t = at_once_is p before (removed_after p.edges t) (free_round p.edges t (removed_after p.edges t) (λ e m. m) (Rises-apart 0 (removed_after p.edges t) (removed_rises p.edges t)))
 
 -- the edges of d rounds from the one after t rounds on
 abbrev pub rounds : List (List ℕ) → ℕ → ℕ → List ℕ

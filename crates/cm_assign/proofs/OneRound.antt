@@ -5,10 +5,11 @@ use Rattle.cm_spec.specs.Graph.{ends_at}
 use Rattle.cm_spec.specs.Lists.{has}
 use Rattle.cm_spec.specs.Rounds.{removed_after, order_upto, order_of, level_of}
 use Rattle.cm_spec.specs.Cells.{Plan, pivot_vertex, at_once}
+use Rattle.cm_peel.specs.SetLaws.{AreApart}
 use Rattle.cm_peel.specs.RoundLaws.{none_after}
 use Rattle.cm_assign.specs.OneByOne.{one_by_one}
 use Rattle.cm_assign.proofs.Alone.{removed_level}
-use Rattle.cm_assign.proofs.InPlace.{AreDistinct, at_once_is, free_round, rounds, rounds_are}
+use Rattle.cm_assign.proofs.InPlace.{at_once_is, free_round, rounds, rounds_are}
 use Rattle.cm_assign.proofs.Solving.{Apart, apart-order, in_round, order_removed}
 
 -- each level is the one before it or the next
@@ -67,7 +68,7 @@ has_take (suc n) (x ∷ xs) e m = go (or_cases (eqb x e) (has (take n xs) e) m) 
   go (inr later) ih = or_right (eqb x e) (has xs e) (ih later)
 
 -- the order has no edge twice
-apart_distinct : (edges : List (List ℕ)) (es : List ℕ) → Apart edges es → ((e : ℕ) → has es e ≡ true → has (ends_at edges e) (pivot_vertex edges e) ≡ true) → AreDistinct es
+apart_distinct : (edges : List (List ℕ)) (es : List ℕ) → Apart edges es → ((e : ℕ) → has es e ≡ true → has (ends_at edges e) (pivot_vertex edges e) ≡ true) → AreApart es
 apart_distinct edges [] apart touching = tt
 apart_distinct edges (e ∷ es) apart touching = (
   go (has es e) refl,
@@ -77,12 +78,12 @@ apart_distinct edges (e ∷ es) apart touching = (
   go true there = absurd (both_ways _ (apart.0 e there) (touching e (or_left _ _ (eq-eqb e e refl))))
   go false is = is
 
-distinct_drop : (n : ℕ) (xs : List ℕ) → AreDistinct xs → AreDistinct (drop n xs)
+distinct_drop : (n : ℕ) (xs : List ℕ) → AreApart xs → AreApart (drop n xs)
 distinct_drop zero xs distinct = distinct
 distinct_drop (suc n) [] distinct = tt
 distinct_drop (suc n) (x ∷ xs) distinct = distinct_drop n xs distinct.1
 
-distinct_take : (n : ℕ) (xs : List ℕ) → AreDistinct xs → AreDistinct (take n xs)
+distinct_take : (n : ℕ) (xs : List ℕ) → AreApart xs → AreApart (take n xs)
 distinct_take zero xs distinct = tt
 distinct_take (suc n) [] distinct = tt
 distinct_take (suc n) (x ∷ xs) distinct = (go (has (take n xs) x) refl, distinct_take n xs distinct.1) where
@@ -125,7 +126,7 @@ one_round p before at n parity same =
     let from = steps_drop edges at 0 order (steps_order edges) in
     let removed = λ (e : ℕ) (m : has part e ≡ true). order_removed edges (length edges) e (within e m) in
     let level = same_level edges parity from.0 part (steps_take edges n from.0 (drop at order) from.1) (λ e m. (removed e m).level) same in
-    let distinct : AreDistinct order = apart_distinct edges order (apart-order edges) (λ e m. (order_removed edges (length edges) e m).touching) in
+    let distinct : AreApart order = apart_distinct edges order (apart-order edges) (λ e m. (order_removed edges (length edges) e m).touching) in
     at_once_is p before part (free_round edges level.0 part (λ e m.
     let r = in_round edges (length edges) e (within e m) in
     let u : r.0 ≡ level.0 = omega (arith, removed_level edges r.0 e r.1, level.1 e m) in

@@ -10,7 +10,7 @@ use Rattle.std.proofs.Math.Nat.{mod-eq_of_lt, div-add-mod, add-mul-mod_self_left
 use Rattle.cm_spec.specs.Graph.{ends_at}
 use Rattle.cm_spec.specs.Lists.{has}
 use Rattle.cm_spec.specs.Rounds.{left_after, removed_after, rest_of, order_upto, order_of, pivot_of, level_of, is_held}
-use Rattle.cm_peel.specs.SetLaws.{Rises, rises_below, has-filter}
+use Rattle.cm_peel.specs.SetLaws.{AreApart, Rises, rises_below, has-filter}
 use Rattle.cm_peel.specs.CoreLaws.{left_after-zero, left_after-suc}
 use Rattle.cm_peel.specs.RoundLaws.{removed_rises, removed_is_left, has_place, has_removed, length-order}
 use Rattle.cm_spec.specs.Graph.{AreEdges}
@@ -18,7 +18,7 @@ use Rattle.cm_assign.specs.OneByOne.{one_by_one}
 use Rattle.cm_spec.specs.Cells.{plan_of, Plan, pivot_vertex, cell_but, sum_but, completing, value_at, at_once, cells_of, all_idle, is_busy, AreSolved}
 use Rattle.cm_spec.specs.Rule.{Rule, IsRule, IsCount}
 use Rattle.cm_assign.proofs.Alone.{alone, left_before, removed_not_left, removed_place, removed_level, pivot_at}
-use Rattle.cm_assign.proofs.InPlace.{AreDistinct, kept, length-one_by_one, one_by_one-append, rounds, rounds_are, sum_by-agree, cells_are}
+use Rattle.cm_assign.proofs.InPlace.{kept, length-one_by_one, one_by_one-append, rounds, rounds_are, sum_by-agree, cells_are}
 
 -- an edge that some round removes
 pub record IsRemoved (edges : List (List ℕ)) (e : ℕ) : Type 0 where
@@ -124,7 +124,7 @@ pivots_apart : (edges : List (List ℕ)) (e f : ℕ) → has (order_of edges) e 
 pivots_apart edges = apart_in edges (order_of edges) (apart-order edges) (λ e m. (order_removed edges (length edges) e m).touching)
 
 -- sums
-pub distinct-from : (xs : List ℕ) → AllPairs (λ u v. u ≢ v) xs → AreDistinct xs
+pub distinct-from : (xs : List ℕ) → AllPairs (λ u v. u ≢ v) xs → AreApart xs
 distinct-from [] h = tt
 distinct-from (x ∷ xs) h = (go (cases_Bool (has xs x)), distinct-from xs (λ i j d l m. h (suc i) (suc j) d (omega arith) (omega arith))) where
   go : (has xs x ≡ true) ⊎ (has xs x ≡ false) → has xs x ≡ false
@@ -140,7 +140,7 @@ sum_without cells ends v h = sum_by-agree (cell_but cells v) (λ u. get_or cells
   go u m (inl same) = absurd (both_ways _ h (subst (λ w. has ends w ≡ true) same m))
   go u m (inr other) = let f : eqb u v ≡ false = ne_eqb _ _ other in rw f refl
 
-pub sum_split : (cells ends : List ℕ) (v : ℕ) → AreDistinct ends → has ends v ≡ true → sum_by (λ u. get_or cells u 0) ends ≡ get_or cells v 0 + sum_but cells v ends
+pub sum_split : (cells ends : List ℕ) (v : ℕ) → AreApart ends → has ends v ≡ true → sum_by (λ u. get_or cells u 0) ends ≡ get_or cells v 0 + sum_but cells v ends
 sum_split cells [] v d m = absurd (false≢true m)
 sum_split cells (x ∷ xs) v d m = go (cases_eq x v) (sum_split cells xs v d.1) where
   go : (x ≡ v) ⊎ (x ≡ v → ⊥) → (has xs v ≡ true → sum_by (λ u. get_or cells u 0) xs ≡ get_or cells v 0 + sum_but cells v xs) → sum_by (λ u. get_or cells u 0) (x ∷ xs) ≡ get_or cells v 0 + sum_but cells v (x ∷ xs)
@@ -181,7 +181,7 @@ pub record Solves (p : Plan) (es cells : List ℕ) : Type 0 where
 pub record IsFit (p : Plan) (e : ℕ) : Type 0 where
   pub touching : has (ends_at p.edges e) (pivot_vertex p.edges e) ≡ true
   pub within : pivot_vertex p.edges e < p.vertices
-  pub distinct : AreDistinct (ends_at p.edges e)
+  pub distinct : AreApart (ends_at p.edges e)
   pub target : p.target e < p.modulus
 
 untouched : (cells ends : List ℕ) (v x : ℕ) → has ends v ≡ false → sum_by (λ u. get_or (set cells v x) u 0) ends ≡ sum_by (λ u. get_or cells u 0) ends

@@ -24,6 +24,17 @@ pub record IsFields (w n : ℕ) (bytes : List ℕ) : Type 0 where
   pub fit : (k : ℕ) → slice_index bytes k < 256
   pub clear : bytes_number bytes < (2 ^ w) ^ n
 
+-- the first m of the cells of w bits that bytes hold are below the bound
+abbrev pub AreBelow : ℕ → ℕ → List ℕ → ℕ → Type 0
+AreBelow w bound bytes m = (k : ℕ) → k < m → bytes_number bytes / (2 ^ w) ^ k % 2 ^ w < bound
+
+-- bytes of n cells of w bits, which serve the bound, and eight more
+pub record HoldFields (w n bound : ℕ) (bytes : List ℕ) : Type 0 where
+  pub width : w ≤ 26
+  pub bound_within : bound ≤ 2 ^ w
+  pub whole : length bytes ≡ fields_len w n + 8
+  pub fit : (k : ℕ) → slice_index bytes k < 256
+
 -- the lowest w bits are ones, for some w of at most 26, and no others are
 abbrev pub IsMask : ℕ → Type 0
 IsMask mask = (w : ℕ) × (w ≤ 26) × (mask + 1 ≡ 2 ^ w)

@@ -1,10 +1,8 @@
 // Which cells are below a bound, by blocks: many cells at once, without a branch.
 ghost use Rattle.std.specs.Prelude.{◌≡◌, ℕ, ◌+◌, ◌*◌, ◌/◌, ◌%◌, ◌^◌, ◌<◌, ◌≤◌, IsTrue, length, slice_index};
 ghost use Rattle.std.specs.Simd.Lanes.{zip2};
-ghost use Rattle.cm_bits.specs.Fault.{bytes_number};
-ghost use Rattle.cm_bits.specs.Held.{carries_of, window_at};
+ghost use Rattle.cm_bits.specs.Held.{AreBelow, HoldFields, carries_of, window_at};
 ghost use Rattle.cm_bits.specs.declared.blocks.TheConstants.{BLOCK};
-ghost use Rattle.cm_spec.specs.Image.{fields_len};
 
 use crate::bytes::window;
 use std::simd::prelude::*;
@@ -63,8 +61,8 @@ fn is_block_below(held: &[u8], first: u32, width: u32, bound: u32) -> bool
     requires small { first + BLOCK < 2 ^ 32 }
     requires room { (first + BLOCK) * width + 8 ≤ length held.now }
     requires fit { (k : ℕ) → slice_index held.now k < 256 }
-    requires below { (k : ℕ) → k < 8 * first → bytes_number held.now / (2 ^ width) ^ k % 2 ^ width < bound }
-    ensures { IsTrue result → (k : ℕ) → k < 8 * (first + BLOCK) → bytes_number held.now / (2 ^ width) ^ k % 2 ^ width < bound }
+    requires below { AreBelow width bound held.now (8 * first) }
+    ensures { IsTrue result → AreBelow width bound held.now (8 * (first + BLOCK)) }
 {
     let w = width as usize;
     let lack = (1 << w) - bound as u64;
@@ -80,15 +78,12 @@ fn is_block_below(held: &[u8], first: u32, width: u32, bound: u32) -> bool
 // How many of the leading groups of eight cells have only cells below the bound, as far as whole blocks show. All groups before
 // `first` do.
 pub fn blocks_below(held: &[u8], first: u32, n: u32, width: u32, bound: u32) -> u32
-    requires width { width ≤ 26 }
     requires positive { 0 < bound }
-    requires bound { bound ≤ 2 ^ width }
     requires order { 8 * first ≤ n }
-    requires whole { length held.now ≡ fields_len width n + 8 }
-    requires fit { (k : ℕ) → slice_index held.now k < 256 }
-    requires below { (k : ℕ) → k < 8 * first → bytes_number held.now / (2 ^ width) ^ k % 2 ^ width < bound }
+    requires held { HoldFields width n bound held.now }
+    requires below { AreBelow width bound held.now (8 * first) }
     ensures some { 8 * result ≤ n }
-    ensures below { (k : ℕ) → k < 8 * result → bytes_number held.now / (2 ^ width) ^ k % 2 ^ width < bound }
+    ensures below { AreBelow width bound held.now (8 * result) }
 {
     let mut groups = first;
     while groups + BLOCK <= n / 8 && is_block_below(held, groups, width, bound) {

@@ -3,7 +3,7 @@ ghost use Rattle.std.specs.Prelude.{◌≡◌, ◌+◌, ◌*◌, ◌/◌, ◌%�
 ghost use Rattle.cm_bits.specs.Bound.{AllBelow};
 ghost use Rattle.cm_bits.specs.Fault.{bytes_number, field_cells, fields_fault};
 ghost use Rattle.cm_bits.specs.FieldsLaws.{same_fields_bound, field_room_for, field_byte_lt, fields_fault-image};
-ghost use Rattle.cm_bits.specs.Held.{IsFields, window_at};
+ghost use Rattle.cm_bits.specs.Held.{AreBelow, HoldFields, IsFields, window_at};
 ghost use Rattle.cm_spec.specs.Image.{width_of, fields_byte, fields_len};
 ghost use Rattle.cm_bits.specs.declared.TheConstants.{MAX_CELLS, MAX_FIELD_BOUND};
 
@@ -201,14 +201,11 @@ fn is_pair_below(held: &[u8], at: usize, bit: u64, width: u32, mask: u32, bound:
 // How many of the leading groups of eight cells, which begin with a byte, have only cells below the bound. All groups before `first`
 // do.
 fn groups_below(held: &[u8], first: u32, n: u32, width: u32, bound: u32) -> u32
-    requires width { width ≤ 26 }
-    requires bound { bound ≤ 2 ^ width }
     requires order { 8 * first ≤ n }
-    requires whole { length held.now ≡ fields_len width n + 8 }
-    requires fit { (k : ℕ) → slice_index held.now k < 256 }
-    requires below { (k : ℕ) → k < 8 * first → bytes_number held.now / (2 ^ width) ^ k % 2 ^ width < bound }
+    requires held { HoldFields width n bound held.now }
+    requires below { AreBelow width bound held.now (8 * first) }
     ensures some { 8 * result ≤ n }
-    ensures below { (k : ℕ) → k < 8 * result → bytes_number held.now / (2 ^ width) ^ k % 2 ^ width < bound }
+    ensures below { AreBelow width bound held.now (8 * result) }
 {
     let mask = ones(width);
     let w = width as u64;
@@ -233,12 +230,9 @@ fn groups_below(held: &[u8], first: u32, n: u32, width: u32, bound: u32) -> u32
 // The lowest of n cells that is not below the bound.
 fn bad_cell(held: &[u8], n: u32, width: u32, bound: u32) -> Option<u32>
     requires some { 0 < width }
-    requires width { width ≤ 26 }
     requires positive { 0 < bound }
-    requires bound { bound ≤ 2 ^ width }
-    requires whole { length held.now ≡ fields_len width n + 8 }
+    requires held { HoldFields width n bound held.now }
     requires room { length held.now < 2 ^ 60 }
-    requires fit { (k : ℕ) → slice_index held.now k < 256 }
     ensures { result ≡ position (λ c. nat_le bound c) (field_cells width n (bytes_number held.now)) }
 {
     if bound == 1 << width {

@@ -12,11 +12,11 @@ use Rattle.cm_spec.specs.Graph.{AreEdges, ends_at}
 use Rattle.cm_spec.specs.Rounds.{is_left, level_of, removed_after, pivot_of}
 use Rattle.cm_edges.specs.declared.incidence.Half.{Half}
 use Rattle.cm_edges.specs.Graph.{Graph, Links, places_of, removed_all}
-use Rattle.cm_peel.specs.AtRound.{AreApart, AreTaken, InRound, IsOtherPlace, byte_of, is_half_kept, least, tag_of}
+use Rattle.cm_peel.specs.AtRound.{AreTaken, InRound, IsOtherPlace, byte_of, is_half_kept, least, tag_of}
 use Rattle.cm_peel.specs.Incident.{is_half_left, other_halves_all, pivot_in}
 use Rattle.cm_peel.specs.Marks.{IsUnmarked, is_marked}
 use Rattle.cm_peel.specs.RoundLaws.{removed_rises}
-use Rattle.cm_peel.specs.SetLaws.{Rises-filter, Rises-from_increasing, Rises-numbers}
+use Rattle.cm_peel.specs.SetLaws.{Rises-filter, Rises-from_increasing, Rises-numbers, AreApart, Rises-apart}
 use Rattle.cm_peel.specs.Waiting.{AreEmpty, AreOpen, IsEnd, IsRoom, InBlocks, InTaking, Leads, halves_in, marked_of, waiting_in}
 use Rattle.cm_peel.proofs.Halves.{All-others_all, all_rise, others_agree}
 use Rattle.cm_peel.proofs.Incident.{AreLinked-agree, place_in}
@@ -25,7 +25,7 @@ use Rattle.cm_peel.proofs.Falls.{falls_level, removed_gone}
 use Rattle.cm_peel.proofs.Leading.{tag_kept}
 use Rattle.cm_peel.proofs.Parts.{IsPart}
 use Rattle.cm_peel.proofs.Settling.{leads_ended}
-use Rattle.cm_peel.proofs.Marked.{Rises-apart, in_round_members}
+use Rattle.cm_peel.proofs.Marked.{in_round_members}
 use Rattle.cm_peel.proofs.Marking.{none_pass, unmarked}
 use Rattle.cm_peel.proofs.NextRound.{eqb-flip, round_inside}
 use Rattle.cm_peel.proofs.Pieces.{rises_sorted}

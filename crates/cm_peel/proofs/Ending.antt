@@ -1,13 +1,13 @@
 -- What holds when a round would remove nothing.
-use Rattle.std.proofs.Common.{◌≡◌, ◌⊎◌, ℕ, zero, suc, ◌+◌, ◌-◌, ◌*◌, ◌/◌, ◌%◌, ◌<◌, ◌≤◌, Bool, true, false, cond, leb, not, ltb, ◌&&◌, List, [], ◌∷◌, ◌++◌, length, get_or, map, sym, refl, ap, ◌∙◌, inl, inr, arith, append-nil}
-use Rattle.std.specs.List.{filter, list_all}
-use Rattle.std.proofs.lemmas.Bool.{cases_Bool, cases_lt, and_from, cond-true, cond-false, le-leb, le-ltb, lt-leb, lt-ltb}
+use Rattle.std.proofs.Common.{◌≡◌, ◌⊎◌, ℕ, zero, suc, ◌+◌, ◌-◌, ◌*◌, ◌/◌, ◌%◌, ◌<◌, ◌≤◌, Bool, true, false, cond, leb, not, ltb, List, [], ◌++◌, length, get_or, map, sym, refl, ap, ◌∙◌, inl, inr, arith, append-nil}
+use Rattle.std.specs.List.{filter}
+use Rattle.std.proofs.lemmas.Bool.{cases_Bool, cases_lt, cond-true, cond-false, le-leb, le-ltb, lt-leb, lt-ltb}
 use Rattle.std.proofs.Math.Nat.{mul-le-mul_left}
 use Rattle.std.proofs.lemmas.List.{get_or-map, length-map}
 use Rattle.std.proofs.lemmas.Grind.{same_number_lists, get_or_default_zero}
 use Rattle.cm_spec.specs.Lists.{numbers_from, has}
 use Rattle.cm_spec.specs.Graph.{AreEdges, places}
-use Rattle.cm_spec.specs.Rounds.{is_left, is_held, left_after, removed_after, rest_of, level_of, pivot_of, order_upto, order_of}
+use Rattle.cm_spec.specs.Rounds.{is_left, left_after, removed_after, rest_of, level_of, pivot_of, order_upto, order_of}
 use Rattle.cm_edges.specs.Graph.{Graph, Links}
 use Rattle.cm_peel.specs.AtRound.{AtRound, byte_of}
 use Rattle.cm_peel.specs.Peeling.{IsPeelingOf, levels_of, is_taken, parities_in, pivots_in, untaken_of}

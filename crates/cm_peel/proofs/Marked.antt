@@ -9,10 +9,10 @@ use mir.Val.{bool_byte}
 use Rattle.cm_spec.specs.Lists.{has, numbers_from}
 use Rattle.cm_spec.specs.Rounds.{is_left}
 use Rattle.cm_edges.specs.Graph.{Graph, Links}
-use Rattle.cm_peel.specs.AtRound.{AreApart, InRound}
+use Rattle.cm_peel.specs.AtRound.{InRound}
 use Rattle.cm_peel.specs.Marks.{is_marked}
 use Rattle.cm_peel.specs.Waiting.{marked_of}
-use Rattle.cm_peel.specs.SetLaws.{Rises, rises_below, has-filter, has-numbers}
+use Rattle.cm_peel.specs.SetLaws.{has-filter, has-numbers, AreApart}
 use Rattle.cm_peel.proofs.Marking.{marked_one}
 use Rattle.cm_peel.proofs.Taking.{has-append, or_none}
 
@@ -35,10 +35,6 @@ counted true fresh e count is = omega (arith, is, length-append fresh (e ∷ [])
 counted false fresh e count is = omega (arith, is, length-append fresh [])
 
 -- which edges are marked
-pub Rises-apart : (low : ℕ) (xs : List ℕ) → Rises low xs → AreApart xs
-Rises-apart low [] r = tt
-Rises-apart low (x ∷ xs) r = (rises_below (suc x) x xs r.1 (omega arith), Rises-apart (suc x) xs r.1)
-
 pub has_marked : (marks : List ℕ) (e : ℕ) → has (marked_of marks) e ≡ is_marked marks e
 has_marked marks e = has-filter (is_marked marks) (numbers_from 0 (64 * length marks)) e ∙ go (cases_lt e (64 * length marks)) where
   go : (e < 64 * length marks) ⊎ (64 * length marks ≤ e) → (has (numbers_from 0 (64 * length marks)) e && is_marked marks e) ≡ is_marked marks e

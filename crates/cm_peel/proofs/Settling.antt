@@ -8,15 +8,15 @@ use Rattle.std.proofs.lemmas.List.{get_or-set_same, get_or_past}
 use Rattle.std.proofs.lemmas.List.Elements.{All-from_get_or, Contains-get_or}
 use Rattle.std.proofs.lemmas.List.Sorted.{length_permutation}
 use Rattle.cm_spec.specs.Lists.{has, numbers_from}
-use Rattle.cm_peel.specs.AtRound.{AreApart, AreTaken, is_listed, least, tag_of}
+use Rattle.cm_peel.specs.AtRound.{AreTaken, is_listed, least, tag_of}
 use Rattle.cm_peel.specs.CoreLaws.{filter_no_longer}
 use Rattle.cm_peel.specs.Marks.{is_marked}
 use Rattle.cm_peel.specs.Peeling.{is_taken}
-use Rattle.cm_peel.specs.SetLaws.{Rises-filter, Rises-numbers, has-filter, has-from_Contains, has-numbers_high, length-numbers}
+use Rattle.cm_peel.specs.SetLaws.{Rises-filter, Rises-numbers, has-filter, has-from_Contains, has-numbers_high, length-numbers, AreApart, Rises-apart}
 use Rattle.cm_peel.specs.Waiting.{AreMarked, AreWaiting, Leads, freed_in, marked_of}
 use Rattle.cm_peel.proofs.Leading.{cond_same, least_same, listed_at, listed_from, listed_same, taken_none}
 use Rattle.cm_peel.proofs.Listing.{kept_moved}
-use Rattle.cm_peel.proofs.Marked.{Rises-apart, has_marked}
+use Rattle.cm_peel.proofs.Marked.{has_marked}
 use Rattle.cm_peel.proofs.Marking.{unmarked}
 use Rattle.cm_peel.proofs.Sets.{and_true, same_from}
 use Rattle.cm_peel.proofs.Taking.{AreApart-append, has-append, least-le, least-low, least-unlisted, or_none}

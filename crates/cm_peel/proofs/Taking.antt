@@ -7,8 +7,9 @@ use Rattle.std.proofs.lemmas.List.Folds.{list_any-append}
 use Rattle.std.proofs.lemmas.Map.Keys.{IsDistinct-cons}
 use Rattle.std.proofs.Math.ListN.{length-set}
 use Rattle.cm_spec.specs.Lists.{has}
-use Rattle.cm_peel.specs.AtRound.{AreApart, AreTaken, is_listed, least, tag_of}
+use Rattle.cm_peel.specs.AtRound.{AreTaken, is_listed, least, tag_of}
 use Rattle.cm_peel.specs.Peeling.{is_taken}
+use Rattle.cm_peel.specs.SetLaws.{AreApart}
 
 pub or_none : (b : Bool) → (b || false) ≡ b
 or_none true = refl

@@ -9,9 +9,9 @@ use Rattle.cm_spec.specs.Lists.{has}
 use Rattle.cm_spec.specs.Graph.{AreEdges, ends_at}
 use Rattle.cm_edges.specs.declared.incidence.Half.{Half}
 use Rattle.cm_edges.specs.Graph.{Graph, Links, IsHalf}
-use Rattle.cm_peel.specs.AtRound.{AreApart, InRound, IsOtherPlace, is_half_kept}
+use Rattle.cm_peel.specs.AtRound.{InRound, IsOtherPlace, is_half_kept}
 use Rattle.cm_peel.specs.Waiting.{put_room, halves_in, waiting_in, IsEnd, IsOpen, IsRoom, Waits, InBlocks, InTaking}
-use Rattle.cm_peel.specs.SetLaws.{Contains-from_has}
+use Rattle.cm_peel.specs.SetLaws.{Contains-from_has, AreApart}
 use Rattle.cm_peel.proofs.Halves.{All-one, found_in}
 use Rattle.cm_peel.proofs.Incident.{place_in, slot_is, where_get}
 use Rattle.cm_peel.proofs.NextRound.{round_inside}

@@ -7,17 +7,13 @@ use Rattle.cm_spec.specs.Rounds.{is_left, removed_after, level_of, pivot_of}
 use Rattle.cm_edges.specs.Graph.{Graph, Links}
 use Rattle.cm_peel.specs.Incident.{AreLinked, is_half_left, is_picked, free_position, other_halves_all}
 use Rattle.cm_peel.specs.Peeling.{is_taken}
+use Rattle.cm_peel.specs.SetLaws.{AreApart}
 
 -- the edges have k ends each, and k and their number are within the limits
 pub record IsSmall (k : ℕ) (graph : Graph) : Type 0 where
   pub ends : k ≤ 3
   pub fits : length graph.edges ≤ 67108864
   pub edges : AreEdges k graph.vertices graph.edges
-
--- no number stands twice in a list
-abbrev pub AreApart : List ℕ → Type 0
-AreApart [] = Unit {0}
-AreApart (x ∷ xs) = (has xs x ≡ false) × AreApart xs
 
 -- what an edge that the round after t rounds removes has in its byte beside its position
 abbrev pub tag_of : ℕ → ℕ

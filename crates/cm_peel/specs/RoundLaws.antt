@@ -97,7 +97,7 @@ pub length-order : (edges : List (List ℕ)) (t : ℕ) → length (order_upto ed
 length-order edges zero = let e : length (left_after edges 0) ≡ length edges = ap length (left_after-zero edges) ∙ length-numbers 0 (length edges) in omega arith
 length-order edges (suc t) = omega (arith, length-order edges t, length-left edges t, length-append (order_upto edges t) (removed_after edges t))
 
--- a round that removes nothing is followed by none that does
+-- a test that a filter by its opposite leaves nothing of holds of all
 passes_all : (p : ℕ → Bool) (xs : List ℕ) → filter (λ e. not (p e)) xs ≡ [] → list_all p xs ≡ true
 passes_all p [] h = refl
 passes_all p (x ∷ xs) h = go (p x) refl (passes_all p xs) where
@@ -107,6 +107,7 @@ passes_all p (x ∷ xs) h = go (p x) refl (passes_all p xs) where
       let e : x ∷ filter (λ e. not (p e)) xs ≡ [] = sym (ap (λ b. cond (not b) (x ∷ filter (λ e. not (p e)) xs) (filter (λ e. not (p e)) xs)) is) ∙ h in
       cc
 
+-- a round that removes nothing is followed by none that does
 pub stable_at : (edges : List (List ℕ)) (t : ℕ) → removed_after edges t ≡ [] → IsStable edges t
 stable_at edges t none = passes_all (is_held edges (left_after edges t)) (left_after edges t) none
 

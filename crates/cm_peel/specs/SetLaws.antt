@@ -1,4 +1,4 @@
--- Facts of sets of numbers, as rising lists and as tests. They are proved here, and no contract needs them.
+-- Facts of sets of numbers, as rising lists and as tests. They are proved here. Of the definitions, contracts need `AreApart` alone.
 use Rattle.std.proofs.Common.{◌≡◌, ◌⊎◌, ℕ, zero, suc, ◌+◌, ◌<◌, ◌≤◌, Bool, true, false, cond, eqb, ◌&&◌, ◌||◌, List, [], ◌∷◌, length, get_or, sym, refl, ap, ◌∙◌, subst, inl, inr, arith, ◌≢◌, not}
 use Rattle.std.specs.List.{Contains, count_by, filter, position_or_len}
 use Rattle.std.specs.List.Sorted.{IsStrictlyIncreasing}
@@ -73,6 +73,15 @@ rises_below low e [] r h = refl
 rises_below low e (x ∷ xs) r h =
     let f : eqb x e ≡ false = ne_eqb x e (λ s. absurd (omega (arith, r.0))) in
     rw f (rises_below (suc x) e xs r.1 (omega (arith, r.0)))
+
+-- no number stands twice in a list
+abbrev pub AreApart : List ℕ → Type 0
+AreApart [] = Unit {0}
+AreApart (x ∷ xs) = (has xs x ≡ false) × AreApart xs
+
+pub Rises-apart : (low : ℕ) (xs : List ℕ) → Rises low xs → AreApart xs
+Rises-apart low [] r = tt
+Rises-apart low (x ∷ xs) r = (rises_below (suc x) x xs r.1 (omega arith), Rises-apart (suc x) xs r.1)
 
 pub Rises-filter : (p : ℕ → Bool) (low : ℕ) (xs : List ℕ) → Rises low xs → Rises low (filter p xs)
 Rises-filter p low [] r = tt

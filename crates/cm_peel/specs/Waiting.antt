@@ -6,9 +6,10 @@ use Rattle.cm_edges.specs.declared.incidence.Half.{Half}
 use Rattle.cm_edges.specs.Graph.{AreHalves, Graph, Links}
 use Rattle.cm_peel.specs.declared.freed.Plan.{Plan}
 use Rattle.cm_peel.specs.declared.freed.Taking.{Taking}
-use Rattle.cm_peel.specs.AtRound.{AreApart, AreTaken, InRound, IsOtherPlace, IsSmall}
+use Rattle.cm_peel.specs.AtRound.{AreTaken, InRound, IsOtherPlace, IsSmall}
 use Rattle.cm_peel.specs.Marks.{IsUnmarked, is_marked}
 use Rattle.cm_peel.specs.Peeling.{is_taken}
+use Rattle.cm_peel.specs.SetLaws.{AreApart}
 
 -- the marked edges
 abbrev pub marked_of : List ℕ → List ℕ

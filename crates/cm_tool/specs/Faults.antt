@@ -44,7 +44,8 @@ fault_from_brz (brz_fault.Changed first again) = Changed first again
 fault_from_brz brz_fault.SpillFailed = Spill
 fault_from_brz (brz_fault.SpillDamaged offset expected found) = SpillDamaged offset expected found
 
--- `Key Read` exactly if the count k of the keys' faults rose, and `Spill` exactly if that of the disk's write faults, w, rose: never do both
+-- `Key Read` exactly if the count k of the keys' faults rose, and `Spill` exactly if that of the disk's write faults, w, rose: never do
+-- both
 abbrev pub HasFuncCause : {T : Type 0} → ℕ → ℕ → ℕ → ℕ → Result T FuncFault → Type 0
 HasFuncCause k k' w w' (Ok x) = (k' ≡ k) × (w' ≡ w)
 HasFuncCause k k' w w' (Err Memory) = (k' ≡ k) × (w' ≡ w)

@@ -153,8 +153,8 @@ KeysSpilled files old new job = (bytes : List ℕ) × (f : Func) × (file_at fil
 abbrev pub IsCored : Files → BuildJob → Type 0
 IsCored files job = (bytes : List ℕ) × (file_at files job.keys ≡ Some bytes) × NoneWorks job.algorithm job.b (keys_in job.first bytes).keys job.c (seeds_tried job)
 
--- the outcome saves a function, of whose dump the function file holds a prefix, or the files are as before; out got nothing, and the message
--- names the function file
+-- the outcome saves a function, of whose dump the function file holds a prefix, or the files are as before; out got nothing, and the
+-- message names the function file
 abbrev pub SavedPart : Files → Option Files → Option Files → Option (List ℕ) → Option (List ℕ) → ℕ → ℕ → List ℕ → BuildJob → Type 0
 SavedPart files old new out_old out_new before now text job = (f : Func) × (job_outcome files (Ok (Build job)) ≡ Some (saving job files f)) × IsPart job (dump_of f) old new × (out_new ≡ out_old) × (now ≡ before) × (text ≡ cannot_write job.function)
 

@@ -6,7 +6,7 @@ use Rattle.cm_bits.proofs.fields.bad_cell.Goals as goal
 
 pub returns-then-bound-width : goal.returns-then-bound-width
 returns-then-bound-width c =
-    let all : c.args.bound ≡ 2 ^ c.args.width = c.if-bound-width.true ∙ one_shl c.args.width 32 (omega (arith, c.requires.width)) in
+    let all : c.args.bound ≡ 2 ^ c.args.width = c.if-bound-width.true ∙ one_shl c.args.width 32 (omega (arith, c.requires.held.width)) in
     sym (bad_none c.args.width c.args.n c.args.bound (bytes_number c.args.held.now) (λ k l. rw all (mod_below _ (2 ^ c.args.width) (pow_pos c.args.width))))
 
 pub blocks_below-blocks-requires-clause-below : goal.blocks_below-blocks-requires-clause-below

@@ -4,23 +4,23 @@ use Rattle.cm_bits.proofs.fields.groups_below.Goals as goal
 
 pub is_pair_below-requires-clause-room : goal.is_pair_below-requires-clause-room
 is_pair_below-requires-clause-room c =
-    omega (arith, field_room c.args.width c.args.n (8 * c.loop-g.g) c.args.held.now c.requires.whole (omega (arith, c.loop-g-test.true)))
+    omega (arith, field_room c.args.width c.args.n (8 * c.loop-g.g) c.args.held.now c.requires.held.whole (omega (arith, c.loop-g-test.true)))
 
 pub is_pair_below-requires-in-loop-g-clause-room : goal.is_pair_below-requires-in-loop-g-clause-room
 is_pair_below-requires-in-loop-g-clause-room c =
-    omega (arith, field_room c.args.width c.args.n (8 * c.loop-g.g + 2) c.args.held.now c.requires.whole (omega (arith, c.loop-g-test.true)))
+    omega (arith, field_room c.args.width c.args.n (8 * c.loop-g.g + 2) c.args.held.now c.requires.held.whole (omega (arith, c.loop-g-test.true)))
 
 pub is_pair_below-requires-in-loop-g-2-clause-room : goal.is_pair_below-requires-in-loop-g-2-clause-room
 is_pair_below-requires-in-loop-g-2-clause-room c =
-    omega (arith, field_room c.args.width c.args.n (8 * c.loop-g.g + 4) c.args.held.now c.requires.whole (omega (arith, c.loop-g-test.true)))
+    omega (arith, field_room c.args.width c.args.n (8 * c.loop-g.g + 4) c.args.held.now c.requires.held.whole (omega (arith, c.loop-g-test.true)))
 
 pub is_pair_below-requires-in-loop-g-3-clause-room : goal.is_pair_below-requires-in-loop-g-3-clause-room
 is_pair_below-requires-in-loop-g-3-clause-room c =
-    omega (arith, field_room c.args.width c.args.n (8 * c.loop-g.g + 6) c.args.held.now c.requires.whole (omega (arith, c.loop-g-test.true)))
+    omega (arith, field_room c.args.width c.args.n (8 * c.loop-g.g + 6) c.args.held.now c.requires.held.whole (omega (arith, c.loop-g-test.true)))
 
 pub loop-g-preserved : goal.loop-g-preserved
 loop-g-preserved c =
-    let room = group_room c.args.width c.args.n (c.loop-g.g + 1) c.args.held.now c.requires.whole (omega (arith, c.loop-g-test.true)) in
-    group_more c.args.width c.loop-g.g (c.loop-g.g * c.args.width) c.args.bound c.args.held.now c.requires.width c.requires.fit room refl
+    let room = group_room c.args.width c.args.n (c.loop-g.g + 1) c.args.held.now c.requires.held.whole (omega (arith, c.loop-g-test.true)) in
+    group_more c.args.width c.loop-g.g (c.loop-g.g * c.args.width) c.args.bound c.args.held.now c.requires.held.width c.requires.held.fit room refl
     (c.if-not-is_pair_below.ensures.0 refl) (c.if-not-is_pair_below-2.ensures.0 refl) (c.if-not-is_pair_below-3.ensures.0 refl) (c.if-not-is_pair_below-4.ensures.0 refl)
     c.loop-g.invariant

@@ -1,6 +1,6 @@
-use Rattle.std.proofs.Common.{ℕ, ◌<◌, ◌*◌, ◌/◌, ◌%◌, ◌^◌}
-use Rattle.cm_bits.specs.Fault.{bytes_number}
+use Rattle.std.proofs.Common.{◌*◌}
+use Rattle.cm_bits.specs.Held.{AreBelow}
 use Rattle.cm_bits.proofs.fields.groups_below.Given as goal
 
 abbrev pub invariant-loop-g : goal.invariant-loop-g
-invariant-loop-g l = (k : ℕ) → k < 8 * l.g → bytes_number l.held / (2 ^ l.width) ^ k % 2 ^ l.width < l.bound
+invariant-loop-g l = AreBelow l.width l.bound l.held (8 * l.g)
