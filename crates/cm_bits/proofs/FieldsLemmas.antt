@@ -13,7 +13,7 @@ use Rattle.std.proofs.lemmas.List.Sums.{position_or_len_is}
 use Rattle.cm_spec.specs.Image.{width_of, fields_len, fields_number, fields_byte}
 use Rattle.cm_bits.specs.Bound.{AllBelow}
 use Rattle.cm_bits.specs.Fault.{bytes_number, field_cells}
-use Rattle.cm_bits.specs.Held.{IsFields, PutsWindow, window_at}
+use Rattle.cm_bits.specs.Held.{AreBelow, IsFields, PutsWindow, window_at}
 use Rattle.cm_bits.specs.DigitsLaws.{digits_sum-same, digit-digits_sum, digits_sum-digits, pow_add, pow_pow}
 use Rattle.cm_bits.specs.FieldsLaws.{length-field_cells, field_cells-at, field_cells-fields_number, fields_number-lt, width-fits}
 use Rattle.cm_bits.proofs.DigitsLemmas.{digits_sum-change, digits_sum-zero}
@@ -127,6 +127,16 @@ pair_more w i at bit bound bytes short fit room place shift both before j l = el
 -- both of two cells that begin at a bit of the bytes from one on are below a bound
 abbrev pub IsPairBelow : List ℕ → ℕ → ℕ → ℕ → ℕ → Type 0
 IsPairBelow bytes at bit w bound = (window_at bytes (at + bit / 8) / 2 ^ (bit % 8) % 2 ^ w < bound) × (window_at bytes (at + bit / 8) / 2 ^ (bit % 8 + w) % 2 ^ w < bound)
+
+-- pair j of a group is below a bound if all cells before some later group are
+pub pair_below : (w g j bound m : ℕ) (bytes : List ℕ) → w ≤ 26 → ((k : ℕ) → slice_index bytes k < 256) → m * w + 8 ≤ length bytes → g < m → j < 4 → AreBelow w bound bytes (8 * m) → IsPairBelow bytes (g * w) (2 * j * w) w bound
+pair_below w g j bound m bytes short fit room h l all =
+    let i : ℕ = 8 * g + 2 * j in
+    let most : w * (i + 1) ≤ w * (8 * m) = mul-le-mul_left w (let e : i + 1 ≤ 8 * m = omega arith in e) in
+    let less : i * w / 8 + 8 ≤ length bytes = omega arith in
+    let place : g * w + 2 * j * w / 8 ≡ i * w / 8 = omega arith in
+    let shift : 2 * j * w % 8 ≡ i * w % 8 = omega arith in
+    rw (place, shift, ← field_read w i bytes short fit less, ← second_read w i bytes short fit less) (all i (omega arith), all (i + 1) (omega arith))
 
 -- a group of eight cells more is below a bound
 pub group_more : (w g at bound : ℕ) (bytes : List ℕ) → w ≤ 26 → ((k : ℕ) → slice_index bytes k < 256) → (g + 1) * w + 8 ≤ length bytes → at ≡ g * w

@@ -28,7 +28,7 @@ pub record IsFields (w n : ℕ) (bytes : List ℕ) : Type 0 where
 abbrev pub AreBelow : ℕ → ℕ → List ℕ → ℕ → Type 0
 AreBelow w bound bytes m = (k : ℕ) → k < m → bytes_number bytes / (2 ^ w) ^ k % 2 ^ w < bound
 
--- bytes of n cells of w bits, which serve the bound, and eight more
+-- bytes with room for n cells of w bits, and eight bytes more; w is at most 26, and numbers below the bound have w bits
 pub record HoldFields (w n bound : ℕ) (bytes : List ℕ) : Type 0 where
   pub width : w ≤ 26
   pub bound_within : bound ≤ 2 ^ w

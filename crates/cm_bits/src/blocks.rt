@@ -1,5 +1,5 @@
 // Which cells are below a bound, by blocks: many cells at once, without a branch.
-ghost use Rattle.std.specs.Prelude.{◌≡◌, ℕ, ◌+◌, ◌*◌, ◌/◌, ◌%◌, ◌^◌, ◌<◌, ◌≤◌, IsTrue, length, slice_index};
+ghost use Rattle.std.specs.Prelude.{◌≡◌, ℕ, ◌+◌, ◌*◌, ◌/◌, ◌%◌, ◌^◌, ◌<◌, ◌≤◌, ◌↔◌, IsTrue, length, slice_index};
 ghost use Rattle.std.specs.Simd.Lanes.{zip2};
 ghost use Rattle.cm_bits.specs.Held.{AreBelow, HoldFields, carries_of, window_at};
 ghost use Rattle.cm_bits.specs.declared.blocks.TheConstants.{BLOCK};
@@ -50,10 +50,11 @@ fn carries(x: u64x4, y: u64x4) -> u64x4
     x ^ y ^ (x + y)
 }
 
-// Whether carries show that all cells of the block that begins with group `first` are below the bound. All cells before it are.
+// Whether all cells of the block that begins with group `first` are below the bound. All cells before it are.
 //
-// 2^width - bound is added to both cells of each pair, so that a cell that is not below the bound carries into the bit after it. A carry
-// out of a lower cell can change that of the upper one, but it is found itself. The carries of all groups are tested at once.
+// 2^width - bound is added to both cells of each pair, so that a cell that is not below the bound carries into the bit after it, and
+// others don't. A carry out of a lower cell can change that of the upper one, but it is found itself. The carries of all groups are
+// tested at once.
 fn is_block_below(held: &[u8], first: u32, width: u32, bound: u32) -> bool
     requires width { width ≤ 26 }
     requires positive { 0 < bound }
@@ -62,7 +63,7 @@ fn is_block_below(held: &[u8], first: u32, width: u32, bound: u32) -> bool
     requires room { (first + BLOCK) * width + 8 ≤ length held.now }
     requires fit { (k : ℕ) → slice_index held.now k < 256 }
     requires below { AreBelow width bound held.now (8 * first) }
-    ensures { IsTrue result → AreBelow width bound held.now (8 * (first + BLOCK)) }
+    ensures { IsTrue result ↔ AreBelow width bound held.now (8 * (first + BLOCK)) }
 {
     let w = width as usize;
     let lack = (1 << w) - bound as u64;
@@ -75,8 +76,9 @@ fn is_block_below(held: &[u8], first: u32, width: u32, bound: u32) -> bool
     (found & after).reduce_or() == 0
 }
 
-// How many of the leading groups of eight cells have only cells below the bound, as far as whole blocks show. All groups before
-// `first` do.
+// How many of the leading groups of eight cells have only cells below the bound, counted from group `first` on by whole blocks. All
+// groups before `first` have only such cells. If a whole block comes after the groups that are counted, one of its cells is not below
+// the bound.
 pub fn blocks_below(held: &[u8], first: u32, n: u32, width: u32, bound: u32) -> u32
     requires positive { 0 < bound }
     requires order { 8 * first ≤ n }
@@ -84,6 +86,7 @@ pub fn blocks_below(held: &[u8], first: u32, n: u32, width: u32, bound: u32) -> 
     requires below { AreBelow width bound held.now (8 * first) }
     ensures some { 8 * result ≤ n }
     ensures below { AreBelow width bound held.now (8 * result) }
+    ensures whole { result + BLOCK ≤ n / 8 → AreBelow width bound held.now (8 * (result + BLOCK)) → ⊥ }
 {
     let mut groups = first;
     while groups + BLOCK <= n / 8 && is_block_below(held, groups, width, bound) {

@@ -198,14 +198,15 @@ fn is_pair_below(held: &[u8], at: usize, bit: u64, width: u32, mask: u32, bound:
         && is_part_below(both, shift + width as u64, mask, bound)
 }
 
-// How many of the leading groups of eight cells, which begin with a byte, have only cells below the bound. All groups before `first`
-// do.
+// How many of the leading groups of eight cells, which begin with a byte, have only cells below the bound: all of them, or one of the
+// cells of the next group is not below it. All groups before `first` have only such cells.
 fn groups_below(held: &[u8], first: u32, n: u32, width: u32, bound: u32) -> u32
     requires order { 8 * first ≤ n }
     requires held { HoldFields width n bound held.now }
     requires below { AreBelow width bound held.now (8 * first) }
     ensures some { 8 * result ≤ n }
     ensures below { AreBelow width bound held.now (8 * result) }
+    ensures next { result < n / 8 → AreBelow width bound held.now (8 * (result + 1)) → ⊥ }
 {
     let mask = ones(width);
     let w = width as u64;
