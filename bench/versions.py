@@ -5,9 +5,10 @@
 
 BEFORE is the program of the earlier version: `git worktree add FOLDER COMMIT`, then `make` there. For each number of KEYS
 (100000 1000000 10000000) it generates that many keys of 14 bytes that seed 1 serves, and each version builds by CHM, BDZ and
-BDZ_PH over them in N interleaved runs (3). The function files of both versions have to be the same. Then each queries a file
-of one key with the function by CHM in N interleaved runs (100), as does the C tool with its own, if it is installed: the start
-of the program and the load of the function are nearly all of that. The least processor time counts, and the greatest memory.
+BDZ_PH over them in N interleaved runs (3): that is with the greatest number, and with fewer keys there are up to six times as many
+runs, since a short one is disturbed more. The function files of both versions have to be the same. Then each queries a file of one
+key with the function by CHM in N interleaved runs (100), as does the C tool with its own, if it is installed: the start of the
+program and the load of the function are nearly all of that. The least processor time counts, and the greatest memory.
 
 It needs bin/cmph (`make`).
 """
@@ -22,6 +23,7 @@ import compare
 
 ALGORITHMS = ["bdz_ph", "bdz", "chm"]  # CHM last: the functions that it leaves are queried
 COUNTS = [100_000, 1_000_000, 10_000_000]
+MORE = 6  # times as many runs with fewer keys
 MEGABYTE = 1 << 20
 
 
@@ -70,7 +72,7 @@ def one_key(before: str, tool: str | None, rounds: int, scratch: Path, count: in
 
 def main() -> None:
     parser = argparse.ArgumentParser(description=__doc__, formatter_class=argparse.RawDescriptionHelpFormatter)
-    parser.add_argument("--rounds", type=int, default=3, help="how often each version builds (3)")
+    parser.add_argument("--rounds", type=int, default=3, help="how often each version builds with the most keys (3)")
     parser.add_argument("--queries", type=int, default=100, help="how often each queries one key (100)")
     parser.add_argument("before", metavar="BEFORE", help="the program of the earlier version")
     parser.add_argument("counts", metavar="KEYS", nargs="*", type=int, default=COUNTS)
@@ -82,7 +84,8 @@ def main() -> None:
     built, queried = [], []
     for count in asked.counts:
         with tempfile.TemporaryDirectory() as folder:
-            rows = [builds(before, algorithm, asked.rounds, Path(folder), count) for algorithm in ALGORITHMS]
+            rounds = asked.rounds * min(MORE, max(asked.counts) // count)
+            rows = [builds(before, algorithm, rounds, Path(folder), count) for algorithm in ALGORITHMS]
             built += reversed(rows)
             queried += one_key(before, tool, asked.queries, Path(folder), count)
     print("| keys | algorithm | build before, s | now, s | ratio | now, ns a key | peak before, bytes a key | now |\n" + "|---" * 8 + "|")

@@ -1,6 +1,6 @@
 //! The cells of a peeled graph, edge by edge in the reverse of the order of peeling.
 ghost use Rattle.std.specs.Prelude.{◌≡◌, ℕ, ◌+◌, ◌-◌, ◌*◌, ◌/◌, ◌%◌, ◌^◌, ◌<◌, ◌≤◌, ◌↔◌, List, [], All, length, map, replicate, slice_index, slice_set, IfOk, IsTrue, if◌then◌else◌};
-ghost use Rattle.cm_assign.specs.declared.cells.TheConstants.{MANY};
+ghost use Rattle.cm_assign.specs.declared.cells.TheConstants.{CHUNK, MANY};
 ghost use Rattle.cm_assign.specs.OneByOne.{AreOf, AreReady, AreSums, IsPart, one_by_one};
 ghost use Rattle.cm_peel.specs.Peeling.{IsPeelingOf};
 ghost use Rattle.cm_spec.specs.Cells.{Plan, plan_of, pivot_vertex, value_at, sum_but, at_once, completing, cells_of, AreSolved};
@@ -16,7 +16,7 @@ use std::alloc::{AllocError, Global};
 
 /// How many edges are worked on together: what their cells come from is read before the first of them is set, so that no
 /// read of it waits for a store.
-const CHUNK: usize = 64;
+const CHUNK: usize = 256;
 
 /// How many cells a table has at least whose chunks are settled at once where they can be. Of a smaller one most cells lie in the
 /// processor's caches, so that nothing is waited for.
@@ -170,7 +170,7 @@ fn settle_at_once<C: Cells, const K: usize>(
     modulus: &Divisor,
 )
     requires small { K ≤ 3 }
-    requires few { length ends.now ≤ 64 }
+    requires few { length ends.now ≤ CHUNK }
     requires ready { AreReady K (C.bound_of table.old) (C.cells table.old) modulus.now ends.now positions.now targets.now }
     ensures bound { C.bound_of table.new ≡ C.bound_of table.old }
     ensures cells { (p : Plan) (chunk : List ℕ) → AreOf p chunk modulus.now ends.now positions.now targets.now → C.cells table.new ≡ at_once p (C.cells table.old) chunk }
@@ -191,7 +191,7 @@ fn settle_all<C: Cells, const K: usize>(
     all_at_once: bool,
 )
     requires small { K ≤ 3 }
-    requires few { length ends.now ≤ 64 }
+    requires few { length ends.now ≤ CHUNK }
     requires ready { AreReady K (C.bound_of table.old) (C.cells table.old) modulus.now ends.now positions.now targets.now }
     ensures bound { C.bound_of table.new ≡ C.bound_of table.old }
     ensures cells { (p : Plan) (chunk : List ℕ) → AreOf p chunk modulus.now ends.now positions.now targets.now → C.cells table.new ≡ (if all_at_once then at_once p (C.cells table.old) chunk else one_by_one p (C.cells table.old) chunk) }
@@ -233,7 +233,7 @@ fn settle_chunk<S: Scheme<K>, const K: usize>(
     requires peeling { IsPeelingOf edges.now.edges peeled.now }
     requires empty { rest_of edges.now.edges ≡ [] }
     requires many { IsCount (length edges.now.edges) }
-    requires few { (0 < length chunk.now) × (length chunk.now ≤ 64) }
+    requires few { (0 < length chunk.now) × (length chunk.now ≤ CHUNK) }
     requires part { IsPart (order_of edges.now.edges) chunk.now }
     requires places { All (λ e. e < length edges.now.edges) chunk.now }
     requires bound { S.Table.bound_of table.old ≡ (S.rule scheme.now).bound (length edges.now.edges) }

@@ -2,6 +2,7 @@ use Rattle.std.proofs.Common.{rules, arith, ◌≡◌, ℕ, ◌+◌, ◌-◌, �
 use Rattle.std.specs.List.{All}
 use Rattle.std.proofs.lemmas.List.{length-take-le}
 use Rattle.std.proofs.lemmas.List.Elements.{All-from_get_or, All-take, All-drop}
+use Rattle.cm_assign.specs.declared.cells.TheConstants.{CHUNK}
 use Rattle.cm_assign.specs.OneByOne.{IsPart, one_by_one}
 use Rattle.cm_spec.specs.Cells.{Plan, plan_of, all_idle, AreSolved}
 use Rattle.cm_spec.specs.Rounds.{order_of}
@@ -23,10 +24,10 @@ settle_chunk-requires g c =
     let n : ℕ = c.min-count.result in
     let at : ℕ = c.chunks.at - n in
     let moved : at + n - at ≡ n = omega arith in
-    let small : n ≤ 64 = omega (arith, c.min-count.ensures) in
+    let small : n ≤ CHUNK = omega (arith, c.min-count.ensures) in
     let short : n ≤ length (drop at order) = omega (arith, c.min-count.ensures, c.chunks.invariant.within, length-drop at order) in
     let long : length (take n (drop at order)) ≡ n = length-take-le n (drop at order) short in
-    let few : length (take (at + n - at) (drop at order)) ≤ 64 = omega (arith, small, long, ap (λ k. length (take k (drop at order))) moved) in
+    let few : length (take (at + n - at) (drop at order)) ≤ CHUNK = omega (arith, small, long, ap (λ k. length (take k (drop at order))) moved) in
     let places : All (λ e. e < length edges) order = order_places edges order (c.order-order.ensures ∙ c.requires.peeling.order) in
     let some : 0 < length (take (at + n - at) (drop at order)) = omega (arith, long, ap (λ k. length (take k (drop at order))) moved, c.min-count.ensures, c.chunks-test.true) in
     let part : IsPart (order_of edges) (take (at + n - at) (drop at order)) = (at, at + n - at, ap (λ (xs : List ℕ). take (at + n - at) (drop at xs)) (c.order-order.ensures ∙ c.requires.peeling.order)) in
