@@ -1,16 +1,19 @@
 -- Numbers of keys by bucket.
-use Rattle.std.proofs.Common.{◌≡◌, ◌≢◌, ◌∙◌, ◌⊎◌, ℕ, zero, suc, ◌+◌, ◌<◌, ◌≤◌, Bool, true, false, cond, List, [], ◌∷◌, length, get_or, set, sum, eqb, leb, refl, sym, ap, subst, inl, inr, arith, None, Some}
-use Rattle.std.specs.Prelude.{find, filter, replicate}
+use Rattle.std.proofs.Common.{◌≡◌, ◌≢◌, ◌∙◌, ◌⊎◌, ℕ, zero, suc, ◌+◌, ◌<◌, ◌≤◌, Bool, true, false, cond, List, [], ◌∷◌, ◌++◌, length, length-append, map, take, get_or, set, sum, eqb, leb, refl, sym, ap, subst, inl, inr, arith, None, Some}
+use Rattle.std.specs.Prelude.{bit_xor, find, filter, replicate}
 use Rattle.std.specs.List.{range_with_len}
 use Rattle.std.proofs.lemmas.Bool.{cases_Bool, cond-true, cond-false, eqb-true, eqb-false, le-leb, lt-leb}
 use Rattle.std.proofs.lemmas.Grind.{get_or-set_at}
 use Rattle.std.proofs.lemmas.List.{get_or-set_other}
+use Rattle.std.proofs.lemmas.List.Elements.{filter-append}
 use Rattle.std.proofs.lemmas.List.Folds.{list_all_at, sum_by-replicate}
 use Rattle.std.proofs.lemmas.List.FromFn.{get_or-range_with_len, length-range_with_len}
-use Rattle.std.proofs.lemmas.List.Sums.{get_or-le-sum_by, list_all-from_AllPass, sum_by-set}
+use Rattle.std.proofs.lemmas.List.Sums.{get_or-le-sum_by, length-filter, list_all-from_AllPass, sum-map, sum_by-set, sum_by_more}
+use Rattle.std.proofs.lemmas.Simd.{map-map}
 use Rattle.cm_buckets.specs.Functions.{bucket_of}
 use Rattle.cm_buckets.specs.declared.limits.TheConstants.{MAX_BUCKET}
-use Rattle.cm_split.specs.Split.{AreSizes, IsFirstOver, IsLowestOver, size_of_bucket, is_split}
+use Rattle.cm_spec.specs.Lookup2.{words}
+use Rattle.cm_split.specs.Split.{AreSizes, CountsPassed, IsFirstOver, IsLowestOver, bucket_by, size_by_words, size_of_bucket, is_split}
 
 -- of all keys these are left, and the others were counted by bucket
 pub record AreCountedBut (sizes : List ℕ) (left all : List (ℕ × List ℕ)) (k s : ℕ) : Type 0 where
@@ -41,6 +44,34 @@ count_more sizes key left rest all k s b n h e is l m = record {
       let more : size_of_bucket left k s j ≡ cond (eqb b j) 1 0 + size_of_bucket rest k s j = ap (λ (xs : List (ℕ × List ℕ)). size_of_bucket xs k s j) e ∙ (length_filter-cons (λ (x : ℕ × List ℕ). eqb (bucket_of x.1 s k) j) key rest ∙ ap (λ (v : ℕ). cond (eqb v j) 1 0 + size_of_bucket rest k s j) (sym is)) in
       counted_one sizes j b n (size_of_bucket rest k s j) (size_of_bucket all k s j) l m (ap (λ (x : ℕ). get_or sizes j 0 + x) (sym more) ∙ h.each j low);
 }
+
+-- one key more is counted, by its hash values
+pub words_more : (sizes now : List ℕ) (all : List (List ℕ)) (i k b n : ℕ) (d : List ℕ) → ((j : ℕ) → j < k → get_or now j 0 ≡ get_or sizes j 0 + size_by_words (take i all) k j) → i < length all → b ≡ bucket_by (get_or all i d) k → b < length now → n ≡ get_or now b 0 + 1
+    → (j : ℕ) → j < k → get_or (set now b n) j 0 ≡ get_or sizes j 0 + size_by_words (take (i + 1) all) k j
+words_more sizes now all i k b n d h inside is l m j low =
+    let test : List ℕ → ℕ = λ hashed. cond (eqb (bucket_by hashed k) j) 1 0 in
+    let more : size_by_words (take (i + 1) all) k j ≡ size_by_words (take i all) k j + test (get_or all i d) = sum_by_more test all i d inside in
+    let here : cond {A = ℕ} (eqb b j) 1 0 ≡ test (get_or all i d) = ap (λ (v : ℕ). cond {A = ℕ} (eqb v j) 1 0) is in
+    let one : get_or (set now b n) j 0 + 0 ≡ get_or now j 0 + cond (eqb b j) 1 0 = counted_one now j b n 0 (get_or now j 0 + cond (eqb b j) 1 0) l m (omega arith) in
+    omega (arith, h j low, more, here, one)
+
+size_by_map : (keys : List (ℕ × List ℕ)) (k s j : ℕ) → size_by_words (map (λ (key : ℕ × List ℕ). words key.1 (bit_xor s 4294967295)) keys) k j ≡ size_of_bucket keys k s j
+size_by_map keys k s j =
+    let hash : ℕ × List ℕ → List ℕ = λ key. words key.1 (bit_xor s 4294967295) in
+    let test : List ℕ → ℕ = λ hashed. cond (eqb (bucket_by hashed k) j) 1 0 in
+    sym (sum-map test (map hash keys)) ∙ (ap sum (map-map test hash keys) ∙ (sum-map (λ (key : ℕ × List ℕ). test (hash key)) keys ∙ sym (length-filter (λ (key : ℕ × List ℕ). eqb (bucket_of key.1 s k) j) keys)))
+
+-- keys that have passed are counted, by their hash values
+pub passed_by_words : (sizes now : List ℕ) (keys left rest : List (ℕ × List ℕ)) (hashed : List (List ℕ)) (k s : ℕ) → left ≡ keys ++ rest → hashed ≡ map (λ (key : ℕ × List ℕ). words key.1 (bit_xor s 4294967295)) keys
+    → ((j : ℕ) → j < k → get_or now j 0 ≡ get_or sizes j 0 + size_by_words hashed k j) → CountsPassed sizes now left rest k s
+passed_by_words sizes now keys left rest hashed k s e are each j low =
+    let p : ℕ × List ℕ → Bool = λ key. eqb (bucket_of key.1 s k) j in
+    let next : size_of_bucket left k s j ≡ size_of_bucket keys k s j + size_of_bucket rest k s j = ap (λ (xs : List (ℕ × List ℕ)). size_of_bucket xs k s j) e ∙ (ap length (filter-append p keys rest) ∙ length-append (filter p keys) (filter p rest)) in
+    let same : size_by_words hashed k j ≡ size_of_bucket keys k s j = ap (λ (hs : List (List ℕ)). size_by_words hs k j) are ∙ size_by_map keys k s j in
+    omega (arith, each j low, next, same)
+
+pub count_passed : (sizes now : List ℕ) (left rest all : List (ℕ × List ℕ)) (k s : ℕ) → AreCountedBut sizes left all k s → CountsPassed sizes now left rest k s → AreCountedBut now rest all k s
+count_passed sizes now left rest all k s h passed = record { each = λ j low. passed j low ∙ h.each j low }
 
 -- of a bucket that has a key left not all keys were counted
 pub counted_less : (sizes : List ℕ) (key : ℕ × List ℕ) (left rest all : List (ℕ × List ℕ)) (k s b : ℕ) → AreCountedBut sizes left all k s → left ≡ key ∷ rest → b ≡ bucket_of key.1 s k → b < k → get_or sizes b 0 < size_of_bucket all k s b

@@ -1,5 +1,5 @@
 -- How the keys are split into buckets.
-use Rattle.std.specs.Prelude.{◌≡◌, ℕ, ◌<◌, ◌≤◌, ◌==◌, Bool, nat_le, List, [], ◌∷◌, drop, filter, find, length, slice_index, Option, None, Some, Result, Ok, Err}
+use Rattle.std.specs.Prelude.{◌≡◌, ℕ, ◌+◌, ◌%◌, ◌<◌, ◌≤◌, ◌==◌, Bool, nat_le, List, [], ◌∷◌, count_by, drop, filter, find, length, slice_index, Option, None, Some, Result, Ok, Err}
 use Rattle.std.specs.List.{list_all, range_with_len}
 use Rattle.cm_buckets.specs.Functions.{bucket_of}
 use Rattle.cm_buckets.specs.declared.limits.TheConstants.{MAX_BUCKET}
@@ -17,6 +17,18 @@ size_of_bucket keys k split j = length (keys_of_bucket keys k split j)
 -- these are the numbers of keys of the buckets
 abbrev pub AreSizes : List ℕ → List (ℕ × List ℕ) → ℕ → ℕ → Type 0
 AreSizes sizes keys k split = (j : ℕ) → j < k → slice_index sizes j ≡ size_of_bucket keys k split j
+
+-- of the keys that were left before, those that no longer are were counted by bucket
+abbrev pub CountsPassed : List ℕ → List ℕ → List (ℕ × List ℕ) → List (ℕ × List ℕ) → ℕ → ℕ → Type 0
+CountsPassed sizes now left rest k split = (j : ℕ) → j < k → slice_index now j + size_of_bucket rest k split j ≡ slice_index sizes j + size_of_bucket left k split j
+
+-- the bucket, of k, of a key with these hash values
+abbrev pub bucket_by : List ℕ → ℕ → ℕ
+bucket_by hashed k = slice_index hashed 2 % k
+
+-- how many of some keys, by the hash values of each, bucket j of k has
+abbrev pub size_by_words : List (List ℕ) → ℕ → ℕ → ℕ
+size_by_words all k j = count_by (λ hashed. bucket_by hashed k == j) all
 
 -- whether no bucket has more keys than one may have
 abbrev pub is_split : List (ℕ × List ℕ) → ℕ → ℕ → Bool

@@ -1,5 +1,5 @@
 //! How keys are split into buckets.
-ghost use Rattle.std.specs.Prelude.{◌≡◌, ◌≢◌, ℕ, ◌+◌, ◌<◌, ◌≤◌, length, slice_index, sum, true, IfOk, IfErr, IfSome, IfNone, IsTrue, OnOk, Contains, None, Some, Ok, Err};
+ghost use Rattle.std.specs.Prelude.{◌≡◌, ◌≢◌, ℕ, ◌+◌, ◌<◌, ◌≤◌, length, drop, slice_index, sum, bit_xor, true, false, IfOk, IfErr, IfSome, IfNone, IsTrue, OnOk, Contains, None, Some, Ok, Err};
 ghost use Rattle.std.specs.Option.{ForSome};
 ghost use Rattle.cm_io.specs.Passes.{HasKeyCause};
 ghost use Rattle.cm_witness.specs.Gathers.{HasGatherCause, HasOther};
@@ -8,7 +8,7 @@ ghost use Rattle.cm_buckets.specs.Functions.{bucket_of as bucket_of_key};
 ghost use Rattle.cm_io.specs.declared.key_pass.TheConstants.{MAX_KEYS};
 ghost use Rattle.cm_buckets.specs.declared.limits.TheConstants.{MAX_BUCKET};
 ghost use Rattle.cm_split.specs.Passes.{AreCounted, FailsAgain};
-ghost use Rattle.cm_split.specs.Split.{AreSizes, GivesBucket, IsFirstOver, IsLowestOver, is_split, split_of};
+ghost use Rattle.cm_split.specs.Split.{AreSizes, CountsPassed, GivesBucket, IsFirstOver, IsLowestOver, bucket_by, is_split, size_by_words, split_of};
 
 use cm_buckets::MAX_BUCKET;
 use cm_io::{KeyBuf, KeyFault, KeyPass, MAX_KEYS};
@@ -31,7 +31,23 @@ impl Split {
         ensures bucket { result ≡ bucket_of_key key.now self.now.seed self.now.buckets }
         ensures below { result < self.now.buckets }
     {
-        let hashed = words(key, self.seed ^ u32::MAX);
+        self.bucket_of_hashed(words(key, self.hash_seed()))
+    }
+
+    /// The seed under which the keys are hashed: that of the split with all bits flipped.
+    #[inline(always)]
+    fn hash_seed(&self) -> u32
+        ensures flipped { result ≡ bit_xor self.now.seed 4294967295 }
+    {
+        self.seed ^ u32::MAX
+    }
+
+    /// The bucket of a key, from 0, by its hash values under that seed.
+    #[inline(always)]
+    fn bucket_of_hashed(&self, hashed: [u32; 3]) -> u32
+        ensures bucket { result ≡ bucket_by hashed self.now.buckets }
+        ensures below { result < self.now.buckets }
+    {
         self.buckets.rem(hashed[2])
     }
 }
@@ -70,6 +86,45 @@ fn next_bucket<P: KeyPass>(
     };
     keys.pass(len);
     Ok(Some(bucket))
+}
+
+/// Counts keys by their hash values, each in its bucket.
+#[inline(always)]
+fn count_hashed(split: &Split, all: &[[u32; 3]], sizes: &mut [u32])
+    requires long { length sizes.old ≡ split.now.buckets }
+    requires few { sum sizes.old + length all.now ≤ MAX_KEYS }
+    ensures all { sum sizes.new ≡ sum sizes.old + length all.now }
+    ensures each { (j : ℕ) → j < split.now.buckets → slice_index sizes.new j ≡ slice_index sizes.old j + size_by_words all.now split.now.buckets j }
+{
+    for hashed in all {
+        sizes[split.bucket_of_hashed(*hashed) as usize] += 1;
+    }
+}
+
+/// Counts the next four keys, each in its bucket, if they are buffered and at least four are left. If not, nothing changes.
+#[inline(always)]
+fn count_four<P: KeyPass>(keys: &mut P, left: u32, split: &Split, sizes: &mut [u32]) -> bool
+    requires usable { IsTrue (P.usable keys.old) }
+    requires long { length sizes.old ≡ split.now.buckets }
+    requires few { sum sizes.old + left ≤ MAX_KEYS }
+    ensures told { P.told keys.new ≡ P.told keys.old }
+    ensures cause { P.faults keys.new ≡ P.faults keys.old }
+    ensures usable { P.usable keys.new ≡ true }
+    ensures unchanged { result ≡ false → (keys.new ≡ keys.old) × (sizes.new ≡ sizes.old) }
+    ensures enough { result ≡ true → 4 ≤ left }
+    ensures counts { result ≡ true → P.place keys.new ≡ P.place keys.old + 4 }
+    ensures all { result ≡ true → sum sizes.new ≡ sum sizes.old + 4 }
+    ensures each { result ≡ true → ForSome (P.told keys.old) (λ told. CountsPassed sizes.old sizes.new (drop (P.place keys.old) told.keys) (drop (P.place keys.new) told.keys) split.now.buckets split.now.seed) }
+{
+    if left < 4 {
+        return false;
+    }
+    let four = match keys.hash_four(split.hash_seed()) {
+        Some(four) => four,
+        None => return false,
+    };
+    count_hashed(split, &four, sizes);
+    true
 }
 
 /// A bucket with more keys than one may have, and how many it has.
@@ -117,7 +172,12 @@ fn count_buckets<P: KeyPass>(
 {
     keys.rewind()?;
     sizes.fill(0);
-    for count in 0..m {
+    let mut count = 0;
+    'more: while count < m {
+        if count_four(keys, m - count, split, sizes) {
+            count += 4;
+            continue;
+        }
         match next_bucket(keys, key, split) {
             Ok(Some(bucket)) => sizes[bucket as usize] += 1,
             Ok(None) => {
@@ -128,6 +188,7 @@ fn count_buckets<P: KeyPass>(
             }
             Err(fault) => return Err(GatherFault::Key(fault)),
         }
+        count += 1;
     }
     expect_end(keys, key, m)?;
     Ok(())

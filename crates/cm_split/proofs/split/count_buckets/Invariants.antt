@@ -1,10 +1,10 @@
-use Rattle.std.proofs.Common.{◌≡◌, ◌≤◌, true, drop, length, sum}
+use Rattle.std.proofs.Common.{◌≡◌, ◌-◌, ◌≤◌, true, drop, length, sum}
 use Rattle.std.specs.Option.{ForSome}
 use Rattle.cm_split.specs.SizesLaws.{AreCountedBut}
 use Rattle.cm_split.proofs.split.count_buckets.Given as goal
 
-abbrev pub invariant-loop-count : goal.invariant-loop-count
-invariant-loop-count g l =
+abbrev pub invariant-more : goal.invariant-more
+invariant-more g l =
     let P = g.P.KeyPass in
     record {
       ready : P.usable l.keys ≡ true;
@@ -16,3 +16,6 @@ invariant-loop-count g l =
       long : length l.sizes ≡ l.split.buckets;
       sizes : ForSome (P.told l.fn.keys) (λ told. AreCountedBut l.sizes (drop (P.place l.keys) told.keys) told.keys l.split.buckets l.split.seed);
     }
+
+abbrev pub decreases-more : goal.decreases-more
+decreases-more g l = l.m - l.count
