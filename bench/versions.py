@@ -8,13 +8,15 @@ BEFORE is the program of the earlier version: `git worktree add FOLDER COMMIT`, 
 BDZ_PH over them in N interleaved runs (3): that is with the greatest number, and with fewer keys there are up to six times as many
 runs, since a short one is disturbed more. The function files of both versions have to be the same. Then each queries a file of one
 key with the function by CHM in N interleaved runs (100), as does the C tool with its own, if it is installed: the start of the
-program and the load of the function are nearly all of that. The least processor time counts, and the greatest memory.
+program and the load of the function are nearly all of that. The least processor time counts, and the greatest memory. A ratio of
+times is the median of the ratios of runs that follow each other, so no program gains by a faster moment of the machine.
 
 It needs bin/cmph (`make`).
 """
 
 import argparse
 import filecmp
+import statistics
 import sys
 import tempfile
 from pathlib import Path
@@ -31,6 +33,24 @@ def built_by(program: str, algorithm: str, function: Path, keys: Path) -> list:
     return [program, "-g", "-a", algorithm, "-m", function, keys]
 
 
+def in_turns(commands: dict[str, list], rounds: int) -> dict[str, list[compare.Used]]:
+    """What each used in each of its runs."""
+    runs = [compare.interleaved(commands, 1) for _ in range(rounds)]
+    return {name: [run[name] for run in runs] for name in commands}
+
+
+def least(runs: list[compare.Used]) -> float:
+    return min(used.seconds for used in runs)
+
+
+def peak(runs: list[compare.Used]) -> int:
+    return max(used.memory for used in runs)
+
+
+def ratio(runs: list[compare.Used], others: list[compare.Used]) -> str:
+    return f"{statistics.median(used.seconds / other.seconds for used, other in zip(runs, others)):.2f}"
+
+
 def builds(before: str, algorithm: str, rounds: int, scratch: Path, count: int) -> str:
     """The row of an algorithm. The keys that seed 1 serves are in the file `keys` then."""
     keys = scratch / "keys"
@@ -39,12 +59,12 @@ def builds(before: str, algorithm: str, rounds: int, scratch: Path, count: int) 
     programs = {"before": before, "now": compare.OURS}
     commands = {name: built_by(programs[name], algorithm, function, keys) for name, function in functions.items()}
     compare.note(f"builds of {count} keys by {algorithm}")
-    found = compare.interleaved(commands, rounds)
+    found = in_turns(commands, rounds)
     if not filecmp.cmp(*functions.values(), shallow=False):
         sys.exit(f"{count} keys by {algorithm}: the function files differ")
     old, new = found["before"], found["now"]
-    cells = [f"{old.seconds:.3f}", f"{new.seconds:.3f}", f"{new.seconds / old.seconds:.2f}", f"{1e9 * new.seconds / count:.0f}"]
-    memory = [f"{used.memory / count:.1f}" for used in (old, new)]
+    cells = [f"{least(old):.3f}", f"{least(new):.3f}", ratio(new, old), f"{1e9 * least(new) / count:.0f}"]
+    memory = [f"{peak(runs) / count:.1f}" for runs in (old, new)]
     return " | ".join([f"| {count:,}", algorithm, *cells, *memory]) + " |"
 
 
@@ -61,12 +81,12 @@ def one_key(before: str, tool: str | None, rounds: int, scratch: Path, count: in
         compare.c_seed(tool, "chm", function, keys)  # leaves the function of the seed that serves
         commands["C tool"] = [tool, "-m", function, one]
     compare.note(f"queries of one of {count} keys")
-    found = compare.interleaved(commands, rounds)
+    found = in_turns(commands, rounds)
     last = found["C tool"] if tool else None
     rows = []
-    for name, used in found.items():
-        ratios = [f"{used.seconds / last.seconds:.2f}", f"{used.memory / last.memory:.2f}"] if last else ["-", "-"]
-        rows.append(f"| {count:,} | {name} | {1e3 * used.seconds:.2f} | {ratios[0]} | {used.memory / MEGABYTE:.1f} | {ratios[1]} |")
+    for name, runs in found.items():
+        ratios = [ratio(runs, last), f"{peak(runs) / peak(last):.2f}"] if last else ["-", "-"]
+        rows.append(f"| {count:,} | {name} | {1e3 * least(runs):.2f} | {ratios[0]} | {peak(runs) / MEGABYTE:.1f} | {ratios[1]} |")
     return rows
 
 
