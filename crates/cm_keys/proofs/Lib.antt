@@ -5,4 +5,5 @@ mod LeaveLemmas
 pub mod NumberingLemmas
 mod NextLemmas
 mod FourLemmas
+mod MarkLemmas
 pub mod SplittingLemmas

@@ -1,5 +1,6 @@
 -- Bytes in a buffer, before those of a source.
-use Rattle.std.specs.Prelude.{◌≡◌, ◌-◌, ◌+◌, ◌<◌, ◌≤◌, ◌++◌, ◌∷◌, [], ℕ, List, length, All, Option, Some, drop, take, Result, Ok, Err}
+use Rattle.std.specs.Prelude.{◌≡◌, ◌-◌, ◌+◌, ◌<◌, ◌≤◌, ◌++◌, ◌∷◌, [], ℕ, List, length, slice_index, All, Option, Some, drop, take, Result, Ok, Err}
+use Rattle.std.specs.Int.{bit_at}
 use Rattle.std.specs.Option.{option_map}
 use Rattle.cm_io.specs.declared.fault.Failed.{Failed}
 use Rattle.cm_keys.specs.Lines.{push_first, pieces}
@@ -29,6 +30,11 @@ HasNoEnd end part = (more : List ℕ) → pieces end (part ++ more) ≡ with_fro
 abbrev pub IsLong : ℕ → List (List ℕ) → Type 0
 IsLong longest [] = ⊥
 IsLong longest (p ∷ ps) = longest < length p
+
+-- Up to its last bit that is set, the bits of `marks` say which of the bytes end a line: bit i says it of byte i.
+pub record MarksEnds (end : ℕ) (bytes : List ℕ) (marks : ℕ) : Type 0 where
+  pub ends : (i : ℕ) → bit_at marks i ≡ 1 → (i < length bytes) × (slice_index bytes i ≡ end)
+  pub all : (i j : ℕ) → i < j → bit_at marks j ≡ 1 → slice_index bytes i ≡ end → bit_at marks i ≡ 1
 
 -- What a key took of the buffered bytes: all up to the end of its line, all of them, or not all of its line.
 abbrev pub TakesPart : ℕ → ℕ → List ℕ → List ℕ → List ℕ → List ℕ → Part → Type 0

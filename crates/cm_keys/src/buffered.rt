@@ -1,13 +1,15 @@
 // A source with a buffer.
-ghost use Rattle.std.specs.Prelude.{◌≡◌, ◌<◌, ◌≤◌, ◌++◌, ◌+◌, ℕ, List, [], ◌∷◌, true, false, Ok, IfOk, IfSome, IfNone, OnOk, length, drop};
-ghost use Rattle.std.specs.Option.{ForSome};
+ghost use Rattle.std.specs.Prelude.{◌≡◌, ◌<◌, ◌≤◌, ◌++◌, ◌+◌, ℕ, List, [], ◌∷◌, true, false, Ok, IfOk, IfSome, IfNone, OnOk, length, slice_index, drop};
+ghost use Rattle.std.specs.Int.{bit_at};
+ghost use Rattle.std.specs.Option.{ForSome, option_map};
 ghost use Rattle.cm_io.specs.Causes.{HasCause};
 ghost use Rattle.memchr.specs.Find.{IsFirstByte, is_byte};
-ghost use Rattle.cm_keys.specs.Buffering.{ready_in, left_bytes, BeginsWith, HasFewer, HasNoEnd, TakesLines, TakesPart, ReadsLine};
+ghost use Rattle.cm_keys.specs.Buffering.{ready_in, left_bytes, BeginsWith, HasFewer, HasNoEnd, MarksEnds, TakesLines, TakesPart, ReadsLine};
 ghost use Rattle.cm_keys.specs.declared.buffered.TheConstants.{ROOM};
 
 use cm_io::{Failed, KeyBuf, MAX_KEY_LEN, Source};
 use memchr::{memchr, memchr_iter, memrchr};
+use std::simd::prelude::*;
 
 /// The size of the buffer in bytes.
 pub const ROOM: usize = 65_536;
@@ -180,8 +182,8 @@ impl<S: Source> Buffered<S> {
             × TakesPart MAX_KEY_LEN end (ready_in self.now.buf self.now.start self.now.until) left [] line.now Part.Whole) }
         ensures none { IfNone result (HasNoEnd end (ready_in self.now.buf self.now.start self.now.until)) }
     {
-        match first_line(end, &self.buf[self.start..self.until]) {
-            Some((line, _)) => Some(line),
+        match first_line(end, &self.buf[self.start..self.until], 0) {
+            Some((line, _, _)) => Some(line),
             None => None,
         }
     }
@@ -194,20 +196,21 @@ impl<S: Source> Buffered<S> {
         ensures none { IfNone result (HasFewer MAX_KEY_LEN end 4 (ready_in self.now.buf self.now.start self.now.until)) }
     {
         let ready = &self.buf[self.start..self.until];
-        let (p, ready) = match first_line(end, ready) {
+        let marks = mark_ends(end, ready);
+        let (p, ready, marks) = match first_line(end, ready, marks) {
             Some(split) => split,
             None => return None,
         };
-        let (q, ready) = match first_line(end, ready) {
+        let (q, ready, marks) = match first_line(end, ready, marks) {
             Some(split) => split,
             None => return None,
         };
-        let (r, ready) = match first_line(end, ready) {
+        let (r, ready, marks) = match first_line(end, ready, marks) {
             Some(split) => split,
             None => return None,
         };
-        match first_line(end, ready) {
-            Some((t, _)) => Some((p, q, r, t)),
+        match first_line(end, ready, marks) {
+            Some((t, _, _)) => Some((p, q, r, t)),
             None => None,
         }
     }
@@ -251,15 +254,49 @@ fn near_end(end: u8, bytes: &[u8]) -> Option<usize>
     memchr_iter(end, bytes).next()
 }
 
-/// The first line, without its end, and the bytes after its end, if the bytes have one.
+/// Which of the first 64 bytes end a line, a bit for each. None is set if there are fewer bytes.
 #[inline(always)]
-fn first_line(end: u8, bytes: &[u8]) -> Option<(&[u8], &[u8])>
+fn mark_ends(end: u8, bytes: &[u8]) -> u64
+    ensures marks { MarksEnds end bytes.now result }
+    ensures all { 64 ≤ length bytes.now → (i : ℕ) → i < 64 → slice_index bytes.now i ≡ end → bit_at result i ≡ 1 }
+{
+    if bytes.len() < 64 {
+        return 0;
+    }
+    u8x64::from_slice(bytes)
+        .simd_eq(u8x64::splat(end))
+        .to_bitmask()
+}
+
+/// The place of the first end of a line, and the marks of the bytes after it. If there are marks, no byte is read.
+#[inline(always)]
+fn first_end(end: u8, bytes: &[u8], marks: u64) -> Option<(usize, u64)>
+    requires marks { MarksEnds end bytes.now marks }
+    ensures first { IsFirstByte (is_byte end) bytes.now (option_map (λ found. found.0) result) }
+    ensures marks { IfSome result (λ found. MarksEnds end (drop (found.0 + 1) bytes.now) found.1) }
+{
+    if marks != 0 {
+        let n = marks.trailing_zeros();
+        // In two steps, since n may be 63.
+        return Some((n as usize, (marks >> n) >> 1));
+    }
+    match near_end(end, bytes) {
+        Some(n) => Some((n, 0)),
+        None => None,
+    }
+}
+
+/// The first line, without its end, the bytes after its end, and their marks, if the bytes have an end.
+#[inline(always)]
+fn first_line(end: u8, bytes: &[u8], marks: u64) -> Option<(&[u8], &[u8], u64)>
     requires few { length bytes.now ≤ ROOM }
+    requires marks { MarksEnds end bytes.now marks }
     ensures line { IfSome result (λ split. TakesPart MAX_KEY_LEN end bytes.now split.1.now [] split.0.now Part.Whole) }
+    ensures marks { IfSome result (λ split. MarksEnds end split.1.now split.2) }
     ensures none { IfNone result (HasNoEnd end bytes.now) }
 {
-    match near_end(end, bytes) {
-        Some(n) => Some((&bytes[..n], &bytes[n + 1..])),
+    match first_end(end, bytes, marks) {
+        Some((n, marks)) => Some((&bytes[..n], &bytes[n + 1..], marks)),
         None => None,
     }
 }
