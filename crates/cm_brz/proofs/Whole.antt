@@ -7,7 +7,8 @@ use Rattle.cm_brz.specs.Fails.{FailsBrz, FailsBuckets, HasBrzForm, HasBuildingFo
 use Rattle.cm_split.specs.Faults.{FailsPassing, HasPassingForm}
 use Rattle.cm_split.specs.Puts.{keys_in_bucket, records_under}
 use Rattle.cm_split.specs.Records.{Record}
-use Rattle.cm_split.specs.Split.{IsLowestOver, keys_of_bucket, split_of}
+use Rattle.cm_buckets.specs.Splitting.{keys_of_bucket}
+use Rattle.cm_split.specs.Split.{IsLowestOver, split_of}
 use Rattle.cm_split.specs.declared.fault.BrzFault.{BrzFault}
 use Rattle.cm_split.specs.declared.fault.BrzFault.TheVariants.{Memory, NoKeys, Overfull, Cored, Key, Changed, SpillFailed, SpillDamaged}
 use Rattle.cm_buckets.specs.Functions.{Brz, bucket_count, no_bucket}

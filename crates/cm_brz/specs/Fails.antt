@@ -3,7 +3,8 @@ use Rattle.std.specs.Prelude.{◌≡◌, ◌≢◌, ℕ, ◌<◌, List, [], All,
 use Rattle.cm_io.specs.Passes.{IsToldFault}
 use Rattle.cm_algorithm.specs.declared.algorithm.Algorithm.TheVariants as algorithm
 use Rattle.cm_brz.specs.BrzOf.{bucket_from}
-use Rattle.cm_split.specs.Split.{IsLowestOver, keys_of_bucket, split_of}
+use Rattle.cm_buckets.specs.Splitting.{keys_of_bucket}
+use Rattle.cm_split.specs.Split.{IsLowestOver, split_of}
 use Rattle.cm_split.specs.declared.fault.BrzFault.{BrzFault}
 use Rattle.cm_split.specs.declared.fault.BrzFault.TheVariants.{Memory, NoKeys, Overfull, Cored, Key, Changed, SpillFailed, SpillDamaged}
 use Rattle.cm_buckets.specs.Functions.{bucket_count}

@@ -4,7 +4,8 @@ use Rattle.std.specs.List.{range_with_len}
 use Rattle.cm_algorithm.specs.declared.algorithm.Algorithm.TheVariants as algorithm
 use Rattle.cm_brz.specs.BrzOf.{bucket_from}
 use Rattle.cm_brz.specs.Reports.{overfull_text}
-use Rattle.cm_split.specs.Split.{keys_of_bucket, size_of_bucket}
+use Rattle.cm_buckets.specs.Splitting.{keys_of_bucket}
+use Rattle.cm_split.specs.Split.{size_of_bucket}
 use Rattle.cm_buckets.specs.Functions.{Brz, Bucket, bucket_count, no_bucket}
 use Rattle.cm_buckets.specs.declared.limits.TheConstants.{MAX_BUCKET}
 use Rattle.cm_spec.specs.Bdz.{bdz_rule}

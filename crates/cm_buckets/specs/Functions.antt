@@ -31,9 +31,17 @@ pub record Brz : Type 0 where
 abbrev pub bucket_count : ℕ → ℕ → ℕ
 bucket_count m b = (m + (b - 1)) / b
 
--- the bucket of a key, of k: the third of its hash values under the split's seed with all bits flipped, modulo k
+-- the seed under which keys are hashed to find their buckets: that of the split with all bits flipped
+abbrev pub flipped : ℕ → ℕ
+flipped split = bit_xor split 4294967295
+
+-- the bucket, of k, of a key with these hash values under that seed: the third of them, modulo k
+abbrev pub bucket_by : List ℕ → ℕ → ℕ
+bucket_by hashed k = slice_index hashed 2 % k
+
+-- the bucket of a key, of k
 abbrev pub bucket_of : List ℕ → ℕ → ℕ → ℕ
-bucket_of key split k = slice_index (words key (bit_xor split 4294967295)) 2 % k
+bucket_of key split k = bucket_by (words key (flipped split)) k
 
 -- how many cells a bucket of `size` keys has
 abbrev pub bucket_cells : ℕ → ℕ → ℕ

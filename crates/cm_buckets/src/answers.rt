@@ -1,9 +1,10 @@
 //! What functions by BRZ return.
-ghost use Rattle.std.specs.Prelude.{ℕ, List, Option, length};
+ghost use Rattle.std.specs.Prelude.{Option};
 ghost use Rattle.cm_buckets.specs.Functions.{brz_answer};
 ghost use Rattle.cm_buckets.specs.Places.{brz_place};
 
 use crate::brz::Brz;
+use crate::buckets::flip;
 use cm_lookup2::{words, words_of_four};
 use cm_scheme::{Answers, Place};
 
@@ -21,12 +22,12 @@ impl Answers for Brz {
     }
 
     fn place(&self, key: &[u8]) -> Place {
-        let j = self.bucket_in(words(key, self.split() ^ u32::MAX));
+        let j = self.bucket_in(words(key, flip(self.split())));
         self.place_in(j, words(key, self.seed_of(j)))
     }
 
     fn places_of_four(&self, p: &[u8], q: &[u8], r: &[u8], t: &[u8]) -> [Place; 4] {
-        let split = self.split() ^ u32::MAX;
+        let split = flip(self.split());
         let hashed = words_of_four(p, q, r, t, [split, split, split, split]);
         let j = [
             self.bucket_in(hashed.at(0)),

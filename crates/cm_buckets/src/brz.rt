@@ -1,6 +1,6 @@
 //! Functions by BRZ.
-ghost use Rattle.std.specs.Prelude.{◌≡◌, ◌<◌, ◌≤◌, ◌+◌, ℕ, List, Option, IfSome, bit_xor, length, slice_index, slice_index_or};
-ghost use Rattle.cm_buckets.specs.Functions.{IsBrz, IsBucket, brz_answer, bucket_count, bucket_of, no_bucket};
+ghost use Rattle.std.specs.Prelude.{◌≡◌, ◌<◌, ◌≤◌, ℕ, List, Option, IfSome, length, slice_index_or};
+ghost use Rattle.cm_buckets.specs.Functions.{IsBrz, IsBucket, brz_answer, bucket_count, bucket_of, flipped, no_bucket};
 ghost use Rattle.cm_buckets.specs.Places.{brz_place};
 ghost use Rattle.cm_io.specs.declared.key_pass.TheConstants.{MAX_KEYS};
 ghost use Rattle.cm_buckets.specs.declared.limits.TheConstants.{MIN_WIDTH, MAX_WIDTH};
@@ -9,6 +9,7 @@ ghost use Rattle.cm_spec.specs.Lists.{list_of};
 ghost use Rattle.cm_spec.specs.Lookup2.{words};
 ghost use Rattle.cm_spec.specs.Rule.{IsRatio};
 
+use crate::buckets::bucket_of_hashed;
 use crate::parts::BrzParts;
 use cm_scheme::Place;
 use std::marker::Model;
@@ -107,10 +108,10 @@ impl Brz {
     /// The bucket of a key with these hash values under the split's seed with all bits flipped.
     #[inline(always)]
     pub(crate) fn bucket_in(&self, hashed: [u32; 3]) -> u32
-        ensures bucket { (key : List ℕ) → hashed ≡ words key (bit_xor self.now.split 4294967295) → result ≡ bucket_of key self.now.split (length self.now.buckets) }
+        ensures bucket { (key : List ℕ) → hashed ≡ words key (flipped self.now.split) → result ≡ bucket_of key self.now.split (length self.now.buckets) }
         ensures inside { result < length self.now.buckets }
     {
-        self.parts.count().rem(hashed[2])
+        bucket_of_hashed(hashed, self.parts.count())
     }
 
     /// Where a key of bucket `j` is looked up, with these hash values under the bucket's seed.

@@ -3,12 +3,14 @@
 
 mod answers;
 mod brz;
+mod buckets;
 mod held;
 mod laws;
 mod limits;
 mod parts;
 
 pub use crate::brz::Brz;
+pub use crate::buckets::{bucket_of_hashed, flip};
 pub use crate::laws::answers_apart;
 pub use crate::limits::{MAX_BUCKET, MAX_WIDTH, MIN_WIDTH};
 pub use crate::parts::BrzParts;

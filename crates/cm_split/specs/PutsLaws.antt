@@ -3,7 +3,7 @@ use Rattle.std.proofs.Common.{◌≡◌, ℕ, true, false, cond, List, [], ◌�
 use Rattle.cm_buckets.specs.Functions.{bucket_of}
 use Rattle.cm_split.specs.Puts.{keys_in_bucket, record_of, records_under}
 use Rattle.cm_split.specs.Records.{Record, records_of}
-use Rattle.cm_split.specs.Split.{keys_of_bucket}
+use Rattle.cm_buckets.specs.Splitting.{keys_of_bucket}
 
 -- the records of a bucket are its keys
 pub keys_of_records : (keys : List (ℕ × List ℕ)) (k split j : ℕ) → keys_in_bucket (records_under keys k split) j ≡ keys_of_bucket keys k split j

@@ -1,6 +1,6 @@
 -- Numbers of keys by bucket.
 use Rattle.std.proofs.Common.{◌≡◌, ◌≢◌, ◌∙◌, ◌⊎◌, ℕ, zero, suc, ◌+◌, ◌<◌, ◌≤◌, Bool, true, false, cond, List, [], ◌∷◌, ◌++◌, length, length-append, map, take, get_or, set, sum, eqb, leb, refl, sym, ap, subst, inl, inr, arith, None, Some}
-use Rattle.std.specs.Prelude.{bit_xor, find, filter, replicate}
+use Rattle.std.specs.Prelude.{find, filter, replicate}
 use Rattle.std.specs.List.{range_with_len}
 use Rattle.std.proofs.lemmas.Bool.{cases_Bool, cond-true, cond-false, eqb-true, eqb-false, le-leb, lt-leb}
 use Rattle.std.proofs.lemmas.Grind.{get_or-set_at}
@@ -10,10 +10,10 @@ use Rattle.std.proofs.lemmas.List.Folds.{list_all_at, sum_by-replicate}
 use Rattle.std.proofs.lemmas.List.FromFn.{get_or-range_with_len, length-range_with_len}
 use Rattle.std.proofs.lemmas.List.Sums.{get_or-le-sum_by, length-filter, list_all-from_AllPass, sum-map, sum_by-set, sum_by_more}
 use Rattle.std.proofs.lemmas.Simd.{map-map}
-use Rattle.cm_buckets.specs.Functions.{bucket_of}
+use Rattle.cm_buckets.specs.Functions.{bucket_by, bucket_of, flipped}
 use Rattle.cm_buckets.specs.declared.limits.TheConstants.{MAX_BUCKET}
 use Rattle.cm_spec.specs.Lookup2.{words}
-use Rattle.cm_split.specs.Split.{AreSizes, CountsPassed, IsFirstOver, IsLowestOver, bucket_by, size_by_words, size_of_bucket, is_split}
+use Rattle.cm_split.specs.Split.{AreSizes, CountsPassed, IsFirstOver, IsLowestOver, size_by_words, size_of_bucket, is_split}
 
 -- of all keys these are left, and the others were counted by bucket
 pub record AreCountedBut (sizes : List ℕ) (left all : List (ℕ × List ℕ)) (k s : ℕ) : Type 0 where
@@ -55,14 +55,14 @@ words_more sizes now all i k b n d h inside is l m j low =
     let one : get_or (set now b n) j 0 + 0 ≡ get_or now j 0 + cond (eqb b j) 1 0 = counted_one now j b n 0 (get_or now j 0 + cond (eqb b j) 1 0) l m (omega arith) in
     omega (arith, h j low, more, here, one)
 
-size_by_map : (keys : List (ℕ × List ℕ)) (k s j : ℕ) → size_by_words (map (λ (key : ℕ × List ℕ). words key.1 (bit_xor s 4294967295)) keys) k j ≡ size_of_bucket keys k s j
+size_by_map : (keys : List (ℕ × List ℕ)) (k s j : ℕ) → size_by_words (map (λ (key : ℕ × List ℕ). words key.1 (flipped s)) keys) k j ≡ size_of_bucket keys k s j
 size_by_map keys k s j =
-    let hash : ℕ × List ℕ → List ℕ = λ key. words key.1 (bit_xor s 4294967295) in
+    let hash : ℕ × List ℕ → List ℕ = λ key. words key.1 (flipped s) in
     let test : List ℕ → ℕ = λ hashed. cond (eqb (bucket_by hashed k) j) 1 0 in
     sym (sum-map test (map hash keys)) ∙ (ap sum (map-map test hash keys) ∙ (sum-map (λ (key : ℕ × List ℕ). test (hash key)) keys ∙ sym (length-filter (λ (key : ℕ × List ℕ). eqb (bucket_of key.1 s k) j) keys)))
 
 -- keys that have passed are counted, by their hash values
-pub passed_by_words : (sizes now : List ℕ) (keys left rest : List (ℕ × List ℕ)) (hashed : List (List ℕ)) (k s : ℕ) → left ≡ keys ++ rest → hashed ≡ map (λ (key : ℕ × List ℕ). words key.1 (bit_xor s 4294967295)) keys
+pub passed_by_words : (sizes now : List ℕ) (keys left rest : List (ℕ × List ℕ)) (hashed : List (List ℕ)) (k s : ℕ) → left ≡ keys ++ rest → hashed ≡ map (λ (key : ℕ × List ℕ). words key.1 (flipped s)) keys
     → ((j : ℕ) → j < k → get_or now j 0 ≡ get_or sizes j 0 + size_by_words hashed k j) → CountsPassed sizes now left rest k s
 passed_by_words sizes now keys left rest hashed k s e are each j low =
     let p : ℕ × List ℕ → Bool = λ key. eqb (bucket_of key.1 s k) j in

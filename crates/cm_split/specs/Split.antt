@@ -1,16 +1,13 @@
 -- How the keys are split into buckets.
-use Rattle.std.specs.Prelude.{◌≡◌, ℕ, ◌+◌, ◌%◌, ◌<◌, ◌≤◌, ◌==◌, Bool, nat_le, List, [], ◌∷◌, count_by, drop, filter, find, length, slice_index, Option, None, Some, Result, Ok, Err}
+use Rattle.std.specs.Prelude.{◌≡◌, ℕ, ◌+◌, ◌<◌, ◌≤◌, ◌==◌, Bool, nat_le, List, [], ◌∷◌, count_by, drop, find, length, slice_index, Option, None, Some, Result, Ok, Err}
 use Rattle.std.specs.List.{list_all, range_with_len}
-use Rattle.cm_buckets.specs.Functions.{bucket_of}
+use Rattle.cm_buckets.specs.Functions.{bucket_by, bucket_of}
+use Rattle.cm_buckets.specs.Splitting.{keys_of_bucket}
 use Rattle.cm_buckets.specs.declared.limits.TheConstants.{MAX_BUCKET}
 use Rattle.cm_io.specs.Passes.{Told, Ends, GivesKey}
 use Rattle.cm_io.specs.declared.key_pass.KeyFault.{KeyFault}
 
--- the keys of bucket j, of k, in their order
-abbrev pub keys_of_bucket : List (ℕ × List ℕ) → ℕ → ℕ → ℕ → List (ℕ × List ℕ)
-keys_of_bucket keys k split j = filter (λ key. bucket_of key.1 split k == j) keys
-
--- how many those are
+-- how many keys bucket j has, of k
 abbrev pub size_of_bucket : List (ℕ × List ℕ) → ℕ → ℕ → ℕ → ℕ
 size_of_bucket keys k split j = length (keys_of_bucket keys k split j)
 
@@ -21,10 +18,6 @@ AreSizes sizes keys k split = (j : ℕ) → j < k → slice_index sizes j ≡ si
 -- of the keys that were left before, those that no longer are were counted by bucket
 abbrev pub CountsPassed : List ℕ → List ℕ → List (ℕ × List ℕ) → List (ℕ × List ℕ) → ℕ → ℕ → Type 0
 CountsPassed sizes now left rest k split = (j : ℕ) → j < k → slice_index now j + size_of_bucket rest k split j ≡ slice_index sizes j + size_of_bucket left k split j
-
--- the bucket, of k, of a key with these hash values
-abbrev pub bucket_by : List ℕ → ℕ → ℕ
-bucket_by hashed k = slice_index hashed 2 % k
 
 -- how many of some keys, by the hash values of each, bucket j of k has
 abbrev pub size_by_words : List (List ℕ) → ℕ → ℕ → ℕ

@@ -6,7 +6,8 @@ ghost use Rattle.cm_io.specs.declared.key_pass.TheConstants.{MAX_KEYS};
 ghost use Rattle.cm_witness.specs.Gathers.{HasGatherCause};
 ghost use Rattle.cm_witness.specs.Pairs.{pairs};
 ghost use Rattle.cm_split.specs.Passes.{AreCounted, FailsAgain, HasTwo, NotesNext};
-ghost use Rattle.cm_split.specs.Split.{keys_of_bucket, size_of_bucket};
+ghost use Rattle.cm_buckets.specs.Splitting.{keys_of_bucket};
+ghost use Rattle.cm_split.specs.Split.{size_of_bucket};
 
 use crate::split::{Overfull, Split};
 use cm_io::{KeyBuf, KeyPass};

@@ -1,5 +1,5 @@
 //! How keys are split into buckets.
-ghost use Rattle.std.specs.Prelude.{◌≡◌, ◌≢◌, ℕ, ◌+◌, ◌<◌, ◌≤◌, length, drop, slice_index, sum, bit_xor, true, false, IfOk, IfErr, IfSome, IfNone, IsTrue, OnOk, Contains, None, Some, Ok, Err};
+ghost use Rattle.std.specs.Prelude.{◌≡◌, ◌≢◌, ℕ, ◌+◌, ◌<◌, ◌≤◌, length, drop, slice_index, sum, true, false, IfOk, IfErr, IfSome, IfNone, IsTrue, OnOk, Contains, None, Some, Ok, Err};
 ghost use Rattle.std.specs.Option.{ForSome};
 ghost use Rattle.cm_io.specs.Passes.{HasKeyCause};
 ghost use Rattle.cm_witness.specs.Gathers.{HasGatherCause, HasOther};
@@ -8,9 +8,9 @@ ghost use Rattle.cm_buckets.specs.Functions.{bucket_of as bucket_of_key};
 ghost use Rattle.cm_io.specs.declared.key_pass.TheConstants.{MAX_KEYS};
 ghost use Rattle.cm_buckets.specs.declared.limits.TheConstants.{MAX_BUCKET};
 ghost use Rattle.cm_split.specs.Passes.{AreCounted, FailsAgain};
-ghost use Rattle.cm_split.specs.Split.{AreSizes, CountsPassed, GivesBucket, IsFirstOver, IsLowestOver, bucket_by, is_split, size_by_words, split_of};
+ghost use Rattle.cm_split.specs.Split.{AreSizes, CountsPassed, GivesBucket, IsFirstOver, IsLowestOver, is_split, size_by_words, split_of};
 
-use cm_buckets::MAX_BUCKET;
+use cm_buckets::{MAX_BUCKET, bucket_of_hashed, flip};
 use cm_io::{KeyBuf, KeyFault, KeyPass, MAX_KEYS};
 use cm_lookup2::words;
 use cm_scheme::Divisor;
@@ -31,24 +31,7 @@ impl Split {
         ensures bucket { result ≡ bucket_of_key key.now self.now.seed self.now.buckets }
         ensures below { result < self.now.buckets }
     {
-        self.bucket_of_hashed(words(key, self.hash_seed()))
-    }
-
-    /// The seed under which the keys are hashed: that of the split with all bits flipped.
-    #[inline(always)]
-    fn hash_seed(&self) -> u32
-        ensures flipped { result ≡ bit_xor self.now.seed 4294967295 }
-    {
-        self.seed ^ u32::MAX
-    }
-
-    /// The bucket of a key, from 0, by its hash values under that seed.
-    #[inline(always)]
-    fn bucket_of_hashed(&self, hashed: [u32; 3]) -> u32
-        ensures bucket { result ≡ bucket_by hashed self.now.buckets }
-        ensures below { result < self.now.buckets }
-    {
-        self.buckets.rem(hashed[2])
+        bucket_of_hashed(words(key, flip(self.seed)), &self.buckets)
     }
 }
 
@@ -97,7 +80,7 @@ fn count_hashed(split: &Split, all: &[[u32; 3]], sizes: &mut [u32])
     ensures each { (j : ℕ) → j < split.now.buckets → slice_index sizes.new j ≡ slice_index sizes.old j + size_by_words all.now split.now.buckets j }
 {
     for hashed in all {
-        sizes[split.bucket_of_hashed(*hashed) as usize] += 1;
+        sizes[bucket_of_hashed(*hashed, &split.buckets) as usize] += 1;
     }
 }
 
@@ -119,7 +102,7 @@ fn count_four<P: KeyPass>(keys: &mut P, left: u32, split: &Split, sizes: &mut [u
     if left < 4 {
         return false;
     }
-    let four = match keys.hash_four(split.hash_seed()) {
+    let four = match keys.hash_four(flip(split.seed)) {
         Some(four) => four,
         None => return false,
     };

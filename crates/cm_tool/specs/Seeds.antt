@@ -5,7 +5,8 @@ use Rattle.cm_algorithm.specs.declared.algorithm.Algorithm.TheVariants.{Chm, Bdz
 use Rattle.cm_bdz.specs.Numbering.{bdz_under, bdz_ph_under}
 use Rattle.cm_brz.specs.BrzOf.{IsBrzOf}
 use Rattle.cm_brz.specs.Found.{AllOverfull, first_cored}
-use Rattle.cm_split.specs.Split.{keys_of_bucket, split_of}
+use Rattle.cm_buckets.specs.Splitting.{keys_of_bucket}
+use Rattle.cm_split.specs.Split.{split_of}
 use Rattle.cm_buckets.specs.Functions.{bucket_count}
 use Rattle.cm_dump.specs.declared.writer.Func.{Func}
 use Rattle.cm_dump.specs.declared.writer.Func.TheVariants as func
