@@ -91,6 +91,10 @@ impl KeyPass for Changing<'_> {
         self.ready -= 1;
     }
 
+    fn hash_four(&mut self, _seed: u32) -> Option<[[u32; 3]; 4]> {
+        None
+    }
+
     fn rewind(&mut self) -> Result<(), KeyFault> {
         if self.refusals > 0 {
             self.refusals -= 1;

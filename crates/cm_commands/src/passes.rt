@@ -55,6 +55,10 @@ impl<P: KeyPass> KeyPass for Counting<P> {
         self.pass.skip()
     }
 
+    fn hash_four(&mut self, _seed: u32) -> Option<[[u32; 3]; 4]> {
+        None
+    }
+
     fn rewind(&mut self) -> Result<(), KeyFault> {
         self.pass.rewind()
     }

@@ -89,6 +89,10 @@ impl KeyPass for Listed<'_> {
         self.ready = self.ready.saturating_sub(1);
     }
 
+    fn hash_four(&mut self, _seed: u32) -> Option<[[u32; 3]; 4]> {
+        None
+    }
+
     fn rewind(&mut self) -> Result<(), KeyFault> {
         self.given = 0;
         self.usable = true;

@@ -52,6 +52,9 @@ pub trait KeyPass {
     /// The line of the next key, if it is buffered.
     ghost next_line: { Self → ℕ };
 
+    /// Four keys can't be hashed at once: one of the next four isn't buffered, or the end is near.
+    ghost lacks_four: { Self → Type 0 } = { λ _. Unit {0} };
+
     /// False from a call that failed until a rewind that doesn't.
     fn usable(&self) -> bool
         ensures usable { result ≡ usable self.now };
@@ -111,7 +114,7 @@ pub trait KeyPass {
         ensures usable { usable self.new ≡ true };
 
     /// Passes the next four keys, if they are buffered, and returns their hash values under a seed, by lookup2, in order. None says
-    /// nothing of what comes: nothing has changed then.
+    /// nothing of what comes, except that four keys can't be hashed at once: nothing has changed then.
     fn hash_four(&mut self, seed: u32) -> Option<[[u32; 3]; 4]>
         requires usable { IsTrue (usable self.old) }
         ensures told { told self.new ≡ told self.old }
@@ -123,9 +126,7 @@ pub trait KeyPass {
         ensures rises { IfSome result (λ _. last self.old < last self.new) }
         ensures usable { usable self.new ≡ true }
         ensures unchanged { IfNone result (self.new ≡ self.old) }
-    {
-        None
-    }
+        ensures none { IfNone result (lacks_four self.old) };
 
     /// Passes some of the next keys without returning them, if they are buffered, and returns how many. 0 says nothing of what comes:
     /// nothing has changed then, and `next` shows what comes.

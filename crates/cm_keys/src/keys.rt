@@ -1,4 +1,4 @@
-ghost use Rattle.std.specs.Prelude.{◌≡◌, ◌⊎◌, ◌<◌, ◌≤◌, ◌+◌, ◌↔◌, ℕ, List, length, drop, Ok, true, false, OnOk, OnErr, IfOk, IfErr, IfSome, IfNone, IsTrue, IsOkUnless, if◌then◌else◌, option_map};
+ghost use Rattle.std.specs.Prelude.{◌≡◌, ◌⊎◌, ◌<◌, ◌≤◌, ◌+◌, ℕ, List, length, drop, Ok, true, false, OnOk, OnErr, IfOk, IfErr, IfSome, IfNone, IsTrue, IsOkUnless, if◌then◌else◌, option_map};
 ghost use Rattle.std.specs.Option.{ForSome};
 ghost use Rattle.cm_io.specs.Passes.{HasKeyCause, GivesFour, GivesKey, PassesKeys};
 ghost use Rattle.cm_keys.specs.Buffering.{HasFewer, HasNoEnd};
@@ -135,6 +135,8 @@ impl<S: Source> KeyPass for Keys<S> {
     ghost stands = { λ k key. IsAtHand MAX_KEYS MAX_KEY_LEN LINE_END k key };
 
     ghost next_line = { λ k. k.given + 1 };
+
+    ghost lacks_four = { λ k. IsNearEnd MAX_KEYS 4 k.first k.given ⊎ HasFewer MAX_KEY_LEN LINE_END 4 k.waiting };
 
     fn usable(&self) -> bool {
         self.usable

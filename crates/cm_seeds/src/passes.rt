@@ -1,10 +1,10 @@
 //! Passes over keys.
-ghost use Rattle.std.specs.Prelude.{◌≡◌, ◌≢◌, ℕ, ◌+◌, ◌*◌, ◌<◌, ◌≤◌, ◌^◌, [], ◌∷◌, List, length, map, drop, vec_len, vec_capacity, IfOk, IfErr, IfSome, IfNone, IsTrue, OnOk, ◌++◌, None, Some, Ok, Err, true, false};
+ghost use Rattle.std.specs.Prelude.{◌≡◌, ◌≢◌, ℕ, ◌+◌, ◌*◌, ◌<◌, ◌≤◌, [], ◌∷◌, List, length, map, vec_len, vec_capacity, IfOk, IfErr, IfSome, IfNone, IsTrue, OnOk, ◌++◌, None, Some, Ok, Err, true, false, ◌⊎◌};
 ghost use Rattle.std.specs.Option.{ForSome};
-ghost use Rattle.cm_io.specs.Passes.{Told, HasKeyCause, GivesFour};
+ghost use Rattle.cm_io.specs.Passes.{HasKeyCause, GivesFour};
 ghost use Rattle.cm_spec.specs.Built.{edge_of, tag_of};
 ghost use Rattle.cm_spec.specs.Lookup2.{words as words_of};
-ghost use Rattle.cm_spec.specs.Rule.{IsCount, IsSize};
+ghost use Rattle.cm_spec.specs.Rule.{IsSize};
 ghost use Rattle.cm_witness.specs.Gathers.{FailsGather, HasGatherCause, HasOther};
 ghost use Rattle.cm_witness.specs.declared.certificate.GatherFault.TheVariants as gather_fault;
 ghost use Rattle.cm_io.specs.Passes.{IsToldFault};
@@ -121,6 +121,7 @@ fn four_at_hand<P: KeyPass>(keys: &mut P, left: u32, seed: u32) -> Option<[[u32;
     ensures counts { IfSome result (λ _. P.place keys.new ≡ P.place keys.old + 4) }
     ensures usable { P.usable keys.new ≡ true }
     ensures unchanged { IfNone result (keys.new ≡ keys.old) }
+    ensures none { IfNone result ((left < 4) ⊎ P.lacks_four keys.old) }
 {
     if left < 4 {
         return None;

@@ -182,6 +182,10 @@ impl KeyPass for BucketKeys {
         count as u32
     }
 
+    fn hash_four(&mut self, _seed: u32) -> Option<[[u32; 3]; 4]> {
+        None
+    }
+
     fn rewind(&mut self) -> Result<(), KeyFault> {
         self.given = 0;
         Ok(())

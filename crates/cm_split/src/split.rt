@@ -1,5 +1,5 @@
 //! How keys are split into buckets.
-ghost use Rattle.std.specs.Prelude.{◌≡◌, ◌≢◌, ℕ, ◌+◌, ◌<◌, ◌≤◌, length, drop, slice_index, sum, true, false, IfOk, IfErr, IfSome, IfNone, IsTrue, OnOk, Contains, None, Some, Ok, Err};
+ghost use Rattle.std.specs.Prelude.{◌≡◌, ◌≢◌, ◌⊎◌, ℕ, ◌+◌, ◌<◌, ◌≤◌, length, drop, slice_index, sum, true, false, IfOk, IfErr, IfSome, IfNone, IsTrue, OnOk, Contains, None, Some, Ok, Err};
 ghost use Rattle.std.specs.Option.{ForSome};
 ghost use Rattle.cm_io.specs.Passes.{HasKeyCause};
 ghost use Rattle.cm_witness.specs.Gathers.{HasGatherCause, HasOther};
@@ -94,6 +94,7 @@ fn count_four<P: KeyPass>(keys: &mut P, left: u32, split: &Split, sizes: &mut [u
     ensures cause { P.faults keys.new ≡ P.faults keys.old }
     ensures usable { P.usable keys.new ≡ true }
     ensures unchanged { result ≡ false → (keys.new ≡ keys.old) × (sizes.new ≡ sizes.old) }
+    ensures none { result ≡ false → (left < 4) ⊎ P.lacks_four keys.old }
     ensures enough { result ≡ true → 4 ≤ left }
     ensures counts { result ≡ true → P.place keys.new ≡ P.place keys.old + 4 }
     ensures all { result ≡ true → sum sizes.new ≡ sum sizes.old + 4 }
