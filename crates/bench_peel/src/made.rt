@@ -1,5 +1,5 @@
 // Edges that look random, by their numbers.
-ghost use Rattle.std.specs.Prelude.{◌≡◌, ◌*◌, ◌<◌, ◌≤◌, length, IfOk};
+ghost use Rattle.std.specs.Prelude.{◌*◌, ◌<◌, ◌≤◌};
 ghost use Rattle.cm_spec.specs.Graph.{IsEdge};
 
 use crate::random::{below, random};

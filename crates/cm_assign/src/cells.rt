@@ -1,12 +1,11 @@
 //! The cells of a peeled graph, edge by edge in the reverse of the order of peeling.
-ghost use Rattle.std.specs.Prelude.{◌≡◌, ℕ, ◌+◌, ◌-◌, ◌*◌, ◌/◌, ◌%◌, ◌^◌, ◌<◌, ◌≤◌, ◌↔◌, List, [], All, length, map, replicate, slice_index, slice_set, IfOk, IsTrue, if◌then◌else◌};
+ghost use Rattle.std.specs.Prelude.{◌≡◌, ℕ, ◌<◌, ◌≤◌, ◌↔◌, List, [], All, length, map, slice_index, slice_set, IfOk, IsTrue, if◌then◌else◌};
 ghost use Rattle.cm_assign.specs.declared.cells.TheConstants.{CHUNK, MANY};
 ghost use Rattle.cm_assign.specs.OneByOne.{AreOf, AreReady, AreSums, IsPart, one_by_one};
 ghost use Rattle.cm_peel.specs.Peeling.{IsPeelingOf};
-ghost use Rattle.cm_spec.specs.Cells.{Plan, plan_of, pivot_vertex, value_at, sum_but, at_once, completing, cells_of, AreSolved};
-ghost use Rattle.cm_spec.specs.Graph.{ends_at};
-ghost use Rattle.cm_spec.specs.Rounds.{order_of, rest_of, pivot_of};
-ghost use Rattle.cm_spec.specs.Rule.{Rule, IsCount};
+ghost use Rattle.cm_spec.specs.Cells.{Plan, plan_of, sum_but, at_once, completing, cells_of, AreSolved};
+ghost use Rattle.cm_spec.specs.Rounds.{order_of, rest_of};
+ghost use Rattle.cm_spec.specs.Rule.{IsCount};
 
 use cm_bits::{Cells, filled};
 use cm_edges::Edges;

@@ -1,5 +1,5 @@
 //! What functions by BDZ and BDZ_PH return.
-ghost use Rattle.std.specs.Prelude.{ℕ, List, Option, Some, length};
+ghost use Rattle.std.specs.Prelude.{Option, Some, length};
 ghost use Rattle.cm_bdz.specs.Functions.{bdz_answer, bdz_ph_answer};
 ghost use Rattle.cm_bdz.specs.Places.{bdz_place};
 ghost use Rattle.cm_spec.specs.Lookup2 as lookup2;

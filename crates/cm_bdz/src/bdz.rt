@@ -1,10 +1,10 @@
 //! Functions by BDZ.
-ghost use Rattle.std.specs.Prelude.{◌≡◌, ◌≢◌, ◌↔◌, ℕ, ◌*◌, ◌^◌, ◌<◌, ◌≤◌, length, count_by, IfOk, IfErr, OnErr, Err};
+ghost use Rattle.std.specs.Prelude.{◌≡◌, ◌≢◌, ◌↔◌, ◌*◌, ◌^◌, ◌<◌, ◌≤◌, length, count_by, IfOk, Err};
 ghost use Rattle.cm_bdz.specs.Functions.{IsThirds};
 ghost use Rattle.cm_rank.specs.Ranks.{StandsFor};
-ghost use Rattle.cm_spec.specs.Bdz.{bdz_size, bdz_rule};
+ghost use Rattle.cm_spec.specs.Bdz.{bdz_size};
 ghost use Rattle.cm_spec.specs.Cells.{is_busy};
-ghost use Rattle.cm_spec.specs.Rule.{IsRatio, IsSize};
+ghost use Rattle.cm_spec.specs.Rule.{IsRatio};
 ghost use Rattle.cm_bdz.specs.declared.bdz.PartsFault.{PartsFault};
 
 use cm_bits::{Cells, Crumbs};

@@ -1,7 +1,6 @@
 // Cells as digits in a small base, several of them in a byte.
 ghost use Rattle.std.specs.Prelude.{◌≡◌, ℕ, ◌+◌, ◌*◌, ◌/◌, ◌%◌, ◌^◌, ◌<◌, ◌≤◌, ◌↔◌, ◌++◌, [], IsTrue, OnErr, OnOk, length, refl};
 ghost use Rattle.cm_bits.specs.Appending.{filled_up};
-ghost use Rattle.cm_bits.specs.Bound.{AllBelow};
 ghost use Rattle.cm_bits.specs.Fault.{packed_fault};
 ghost use Rattle.cm_bits.specs.Held.{IsPacked, packed_cells};
 ghost use Rattle.cm_bits.specs.PackedLaws.{AllBelow-packed_cells, same_packed, zero_lt, at_base, packed_room, place_lt, packed_fault-image};

@@ -1,5 +1,5 @@
 //! What is kept of a bucket, and the bucket that follows from it.
-ghost use Rattle.std.specs.Prelude.{◌≡◌, ◌≢◌, ℕ, ◌+◌, ◌*◌, ◌/◌, ◌^◌, ◌<◌, ◌≤◌, List, length, slice_index, slice_index_or, Option, IfSome, option_map, count_by};
+ghost use Rattle.std.specs.Prelude.{◌≡◌, ◌≢◌, ℕ, ◌+◌, ◌*◌, ◌/◌, ◌<◌, ◌≤◌, List, slice_index, slice_index_or, Option, IfSome, option_map, count_by};
 ghost use Rattle.cm_bdz.specs.Functions.{chosen_end};
 ghost use Rattle.cm_buckets.specs.Functions.{answer_in, bucket_cells};
 ghost use Rattle.cm_buckets.specs.Kept.{IsSized, LiesIn, all_held, bucket_in, cells_in, none_held, offset_at};

@@ -1,12 +1,11 @@
 //! The buckets of a function, one after another.
-ghost use Rattle.std.specs.Prelude.{◌≡◌, ◌↔◌, ◌+◌, ◌<◌, ◌≤◌, ◌^◌, [], length, count_by, slice_index_or, List, OnOk, OnErr, IsOk, IfOk, IfSome, Err, IsTrue, ℕ, ◌≢◌, ◌⊎◌, vec_capacity, vec_len};
+ghost use Rattle.std.specs.Prelude.{◌≡◌, ◌↔◌, ◌+◌, ◌<◌, ◌≤◌, [], length, slice_index_or, List, OnOk, OnErr, IfSome, Err, IsTrue, ℕ, ◌⊎◌, vec_capacity, vec_len};
 ghost use Rattle.cm_bdz.specs.declared.bdz.PartsFault.{PartsFault};
-ghost use Rattle.cm_buckets.specs.Functions.{IsBrz, IsBucket, answer_of_bucket, bucket_cells, bucket_count, keys_in, no_bucket, offset_of};
+ghost use Rattle.cm_buckets.specs.Functions.{IsBrz, answer_of_bucket, bucket_cells, bucket_count, keys_in, no_bucket};
 ghost use Rattle.cm_buckets.specs.Places.{ends_in};
 ghost use Rattle.cm_buckets.specs.Pushing.{Counts, Miscounts, with_bucket};
 ghost use Rattle.cm_io.specs.declared.key_pass.TheConstants.{MAX_KEYS};
-ghost use Rattle.cm_spec.specs.Cells.{is_busy};
-ghost use Rattle.cm_buckets.specs.declared.limits.TheConstants.{MAX_BUCKET, MIN_WIDTH, MAX_WIDTH};
+ghost use Rattle.cm_buckets.specs.declared.limits.TheConstants.{MIN_WIDTH, MAX_WIDTH};
 ghost use Rattle.cm_spec.specs.Image.{packed_byte, packed_len};
 ghost use Rattle.cm_spec.specs.Lists.{list_of};
 ghost use Rattle.cm_spec.specs.Lookup2.{words};

@@ -1,5 +1,5 @@
 //! A CHM function.
-ghost use Rattle.std.specs.Prelude.{◌≡◌, ℕ, ◌<◌, ◌≤◌, length};
+ghost use Rattle.std.specs.Prelude.{◌≡◌, ◌≤◌, length};
 ghost use Rattle.cm_spec.specs.Chm.{chm_size, chm_rule};
 ghost use Rattle.cm_spec.specs.Rule.{IsRatio, IsSize};
 

@@ -1,5 +1,3 @@
-ghost use Rattle.std.specs.Prelude.{◌≡◌};
-
 use crate::equal::{expect_equal, expect_true};
 use cm_io::Disk;
 use cm_outer::{DiskCall, MemDisk, MemSink};

@@ -1,5 +1,5 @@
 //! An item of many bytes.
-ghost use Rattle.std.specs.Prelude.{◌≡◌, ◌+◌, ◌-◌, ◌<◌, ◌≤◌, ◌^◌, ◌++◌, ℕ, List, Option, OnOk, IfOk, length, replicate};
+ghost use Rattle.std.specs.Prelude.{◌≡◌, ◌+◌, ◌-◌, ◌<◌, ◌≤◌, ◌^◌, ◌++◌, OnOk, IfOk, length, replicate};
 ghost use Rattle.std.specs.Option.{ForSome};
 ghost use Rattle.cm_dump.specs.Reading.{Answers, IsAt, HasLoadCause, item_at};
 

@@ -1,5 +1,5 @@
 //! The image of a table, written in pieces.
-ghost use Rattle.std.specs.Prelude.{◌≡◌, ◌<◌, ◌≤◌, ◌+◌, ◌-◌, ℕ, List, map, length, [], min};
+ghost use Rattle.std.specs.Prelude.{◌≡◌, ◌<◌, ◌≤◌, ◌+◌, ◌-◌, map, length};
 ghost use Rattle.std.specs.List.{range_with_len};
 ghost use Rattle.cm_spec.specs.Lists.{list_of};
 ghost use Rattle.cm_io.specs.Causes.{HasCause};

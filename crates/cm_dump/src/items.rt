@@ -1,6 +1,6 @@
 //! The items of a file, each read at its offset and checked. A read from a source that stands there returns the item, or the first fault
 //! of the bytes.
-ghost use Rattle.std.specs.Prelude.{◌≡◌, ◌≢◌, ◌+◌, ◌<◌, ◌≤◌, ◌^◌, ℕ, List, Option, Err, OnOk, IfOk, length};
+ghost use Rattle.std.specs.Prelude.{◌≡◌, ◌≢◌, ◌+◌, ◌<◌, ◌≤◌, ◌^◌, Err, OnOk, IfOk, length};
 ghost use Rattle.std.specs.Int.{w8, w32};
 ghost use Rattle.std.specs.Option.{ForSome};
 ghost use Rattle.cm_io.specs.Causes.{HasCause};

@@ -1,5 +1,5 @@
 //! A source that is read in pieces, for items that are short.
-ghost use Rattle.std.specs.Prelude.{◌≡◌, ◌+◌, ◌-◌, ◌*◌, ◌<◌, ◌≤◌, ◌^◌, ℕ, List, [], Option, OnOk, IfOk, true, drop, length, take};
+ghost use Rattle.std.specs.Prelude.{◌≡◌, ◌+◌, ◌-◌, ◌<◌, ◌≤◌, ◌^◌, [], OnOk, IfOk, true, drop, length, take};
 ghost use Rattle.std.specs.Option.{ForSome};
 ghost use Rattle.cm_io.specs.Causes.{HasCause};
 ghost use Rattle.cm_dump.specs.Reading.{Answers, Fills, HasLoadCause, IsAt, end_at};

@@ -1,16 +1,15 @@
 //! The BRZ function of a header, bucket by bucket.
-ghost use Rattle.std.specs.Prelude.{◌≡◌, ◌+◌, ◌*◌, ◌<◌, ◌≤◌, ◌^◌, ◌↔◌, ℕ, List, Option, OnOk, IfOk, IfErr, IsTrue, false, count_by, length};
+ghost use Rattle.std.specs.Prelude.{◌≡◌, ◌+◌, ◌<◌, ◌≤◌, ◌^◌, ℕ, List, OnOk, IfOk, IfErr, false, count_by, length};
 ghost use Rattle.std.specs.Option.{ForSome};
 ghost use Rattle.cm_buckets.specs.Functions.{IsBrz, bucket_cells, bucket_count, keys_in};
 ghost use Rattle.cm_buckets.specs.declared.limits.TheConstants.{MAX_BUCKET, MIN_WIDTH, MAX_WIDTH};
 ghost use Rattle.cm_io.specs.declared.key_pass.TheConstants.{MAX_KEYS};
-ghost use Rattle.cm_spec.specs.Bdz.{bdz_size};
 ghost use Rattle.cm_spec.specs.Cells.{is_busy};
 ghost use Rattle.cm_spec.specs.Image.{packed_len};
 ghost use Rattle.cm_spec.specs.Rule.{IsRatio};
 ghost use Rattle.cm_dump.specs.Forms.{version_1};
 ghost use Rattle.cm_dump.specs.Reading.{Answers, Fails, IsAt, IsPart, HasLoadCause};
-ghost use Rattle.cm_dump.specs.Spelling.{bucket_at, bucket_len, brz_at, crumbs_at, is_off, left_of, most_seed, rest_at, size_at};
+ghost use Rattle.cm_dump.specs.Spelling.{bucket_at, brz_at, crumbs_at, is_off, left_of, most_seed, rest_at, size_at};
 
 use crate::LoadFault;
 use crate::buckets::FRONT;

@@ -1,5 +1,5 @@
 //! A function of any algorithm, and its dump.
-ghost use Rattle.std.specs.Prelude.{◌≡◌, ◌++◌, ◌∷◌, [], List, ℕ, length};
+ghost use Rattle.std.specs.Prelude.{◌≡◌, length};
 ghost use Rattle.cm_io.specs.Causes.{HasCause};
 ghost use Rattle.cm_io.specs.Writing.{Writes};
 ghost use Rattle.cm_dump.specs.Dumps.{bdz_dump, bdz_ph_dump, brz_dump, chm_dump, dump_of, header};

@@ -1,5 +1,5 @@
 //! A list of edges over vertices, each with `K` ends.
-ghost use Rattle.std.specs.Prelude.{◌≡◌, ℕ, ◌<◌, ◌≤◌, [], ◌∷◌, ◌++◌, length, map, All, IfOk, IsOk, OnOk, OnErr, slice_get, Some};
+ghost use Rattle.std.specs.Prelude.{◌≡◌, ◌<◌, ◌≤◌, [], ◌∷◌, ◌++◌, length, map, All, IfOk, IsOk, OnOk, OnErr, slice_get, Some};
 ghost use Rattle.cm_spec.specs.Graph.{IsEdge, AreEdges, ends_at};
 ghost use Rattle.cm_edges.specs.Graph.{Graph, IsWidth};
 

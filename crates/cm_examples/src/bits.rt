@@ -1,4 +1,4 @@
-ghost use Rattle.std.specs.Prelude.{◌≡◌, ◌<◌, ◌≤◌, length, IfOk, IfErr};
+ghost use Rattle.std.specs.Prelude.{◌≡◌, ◌<◌, length, IfOk, IfErr};
 ghost use Rattle.cm_bits.specs.declared.fault.ImageFault.TheVariants.{Memory};
 ghost use Rattle.cm_spec.specs.Lists.{list_of};
 

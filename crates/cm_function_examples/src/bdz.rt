@@ -1,6 +1,4 @@
-ghost use Rattle.std.specs.Prelude.{◌≡◌, ◌≤◌, length, IfOk};
-ghost use Rattle.cm_spec.specs.Bdz.{bdz_size};
-ghost use Rattle.cm_spec.specs.Rule.{IsRatio};
+ghost use Rattle.std.specs.Prelude.{◌≤◌};
 
 use crate::answering::expect_answers;
 use crate::equal::{expect_equal, expect_true};

@@ -1,5 +1,5 @@
 //! Functions by BRZ: a build through a spill in memory, and dumps.
-ghost use Rattle.std.specs.Prelude.{◌≡◌, ◌<◌, ◌≤◌, [], length};
+ghost use Rattle.std.specs.Prelude.{◌≡◌, ◌<◌, ◌≤◌, []};
 ghost use Rattle.cm_spill.specs.declared.runs.TheConstants.{MAX_BYTES, MIN_BYTES};
 
 use crate::answering::expect_answers;

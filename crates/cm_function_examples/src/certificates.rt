@@ -1,5 +1,5 @@
 //! Texts of certificates.
-ghost use Rattle.std.specs.Prelude.{◌≡◌, ◌≢◌, ◌↔◌, [], All, IsSome};
+ghost use Rattle.std.specs.Prelude.{◌≡◌, ◌≢◌, ◌↔◌, All, IsSome};
 
 use crate::equal::{expect_bytes, expect_equal};
 use cm_io::Failed;

@@ -1,6 +1,6 @@
 //! Linking by blocks of vertices: half-edges wait in a bucket for each block, and a full bucket is emptied into the words of its block.
-ghost use Rattle.std.specs.Prelude.{◌≡◌, ◌≢◌, ◌+◌, ◌*◌, ◌/◌, ◌%◌, ◌<◌, ◌≤◌, Bool, true, [], IfOk, length, replicate};
-ghost use Rattle.cm_edges.specs.Graph.{Links, AreDegreesWithin, all_linked};
+ghost use Rattle.std.specs.Prelude.{◌≡◌, ◌≢◌, ◌+◌, ◌*◌, ◌<◌, ◌≤◌, true, [], IfOk, length, replicate};
+ghost use Rattle.cm_edges.specs.Graph.{AreDegreesWithin, all_linked};
 ghost use Rattle.cm_graph.specs.Waiting.{AreSplit, IsEnd, IsSame, IsMore, AreFirst, count_waiting, times_of, waiting_in};
 
 use crate::halves::{Halves, link_each};

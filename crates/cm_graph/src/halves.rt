@@ -1,5 +1,5 @@
 //! What keeps half-edges one by one, and what is done with many of them over any such.
-ghost use Rattle.std.specs.Prelude.{◌≡◌, ◌↔◌, ℕ, ◌+◌, ◌*◌, ◌/◌, ◌<◌, ◌≤◌, true, false, [], All, IsTrue, length, replicate, slice_index_or, take};
+ghost use Rattle.std.specs.Prelude.{◌≡◌, ◌↔◌, ℕ, ◌+◌, ◌*◌, ◌/◌, ◌<◌, ◌≤◌, true, false, [], All, length, replicate, take};
 ghost use Rattle.cm_spec.specs.Graph.{IsEdge};
 ghost use Rattle.cm_edges.specs.Graph.{Links, IsFree, IsLinked, IsWidth, AreDegreesWithin, AreHalves, all_linked, linked, unlinked, removed_all, places_of, alone_from, place_of, degree_of, sole_of, is_free, slot_touches};
 ghost use Rattle.cm_graph.specs.Next.{AreNext, halves_at};

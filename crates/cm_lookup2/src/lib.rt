@@ -1,7 +1,7 @@
 //! lookup2, the hash function of Bob Jenkins (1997): three 32-bit hash values of a key under a seed, or under each of four.
 #![tactic(auto)]
 
-ghost use Rattle.std.specs.Prelude.{◌≡◌, ◌+◌, ◌*◌, ◌/◌, ◌%◌, ◌^◌, ◌-◌, ◌<◌, ◌≤◌, length, drop, slice_index};
+ghost use Rattle.std.specs.Prelude.{◌≡◌, ◌+◌, ◌*◌, ◌/◌, ◌^◌, ◌-◌, ◌<◌, ◌≤◌, length, drop, slice_index};
 ghost use Rattle.cm_spec.specs.Lookup2.{right_line, left_line, three_lines, mix as mixed, word_at, absorb as absorbed, finish as finished, words as words_of};
 
 mod four;

@@ -1,7 +1,7 @@
 //! Worked examples and laws of the generated keys. Each function has an empty body, and its clauses are checked by the prover.
 #![tactic(auto, unfolding(crate::specs::Texts::made_text))]
 
-ghost use Rattle.std.specs.Prelude.{◌≡◌, ◌≤◌, ◌*◌, ◌++◌, ℕ, None, codes, length};
+ghost use Rattle.std.specs.Prelude.{◌≡◌, ◌≤◌, ◌*◌, ℕ, None, codes, length};
 ghost use Rattle.cm_keys.specs.Lines.{lines_of};
 ghost use Rattle.cm_made.specs.Texts.{made_key, made_text};
 ghost use Rattle.cm_made.specs.Numbered.{AreMade};

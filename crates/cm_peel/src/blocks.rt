@@ -1,8 +1,7 @@
 //! Large rounds by blocks of vertices: what is read and written for one block fits in the L2 cache.
-ghost use Rattle.std.specs.Prelude.{◌≡◌, ◌≢◌, ℕ, true, false, List, [], suc, sum, ◌+◌, ◌*◌, ◌/◌, ◌<◌, ◌≤◌, ◌++◌, length, All, map, slice_index, slice_set, take};
+ghost use Rattle.std.specs.Prelude.{◌≡◌, ◌≢◌, ℕ, true, false, List, [], suc, sum, ◌+◌, ◌*◌, ◌/◌, ◌<◌, ◌≤◌, ◌++◌, length, map, slice_index, slice_set, take};
 ghost use Rattle.std.specs.Ordering.{nat_cmp};
 ghost use Rattle.std.specs.List.Sorted.{IsSorted};
-ghost use Rattle.cm_spec.specs.Lists.{has};
 ghost use Rattle.cm_spec.specs.Rounds.{left_after, removed_after};
 ghost use Rattle.cm_edges.specs.Graph.{Graph};
 ghost use Rattle.cm_peel.specs.AtRound.{InRound, IsSmall, other_places};

@@ -1,5 +1,5 @@
 //! A round is worked on by chunks: scattered data is first read into small arrays, so that no store waits for a load.
-ghost use Rattle.std.specs.Prelude.{◌≡◌, ℕ, ◌+◌, ◌*◌, ◌/◌, ◌%◌, ◌<◌, ◌≤◌, ◌++◌, ◌==◌, nat_lt, if◌then◌else◌, length, All, map, take, slice_index};
+ghost use Rattle.std.specs.Prelude.{◌≡◌, ℕ, ◌+◌, ◌*◌, ◌/◌, ◌<◌, ◌≤◌, ◌++◌, ◌==◌, nat_lt, if◌then◌else◌, length, All, map, take, slice_index};
 ghost use Rattle.std.specs.List.{position_or_len};
 ghost use Rattle.cm_edges.specs.Graph.{degree_of};
 ghost use Rattle.cm_peel.specs.AtRound.{AreTaken};

@@ -1,5 +1,5 @@
 //! Laws of what a query writes, and worked examples.
-ghost use Rattle.std.specs.Prelude.{◌≡◌, ◌+◌, ◌↔◌, ℕ, List, [], ◌∷◌, take, Option, Some, None, codes};
+ghost use Rattle.std.specs.Prelude.{◌≡◌, ◌+◌, ◌↔◌, ℕ, List, [], take, Option, codes};
 ghost use Rattle.cm_io.specs.Writing.{then_bytes};
 ghost use Rattle.cm_query.specs.Examples.{zero, known_a, two_empty, a_between};
 ghost use Rattle.cm_query.specs.Stops.{TextAfter};

@@ -1,5 +1,5 @@
 //! What a query writes of one key.
-ghost use Rattle.std.specs.Prelude.{◌≡◌, ◌+◌, ◌++◌, ◌≤◌, ◌∷◌, [], ℕ, List, Option, Some, OnOk, false, true, codes, decimal, length};
+ghost use Rattle.std.specs.Prelude.{◌≡◌, ◌+◌, ◌++◌, ◌≤◌, ◌∷◌, [], Option, Some, OnOk, false, true, codes, decimal, length};
 ghost use Rattle.cm_io.specs.Causes.{HasCause};
 ghost use Rattle.cm_io.specs.Noting.{Noted};
 ghost use Rattle.cm_io.specs.Writing.{Writes, joined};

@@ -1,6 +1,5 @@
 //! Counts of pairs of bits that are not 3, a word of 32 of them at once.
 ghost use Rattle.std.specs.Prelude.{◌≡◌, ◌+◌, ◌/◌, ◌%◌, ◌<◌, ◌≤◌, length, count_by};
-ghost use Rattle.cm_bits.specs.Held.{packed_cells};
 ghost use Rattle.cm_rank.specs.Ranks.{crumbs_of, rank_of};
 ghost use Rattle.cm_spec.specs.Cells.{is_busy};
 ghost use Rattle.cm_spec.specs.Image.{packed_len};

@@ -1,5 +1,5 @@
 //! What a scheme is.
-ghost use Rattle.std.specs.Prelude.{◌≡◌, ℕ, ◌+◌, ◌-◌, ◌*◌, ◌/◌, ◌%◌, ◌^◌, ◌<◌, ◌≤◌, Bool, false, List, length};
+ghost use Rattle.std.specs.Prelude.{◌≡◌, ℕ, Bool, false, List};
 ghost use Rattle.cm_algorithm.specs.declared.algorithm.Algorithm.{Algorithm};
 ghost use Rattle.cm_scheme.specs.Kinds.{HasEnds};
 ghost use Rattle.cm_spec.specs.Rule.{Rule, IsRule, IsCount, IsRatio, IsSize};

@@ -1,11 +1,10 @@
 //! The seeds of a list, one after another.
-ghost use Rattle.std.specs.Prelude.{◌≡◌, ◌≢◌, ℕ, ◌+◌, ◌*◌, ◌<◌, ◌≤◌, ◌^◌, [], ◌∷◌, List, length, map, slice_index, IfOk, IfErr, IfSome, IfNone, OnOk, None, Some, Contains, count_by};
+ghost use Rattle.std.specs.Prelude.{◌≡◌, ◌≢◌, ℕ, ◌+◌, ◌*◌, ◌<◌, ◌≤◌, [], length, slice_index, IfOk, IfErr, IfSome, IfNone, OnOk, None, Some, Contains, count_by};
 ghost use Rattle.std.specs.Option.{ForSome};
-ghost use Rattle.cm_io.specs.Passes.{Told};
-ghost use Rattle.cm_spec.specs.Built.{graph_of, cells_under};
+ghost use Rattle.cm_spec.specs.Built.{graph_of};
 ghost use Rattle.cm_spec.specs.Cells.{is_busy};
 ghost use Rattle.cm_spec.specs.Rounds.{rest_of};
-ghost use Rattle.cm_spec.specs.Rule.{IsCount, IsRatio, IsSize};
+ghost use Rattle.cm_spec.specs.Rule.{IsCount, IsRatio};
 ghost use Rattle.cm_witness.specs.Cores.{EqualKeysMeet};
 ghost use Rattle.cm_witness.specs.Gathers.{FailsGather, HasGatherCause, HasOther};
 ghost use Rattle.cm_seeds.specs.Builds.{IsGiven, IsBuilt, IsLeft, IsMade, IsSolution};

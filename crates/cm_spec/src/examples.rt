@@ -1,6 +1,6 @@
 //! Worked examples of the definitions.
 ghost use Rattle.std.specs.Prelude.{◌≡◌, ◌++◌, [], ◌∷◌, map, Some, None, codes};
-ghost use Rattle.cm_spec.specs.Bdz.{bdz_size, bdz_edge, bdz_rule, bdz_ph_rule};
+ghost use Rattle.cm_spec.specs.Bdz.{bdz_size, bdz_rule, bdz_ph_rule};
 ghost use Rattle.cm_spec.specs.Built.{graph_of, cells_under, chm_under, first_seed};
 ghost use Rattle.cm_spec.specs.Cells.{cells_of, plan_of};
 ghost use Rattle.cm_spec.specs.Chm.{chm_size, chm_rule, chm_answer};

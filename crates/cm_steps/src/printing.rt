@@ -1,5 +1,5 @@
 //! The help and the version.
-ghost use Rattle.std.specs.Prelude.{◌≡◌, ◌<◌, ◌≤◌, ◌^◌, ◌↔◌, ◌⊎◌, ℕ, List, OnOk, Option, take};
+ghost use Rattle.std.specs.Prelude.{◌≡◌, ◌<◌, ◌^◌, ◌↔◌, ◌⊎◌, ℕ, List, OnOk, Option, take};
 ghost use Rattle.cm_io.specs.Causes.{HasCause, IsSent};
 ghost use Rattle.cm_io.specs.Writing.{Writes, then_bytes};
 ghost use Rattle.cm_steps.specs.Ends.{IsPrintMessage, Says};

@@ -1,5 +1,5 @@
 //! What is said on err.
-ghost use Rattle.std.specs.Prelude.{◌≡◌, List, [], ◌∷◌, ℕ, codes, false, map, Result};
+ghost use Rattle.std.specs.Prelude.{◌≡◌, [], ◌∷◌, codes, false, map};
 ghost use Rattle.cm_io.specs.Causes.{IsSent};
 ghost use Rattle.cm_io.specs.Noting.{Noted};
 ghost use Rattle.cm_io.specs.Writing.{joined};

@@ -1,5 +1,5 @@
 //! Keys that are found by their bytes.
-ghost use Rattle.std.specs.Prelude.{◌≡◌, ◌<◌, ◌≤◌, ◌++◌, ◌^◌, ℕ, List, [], ◌∷◌, length, None, true, false, IfOk, OnOk, OnErr};
+ghost use Rattle.std.specs.Prelude.{◌≡◌, ◌<◌, ◌++◌, ℕ, List, [], ◌∷◌, length, None, true, false, IfOk, OnOk, OnErr};
 ghost use Rattle.cm_witness.specs.Candidates.{mixed, word_of};
 ghost use Rattle.cm_witness.specs.Pairs.{first_line};
 ghost use Rattle.cm_witness.specs.Tables.{Takes};

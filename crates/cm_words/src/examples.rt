@@ -1,7 +1,7 @@
 //! Worked examples of what arguments mean. Each function has an empty body, and its clauses are checked by the prover.
 #![tactic(auto, unfolding(crate::specs::Meaning::job_of, crate::specs::Command::with_argument, clap::proofs::OnLiterals::clap_on_literals))]
 
-ghost use Rattle.std.specs.Prelude.{◌≡◌, ◌++◌, ◌∷◌, [], Ok, Err, Some, None, true, codes};
+ghost use Rattle.std.specs.Prelude.{◌≡◌, ◌∷◌, [], Ok, Err, Some, None, true, codes};
 ghost use Rattle.cm_algorithm.specs.declared.algorithm.Algorithm.TheVariants.{Bdz, BdzPh, Brz};
 ghost use Rattle.cm_numbers.specs.Digits.{millionths_of, whole_of};
 ghost use Rattle.cm_words.specs.Examples.{plain_build, plain_query, plain_test, query_of_file, typed};
