@@ -1,15 +1,15 @@
 //! A build over many keys.
 ghost use Rattle.std.specs.Prelude.{◌≡◌, ◌+◌, ◌*◌, ◌<◌, ◌≤◌, length, slice_index, IfOk, IfErr, None, Contains, count_by};
 ghost use Rattle.std.specs.Option.{ForSome};
-ghost use Rattle.cm_seeds.specs.Builds.{IsBuilt};
-ghost use Rattle.cm_seeds.specs.Fails.{FailsBuild, FoundEqual, HasBuildCause, HasForm, HasNumbers};
+ghost use Rattle.cm_algo_seeds.specs.Builds.{IsBuilt};
+ghost use Rattle.cm_algo_seeds.specs.Fails.{FailsBuild, FoundEqual, HasBuildCause, HasForm, HasNumbers};
 ghost use Rattle.cm_spec.specs.Cells.{is_busy};
 ghost use Rattle.cm_spec.specs.Rule.{IsRatio};
 
-use cm_edges::{Incidence, Steps};
+use cm_algo_scheme::{Built, Scheme};
+use cm_algo_seeds::{BuildFault, build_first, build_later, certify};
+use cm_graph_edges::{Incidence, Steps};
 use cm_io::{KeyBuf, KeyPass};
-use cm_scheme::{Built, Scheme};
-use cm_seeds::{BuildFault, build_first, build_later, certify};
 use std::alloc::Global;
 use std::sync::ledger::Ledger;
 

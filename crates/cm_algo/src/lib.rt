@@ -6,6 +6,6 @@ mod laws;
 
 pub use crate::builds::build;
 pub use crate::laws::equal_keys_are_left;
-pub use cm_assign::assign;
-pub use cm_scheme::{Answers, Built, Divisor, Place, Scheme, answer};
-pub use cm_seeds::{BuildFault, build_with, count_all};
+pub use cm_algo_cells::assign;
+pub use cm_algo_scheme::{Answers, Built, Divisor, Place, Scheme, answer};
+pub use cm_algo_seeds::{BuildFault, build_with, count_all};

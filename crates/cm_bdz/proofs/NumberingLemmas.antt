@@ -9,7 +9,7 @@ use Rattle.cm_bdz.specs.BdzLaws.{bdz_is_rule, bdz_ph_is_rule}
 use Rattle.cm_bdz.specs.Functions.{bdz_answer, bdz_ph_answer, chosen_end, chosen_of, ranked}
 use Rattle.cm_bdz.specs.Numbering.{AnswersApart, bdz_ph_under, bdz_under}
 use Rattle.cm_rank.specs.Ranks.{rank_of}
-use Rattle.cm_scheme.specs.Solvable.{CellsSolve}
+use Rattle.cm_algo_scheme.specs.Solvable.{CellsSolve}
 use Rattle.cm_spec.specs.Bdz.{bdz_edge, bdz_ph_rule, bdz_rule}
 use Rattle.cm_spec.specs.Built.{cells_under, edge_of, graph_of, tag_of, key_at}
 use Rattle.cm_spec.specs.Cells.{AreSolved, is_busy, pivot_vertex, plan_of}

@@ -8,9 +8,9 @@ use crate::bdz::Bdz;
 use crate::bdz_ph::BdzPh;
 use crate::choice::chosen_among;
 use crate::scheme::{place_in, places_in};
+use cm_algo_scheme::{Answers, Place};
 use cm_bits::Cells;
 use cm_lookup2::{words, words_of_four};
-use cm_scheme::{Answers, Place};
 
 /// A key that the function was built over gets a number below the number of keys, and no other of these keys the same. Another
 /// key gets any number, or none.

@@ -7,9 +7,9 @@ ghost use Rattle.cm_spec.specs.Cells.{is_busy};
 ghost use Rattle.cm_spec.specs.Rule.{IsRatio};
 ghost use Rattle.cm_bdz.specs.declared.bdz.PartsFault.{PartsFault};
 
+use cm_algo_scheme::{Built, Divisor};
 use cm_bits::{Cells, Crumbs};
 use cm_rank::{Counted, RankTable};
-use cm_scheme::{Built, Divisor};
 use std::alloc::Global;
 use std::marker::Model;
 

@@ -5,8 +5,8 @@ ghost use Rattle.cm_bits.specs.declared.TheConstants.{MAX_CELLS};
 ghost use Rattle.cm_spec.specs.Bdz.{bdz_size};
 ghost use Rattle.cm_spec.specs.Rule.{IsRatio};
 
+use cm_algo_scheme::{Built, Divisor};
 use cm_bits::{Cells, Trits};
-use cm_scheme::{Built, Divisor};
 use std::marker::Model;
 
 /// A function from keys to vertices. Clauses see its number of keys, its ratio in millionths, its seed and its cells.

@@ -6,9 +6,9 @@ ghost use Rattle.cm_spec.specs.Bdz.{bdz_edge};
 ghost use Rattle.cm_spec.specs.Lookup2 as lookup2;
 
 use crate::scheme::place_in;
+use cm_algo_scheme::{Divisor, Place};
 use cm_bits::Cells;
 use cm_lookup2::words;
-use cm_scheme::{Divisor, Place};
 
 /// Where a key is looked up. The number of cells is three times a number above 0.
 fn place_of<C: Cells>(cells: &C, key: &[u8], seed: u32) -> Place

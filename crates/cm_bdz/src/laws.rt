@@ -2,7 +2,7 @@
 ghost use Rattle.std.specs.Prelude.{◌≡◌, ℕ, List, [], Some, length};
 ghost use Rattle.cm_bdz.specs.Functions.{bdz_answer, bdz_ph_answer};
 ghost use Rattle.cm_bdz.specs.Numbering.{AnswersApart, bdz_ph_under, bdz_under};
-ghost use Rattle.cm_scheme.specs.Solvable.{CellsSolve};
+ghost use Rattle.cm_algo_scheme.specs.Solvable.{CellsSolve};
 ghost use Rattle.cm_spec.specs.Bdz.{bdz_ph_rule, bdz_rule};
 ghost use Rattle.cm_spec.specs.Built.{cells_under, graph_of};
 ghost use Rattle.cm_spec.specs.Rounds.{rest_of};

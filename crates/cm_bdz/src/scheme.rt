@@ -1,17 +1,17 @@
 //! BDZ and BDZ_PH as schemes.
 ghost use Rattle.std.specs.Prelude.{◌≡◌, ℕ, ◌*◌, ◌/◌, ◌^◌, ◌<◌, ◌∷◌, [], false, refl, slice_index_or};
-ghost use Rattle.cm_algorithm.specs.declared.algorithm.Algorithm.TheVariants as algorithm;
-ghost use Rattle.cm_algorithm.specs.declared.algorithm.Algorithm.{Algorithm};
-ghost use Rattle.cm_scheme.specs.Kinds.{HasEnds};
+ghost use Rattle.cm_algo_names.specs.declared.algorithm.Algorithm.TheVariants as algorithm;
+ghost use Rattle.cm_algo_names.specs.declared.algorithm.Algorithm.{Algorithm};
+ghost use Rattle.cm_algo_scheme.specs.Kinds.{HasEnds};
 ghost use Rattle.cm_bdz.specs.BdzLaws.{bdz_is_rule, bdz_ph_is_rule, triple_rule};
 ghost use Rattle.cm_bdz.specs.Places.{bdz_place};
 ghost use Rattle.cm_spec.specs.Bdz.{bdz_edge, bdz_size};
 ghost use Rattle.cm_spec.specs.Rule.{IsRule, IsCount, IsRatio};
 
-use cm_algorithm::Algorithm;
+use cm_algo_names::Algorithm;
+use cm_algo_scheme::{Divisor, Place, Scheme};
 use cm_bits::{Cells, Crumbs, Trits};
 use cm_lookup2::FourWords;
-use cm_scheme::{Divisor, Place, Scheme};
 
 /// The number of vertices for `m` keys and the ratio `c` in millionths: three thirds, each an odd number of at least 3 for one
 /// that would be 1.

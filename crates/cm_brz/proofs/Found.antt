@@ -5,17 +5,17 @@ use Rattle.std.specs.List.{list_all, range_with_len}
 use Rattle.std.proofs.lemmas.Bool.{cases_Bool, leb-false, le-ltb, lt-ltb, true≢false}
 use Rattle.std.proofs.lemmas.List.FromFn.{get_or-range_with_len, length-range_with_len}
 use Rattle.std.proofs.lemmas.Option.{none-some}
-use Rattle.cm_algorithm.specs.declared.algorithm.Algorithm.TheVariants as algorithm
+use Rattle.cm_algo_names.specs.declared.algorithm.Algorithm.TheVariants as algorithm
 use Rattle.cm_brz.specs.BrzOf.{IsBrzOf, bucket_from, bucket_under}
 use Rattle.cm_brz.specs.Fails.{IsCoredBucket, IsOverfull}
 use Rattle.cm_brz.specs.Found as found
 use Rattle.cm_brz.specs.Found.{AllOverfull, bucket_at, brz_under, first_cored, first_overfull}
 use Rattle.cm_brz.specs.Reports.{overfull_text}
-use Rattle.cm_buckets.specs.Splitting.{keys_of_bucket}
-use Rattle.cm_split.specs.Split.{is_split, size_of_bucket, split_of}
-use Rattle.cm_split.specs.SizesLaws.{find_first, find_none}
-use Rattle.cm_buckets.specs.Functions.{Brz, Bucket, bucket_count, no_bucket}
-use Rattle.cm_buckets.specs.declared.limits.TheConstants.{MAX_BUCKET}
+use Rattle.cm_brz_func.specs.Splitting.{keys_of_bucket}
+use Rattle.cm_brz_split.specs.Split.{is_split, size_of_bucket, split_of}
+use Rattle.cm_brz_split.specs.SizesLaws.{find_first, find_none}
+use Rattle.cm_brz_func.specs.Functions.{Brz, Bucket, bucket_count, no_bucket}
+use Rattle.cm_brz_func.specs.declared.limits.TheConstants.{MAX_BUCKET}
 use Rattle.cm_peel.specs.CoreLaws.{left_after-zero}
 use Rattle.cm_spec.specs.Bdz.{bdz_rule}
 use Rattle.cm_spec.specs.Built.{first_seed, is_peeled}

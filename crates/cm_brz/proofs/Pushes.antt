@@ -6,16 +6,16 @@ use Rattle.std.proofs.Math.Seq.{get_or-append_seam}
 use Rattle.std.proofs.lemmas.Bool.{cases_lt}
 use Rattle.std.proofs.lemmas.List.{get_or_append_left}
 use Rattle.std.proofs.lemmas.List.Sums.{sum_by-cons}
-use Rattle.cm_algorithm.specs.declared.algorithm.Algorithm.TheVariants as algorithm
+use Rattle.cm_algo_names.specs.declared.algorithm.Algorithm.TheVariants as algorithm
 use Rattle.cm_brz.specs.BrzOf.{AreBuilt, PushesBucket, bucket_from, bucket_under}
 use Rattle.cm_brz.specs.Fails.{FailsBucket}
-use Rattle.cm_split.specs.declared.fault.BrzFault.TheVariants as brz_fault
-use Rattle.cm_buckets.specs.Functions.{Brz, Bucket, keys_in, no_bucket}
-use Rattle.cm_buckets.specs.Pushing.{with_bucket}
+use Rattle.cm_brz_split.specs.declared.fault.BrzFault.TheVariants as brz_fault
+use Rattle.cm_brz_func.specs.Functions.{Brz, Bucket, keys_in, no_bucket}
+use Rattle.cm_brz_func.specs.Pushing.{with_bucket}
 use Rattle.cm_io.specs.Passes.{Told}
-use Rattle.cm_seeds.specs.Builds.{IsBuilt}
-use Rattle.cm_seeds.specs.Fails.{FailsBuild, HasForm}
-use Rattle.cm_seeds.specs.declared.fault.BuildFault.TheVariants as build_fault
+use Rattle.cm_algo_seeds.specs.Builds.{IsBuilt}
+use Rattle.cm_algo_seeds.specs.Fails.{FailsBuild, HasForm}
+use Rattle.cm_algo_seeds.specs.declared.fault.BuildFault.TheVariants as build_fault
 use Rattle.cm_spec.specs.Bdz.{bdz_rule}
 use Rattle.cm_spec.specs.Built.{IsFirst, cells_under}
 use Rattle.cm_witness.specs.declared.certificate.Certificate.{Certificate}

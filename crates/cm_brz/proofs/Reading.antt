@@ -1,8 +1,8 @@
 -- Keys of a bucket that come back from a store, one after another.
 use Rattle.std.proofs.Common.{◌≡◌, ◌∙◌, ℕ, ◌<◌, ◌≤◌, List, [], ◌∷◌, ◌++◌, length, map, drop, sym, ap, arith, append_assoc, length-drop}
 use Rattle.std.proofs.lemmas.List.{append-nil}
-use Rattle.cm_split.specs.Puts.{keys_in_bucket}
-use Rattle.cm_split.specs.Records.{Record, records_of}
+use Rattle.cm_brz_split.specs.Puts.{keys_in_bucket}
+use Rattle.cm_brz_split.specs.Records.{Record, records_of}
 
 -- a record as a key with its line
 abbrev pub key_of : Record → ℕ × List ℕ

@@ -4,21 +4,21 @@ use Rattle.std.specs.Prelude.{slice_index}
 use Rattle.std.specs.Result.{IsErrAnd}
 use Rattle.cm_brz.specs.BrzOf.{AreBuilt, IsBrzOf, bucket_from}
 use Rattle.cm_brz.specs.Fails.{FailsBrz, FailsBuckets, HasBrzForm, HasBuildingForm, HasOverfullForm, IsCoredIn, IsDamage, RefusesOverfull}
-use Rattle.cm_split.specs.Faults.{FailsPassing, HasPassingForm}
-use Rattle.cm_split.specs.Puts.{keys_in_bucket, records_under}
-use Rattle.cm_split.specs.Records.{Record}
-use Rattle.cm_buckets.specs.Splitting.{keys_of_bucket}
-use Rattle.cm_split.specs.Split.{IsLowestOver, split_of}
-use Rattle.cm_split.specs.declared.fault.BrzFault.{BrzFault}
-use Rattle.cm_split.specs.declared.fault.BrzFault.TheVariants.{Memory, NoKeys, Overfull, Cored, Key, Changed, SpillFailed, SpillDamaged}
-use Rattle.cm_buckets.specs.Functions.{Brz, bucket_count, no_bucket}
-use Rattle.cm_buckets.specs.declared.limits.TheConstants.{MAX_BUCKET}
+use Rattle.cm_brz_split.specs.Faults.{FailsPassing, HasPassingForm}
+use Rattle.cm_brz_split.specs.Puts.{keys_in_bucket, records_under}
+use Rattle.cm_brz_split.specs.Records.{Record}
+use Rattle.cm_brz_func.specs.Splitting.{keys_of_bucket}
+use Rattle.cm_brz_split.specs.Split.{IsLowestOver, split_of}
+use Rattle.cm_brz_split.specs.declared.fault.BrzFault.{BrzFault}
+use Rattle.cm_brz_split.specs.declared.fault.BrzFault.TheVariants.{Memory, NoKeys, Overfull, Cored, Key, Changed, SpillFailed, SpillDamaged}
+use Rattle.cm_brz_func.specs.Functions.{Brz, bucket_count, no_bucket}
+use Rattle.cm_brz_func.specs.declared.limits.TheConstants.{MAX_BUCKET}
 use Rattle.cm_io.specs.Passes.{Told}
 use Rattle.cm_spec.specs.Bdz.{bdz_rule}
 use Rattle.cm_spec.specs.Built.{IsFirst}
 use Rattle.cm_witness.specs.Pairs.{pairs}
 use Rattle.cm_witness.specs.declared.certificate.InBucket.{InBucket}
-use Rattle.cm_split.specs.PutsLaws.{keys_of_records}
+use Rattle.cm_brz_split.specs.PutsLaws.{keys_of_records}
 
 -- the records of a bucket are its keys
 bucket_keys : (keys : List (ℕ × List ℕ)) (k split : ℕ) (records : List Record) → records ≡ records_under keys k split → (j : ℕ) → keys_in_bucket records j ≡ keys_of_bucket keys k split j

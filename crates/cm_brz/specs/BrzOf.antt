@@ -1,10 +1,10 @@
 -- The function by BRZ of numbered keys: the first seed that splits them, and in each bucket the first seed whose graph has an
 -- empty 2-core.
 use Rattle.std.specs.Prelude.{◌≡◌, ◌≢◌, ℕ, ◌<◌, List, [], ◌∷◌, length, slice_index_or, Option, Some, option_map}
-use Rattle.cm_buckets.specs.Splitting.{keys_of_bucket}
-use Rattle.cm_split.specs.Split.{split_of}
-use Rattle.cm_buckets.specs.Functions.{Brz, Bucket, bucket_count, no_bucket}
-use Rattle.cm_buckets.specs.Pushing.{with_bucket}
+use Rattle.cm_brz_func.specs.Splitting.{keys_of_bucket}
+use Rattle.cm_brz_split.specs.Split.{split_of}
+use Rattle.cm_brz_func.specs.Functions.{Brz, Bucket, bucket_count, no_bucket}
+use Rattle.cm_brz_func.specs.Pushing.{with_bucket}
 use Rattle.cm_spec.specs.Bdz.{bdz_rule}
 use Rattle.cm_spec.specs.Built.{IsFirst, cells_under, first_seed}
 

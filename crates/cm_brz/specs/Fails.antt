@@ -1,16 +1,16 @@
 -- Why a build by BRZ fails.
 use Rattle.std.specs.Prelude.{◌≡◌, ◌≢◌, ℕ, ◌<◌, List, [], All, length, slice_index, is_some, true, None, Some}
 use Rattle.cm_io.specs.Passes.{IsToldFault}
-use Rattle.cm_algorithm.specs.declared.algorithm.Algorithm.TheVariants as algorithm
+use Rattle.cm_algo_names.specs.declared.algorithm.Algorithm.TheVariants as algorithm
 use Rattle.cm_brz.specs.BrzOf.{bucket_from}
-use Rattle.cm_buckets.specs.Splitting.{keys_of_bucket}
-use Rattle.cm_split.specs.Split.{IsLowestOver, split_of}
-use Rattle.cm_split.specs.declared.fault.BrzFault.{BrzFault}
-use Rattle.cm_split.specs.declared.fault.BrzFault.TheVariants.{Memory, NoKeys, Overfull, Cored, Key, Changed, SpillFailed, SpillDamaged}
-use Rattle.cm_buckets.specs.Functions.{bucket_count}
-use Rattle.cm_buckets.specs.declared.limits.TheConstants.{MAX_BUCKET}
+use Rattle.cm_brz_func.specs.Splitting.{keys_of_bucket}
+use Rattle.cm_brz_split.specs.Split.{IsLowestOver, split_of}
+use Rattle.cm_brz_split.specs.declared.fault.BrzFault.{BrzFault}
+use Rattle.cm_brz_split.specs.declared.fault.BrzFault.TheVariants.{Memory, NoKeys, Overfull, Cored, Key, Changed, SpillFailed, SpillDamaged}
+use Rattle.cm_brz_func.specs.Functions.{bucket_count}
+use Rattle.cm_brz_func.specs.declared.limits.TheConstants.{MAX_BUCKET}
 use Rattle.cm_io.specs.Passes.{Told}
-use Rattle.cm_seeds.specs.Fails.{ShowsCore}
+use Rattle.cm_algo_seeds.specs.Fails.{ShowsCore}
 use Rattle.cm_spec.specs.Bdz.{bdz_rule}
 use Rattle.cm_spec.specs.Built.{AllCored, first_seed}
 use Rattle.cm_witness.specs.Pairs.{pairs}

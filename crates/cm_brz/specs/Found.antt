@@ -1,13 +1,13 @@
 -- What the keys alone make of a build by BRZ, as definitions that compute.
 use Rattle.std.specs.Prelude.{ℕ, ◌<◌, nat_lt, List, find, is_none, length, map, slice_index, unwrap_or, Option, Some}
 use Rattle.std.specs.List.{range_with_len}
-use Rattle.cm_algorithm.specs.declared.algorithm.Algorithm.TheVariants as algorithm
+use Rattle.cm_algo_names.specs.declared.algorithm.Algorithm.TheVariants as algorithm
 use Rattle.cm_brz.specs.BrzOf.{bucket_from}
 use Rattle.cm_brz.specs.Reports.{overfull_text}
-use Rattle.cm_buckets.specs.Splitting.{keys_of_bucket}
-use Rattle.cm_split.specs.Split.{size_of_bucket}
-use Rattle.cm_buckets.specs.Functions.{Brz, Bucket, bucket_count, no_bucket}
-use Rattle.cm_buckets.specs.declared.limits.TheConstants.{MAX_BUCKET}
+use Rattle.cm_brz_func.specs.Splitting.{keys_of_bucket}
+use Rattle.cm_brz_split.specs.Split.{size_of_bucket}
+use Rattle.cm_brz_func.specs.Functions.{Brz, Bucket, bucket_count, no_bucket}
+use Rattle.cm_brz_func.specs.declared.limits.TheConstants.{MAX_BUCKET}
 use Rattle.cm_spec.specs.Bdz.{bdz_rule}
 use Rattle.cm_witness.specs.Cores.{edges_left, pairs_left}
 use Rattle.cm_witness.specs.Pairs.{pairs}

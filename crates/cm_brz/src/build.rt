@@ -3,18 +3,18 @@ ghost use Rattle.std.specs.Prelude.{◌≡◌, ◌+◌, ◌*◌, ◌<◌, ◌≤
 ghost use Rattle.std.specs.Option.{ForSome};
 ghost use Rattle.cm_brz.specs.BrzOf.{IsBrzOf};
 ghost use Rattle.cm_brz.specs.Fails.{FailsBrz, HasBrzForm, IsDamage};
-ghost use Rattle.cm_split.specs.Faults.{HasKeysCause, HasSpillCause};
-ghost use Rattle.cm_split.specs.Puts.{records_under};
-ghost use Rattle.cm_split.specs.Spilled.{AreSpilled};
-ghost use Rattle.cm_buckets.specs.declared.limits.TheConstants.{MAX_WIDTH, MIN_WIDTH};
+ghost use Rattle.cm_brz_split.specs.Faults.{HasKeysCause, HasSpillCause};
+ghost use Rattle.cm_brz_split.specs.Puts.{records_under};
+ghost use Rattle.cm_brz_split.specs.Spilled.{AreSpilled};
+ghost use Rattle.cm_brz_func.specs.declared.limits.TheConstants.{MAX_WIDTH, MIN_WIDTH};
 ghost use Rattle.cm_spec.specs.Rule.{IsRatio};
 ghost use Rattle.cm_spill.specs.declared.runs.TheConstants.{MAX_BYTES, MIN_BYTES};
 
 use crate::building::brz_over;
+use cm_brz_split::BrzFault;
 use cm_graph::Steps;
 use cm_io::{KeyPass, Spill};
 use cm_spill::Runs;
-use cm_split::BrzFault;
 use std::alloc::Global;
 use std::sync::ledger::Ledger;
 
@@ -35,7 +35,7 @@ pub fn brz<P: KeyPass, S: Spill, L: Ledger>(
     buffer: u32,
     spill: S,
     steps: &mut Steps<L>,
-) -> (Result<cm_buckets::Brz, BrzFault>, S)
+) -> (Result<cm_brz_func::Brz, BrzFault>, S)
     requires ratio { IsRatio c }
     requires width { (MIN_WIDTH ≤ b) × (b ≤ MAX_WIDTH) }
     requires some { 0 < length seeds.now }

@@ -4,23 +4,23 @@ ghost use Rattle.std.specs.Option.{ForSome};
 ghost use Rattle.cm_io.specs.declared.key_pass.TheConstants.{MAX_KEYS};
 ghost use Rattle.cm_brz.specs.BrzOf.{IsBrzOf};
 ghost use Rattle.cm_brz.specs.Fails.{FailsBrz, HasBrzForm, HasOverfullForm, IsDamage, RefusesOverfull};
-ghost use Rattle.cm_split.specs.Faults.{HasKeysCause, HasSpillCause};
-ghost use Rattle.cm_split.specs.Passes.{AreCounted};
-ghost use Rattle.cm_split.specs.Puts.{records_under};
-ghost use Rattle.cm_split.specs.Split.{AreSizes, size_of_bucket, split_of};
-ghost use Rattle.cm_buckets.specs.Functions.{bucket_count};
-ghost use Rattle.cm_buckets.specs.declared.limits.TheConstants.{MAX_BUCKET, MAX_WIDTH, MIN_WIDTH};
+ghost use Rattle.cm_brz_split.specs.Faults.{HasKeysCause, HasSpillCause};
+ghost use Rattle.cm_brz_split.specs.Passes.{AreCounted};
+ghost use Rattle.cm_brz_split.specs.Puts.{records_under};
+ghost use Rattle.cm_brz_split.specs.Split.{AreSizes, size_of_bucket, split_of};
+ghost use Rattle.cm_brz_func.specs.Functions.{bucket_count};
+ghost use Rattle.cm_brz_func.specs.declared.limits.TheConstants.{MAX_BUCKET, MAX_WIDTH, MIN_WIDTH};
 ghost use Rattle.cm_spec.specs.Rule.{IsRatio};
 
 use crate::buckets::build_buckets;
-use cm_buckets::{Brz, BrzParts, MAX_BUCKET};
-use cm_graph::Steps;
-use cm_io::{KeyBuf, KeyPass};
-use cm_scheme::Divisor;
-use cm_seeds::count_all;
-use cm_split::{
+use cm_algo_scheme::Divisor;
+use cm_algo_seeds::count_all;
+use cm_brz_func::{Brz, BrzParts, MAX_BUCKET};
+use cm_brz_split::{
     BrzFault, Overfull, Split, Splitting, Store, choose_split, gather_equal, in_bytes, put_all,
 };
+use cm_graph::Steps;
+use cm_io::{KeyBuf, KeyPass};
 use std::alloc::Global;
 use std::sync::ledger::Ledger;
 

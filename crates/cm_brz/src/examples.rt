@@ -1,7 +1,7 @@
 //! Worked examples of builds by BRZ. The function has an empty body, and its clauses are checked by the prover.
 ghost use Rattle.std.specs.Prelude.{◌≡◌, [], ◌∷◌, None, Some};
 ghost use Rattle.cm_brz.specs.Found.{brz_under, first_cored, first_overfull};
-ghost use Rattle.cm_split.specs.Split.{split_of};
+ghost use Rattle.cm_brz_split.specs.Split.{split_of};
 ghost use Rattle.cm_spec.specs.Examples.{empty_and_a, two_empty};
 
 /// The empty key and `a` are one bucket of two keys. Two empty keys are a bucket without a seed.

@@ -1,19 +1,19 @@
 //! Laws of functions by BRZ.
 ghost use Rattle.std.specs.Prelude.{◌≡◌, ◌<◌, ◌≤◌, ℕ, List, length, None, Some, slice_index};
-ghost use Rattle.cm_algorithm.specs.declared.algorithm.Algorithm.TheVariants as algorithm;
+ghost use Rattle.cm_algo_names.specs.declared.algorithm.Algorithm.TheVariants as algorithm;
 ghost use Rattle.cm_bdz.specs.Numbering.{AnswersApart};
-ghost use Rattle.cm_buckets.specs.Functions.{Brz, brz_answer, bucket_count, keys_in};
+ghost use Rattle.cm_brz_func.specs.Functions.{Brz, brz_answer, bucket_count, keys_in};
 ghost use Rattle.cm_brz.specs.BrzOf.{IsBrzOf};
 ghost use Rattle.cm_brz.specs.Fails.{IsCoredBucket, IsOverfull};
 ghost use Rattle.cm_brz.specs.Found.{AllOverfull, brz_under, bucket_report, first_cored, first_overfull, overfull_report};
 ghost use Rattle.cm_brz.specs.Reports.{overfull_text};
-ghost use Rattle.cm_split.specs.Split.{split_of};
+ghost use Rattle.cm_brz_split.specs.Split.{split_of};
 ghost use Rattle.cm_spec.specs.Rule.{IsRatio};
 ghost use Rattle.cm_witness.specs.Reports.{report_text};
 ghost use Rattle.cm_witness.specs.declared.certificate.Certificate.{Certificate};
 ghost use Rattle.cm_witness.specs.declared.certificate.Pair.{Pair};
 
-use cm_assign::cells_solve;
+use cm_algo_cells::cells_solve;
 use cm_bdz::answers_apart;
 
 /// The function of keys returns different numbers for any two of them, and all numbers are below the number of keys. Its buckets have

@@ -10,6 +10,6 @@ mod report;
 
 pub use crate::laws::{numbers_apart, verdicts};
 pub use crate::report::write_overfull;
-pub use cm_buckets::{Brz, BrzParts, MAX_BUCKET, MAX_WIDTH, MIN_WIDTH};
+pub use cm_brz_func::{Brz, BrzParts, MAX_BUCKET, MAX_WIDTH, MIN_WIDTH};
+pub use cm_brz_split::BrzFault;
 pub use cm_spill::{MAX_BYTES, MIN_BYTES};
-pub use cm_split::BrzFault;

@@ -2,7 +2,7 @@
 use Rattle.std.proofs.Common.{◌≡◌, ◌∙◌, ℕ, ◌%◌, ◌<◌, List, [], length, map, get_or, refl, sym, ap, subst, arith}
 use Rattle.std.specs.List.{sum_by}
 use Rattle.std.proofs.lemmas.List.{length-map, get_or-map}
-use Rattle.cm_scheme.specs.Solvable.{CellsSolve}
+use Rattle.cm_algo_scheme.specs.Solvable.{CellsSolve}
 use Rattle.cm_chm.specs.ChmLaws.{chm_is_rule}
 use Rattle.cm_chm.specs.Numbering.{AnswersNumbers}
 use Rattle.cm_spec.specs.Built.{edge_of, tag_of, graph_of, cells_under, chm_under, key_at}

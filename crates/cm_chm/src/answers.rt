@@ -6,9 +6,9 @@ ghost use Rattle.cm_spec.specs.Lookup2.{words as words_of};
 
 use crate::chm::Chm;
 use crate::scheme::ChmScheme;
+use cm_algo_scheme::{Answers, Place, Scheme};
 use cm_bits::Cells;
 use cm_lookup2::{words, words_of_four};
-use cm_scheme::{Answers, Place, Scheme};
 
 impl Chm {
     /// Where a key of these hash values is looked up.

@@ -3,8 +3,8 @@ ghost use Rattle.std.specs.Prelude.{◌≡◌, ◌≤◌, length};
 ghost use Rattle.cm_spec.specs.Chm.{chm_size, chm_rule};
 ghost use Rattle.cm_spec.specs.Rule.{IsRatio, IsSize};
 
+use cm_algo_scheme::{Built, Divisor};
 use cm_bits::{Cells, Fields};
-use cm_scheme::{Built, Divisor};
 use std::marker::Model;
 
 /// A function from keys to numbers. Clauses see its number of keys, its ratio in millionths, its seed and its cells.

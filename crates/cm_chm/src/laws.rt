@@ -1,7 +1,7 @@
 //! Laws of CHM functions.
 ghost use Rattle.std.specs.Prelude.{◌≡◌, ℕ, List, [], length};
 ghost use Rattle.cm_chm.specs.Numbering.{AnswersNumbers};
-ghost use Rattle.cm_scheme.specs.Solvable.{CellsSolve};
+ghost use Rattle.cm_algo_scheme.specs.Solvable.{CellsSolve};
 ghost use Rattle.cm_spec.specs.Built.{chm_under, graph_of};
 ghost use Rattle.cm_spec.specs.Chm.{chm_rule};
 ghost use Rattle.cm_spec.specs.Rounds.{rest_of};

@@ -1,12 +1,12 @@
 //! CHM as a scheme.
 ghost use Rattle.std.specs.Prelude.{◌≡◌, ◌+◌, ◌%◌, ◌<◌, false, refl};
-ghost use Rattle.cm_algorithm.specs.declared.algorithm.Algorithm.TheVariants as algorithm;
+ghost use Rattle.cm_algo_names.specs.declared.algorithm.Algorithm.TheVariants as algorithm;
 ghost use Rattle.cm_spec.specs.Chm.{chm_rule};
 ghost use Rattle.cm_chm.specs.ChmLaws.{chm_is_rule};
 
-use cm_algorithm::Algorithm;
+use cm_algo_names::Algorithm;
+use cm_algo_scheme::{Divisor, Scheme};
 use cm_bits::Fields;
-use cm_scheme::{Divisor, Scheme};
 
 /// The vertex after `v`, of `n`: the first one after the last.
 fn next_vertex(v: u32, n: u32) -> u32

@@ -5,7 +5,7 @@ use Rattle.std.specs.List.{flat_map}
 use Rattle.std.specs.Prelude.{slice_index_or}
 use Rattle.std.proofs.lemmas.Grind.{flat_map-append}
 use Rattle.std.proofs.lemmas.List.{take_more, take-append-drop}
-use Rattle.cm_buckets.specs.Functions.{Bucket, no_bucket}
+use Rattle.cm_brz_func.specs.Functions.{Bucket, no_bucket}
 use Rattle.cm_dump.specs.Dumps.{bucket_image, buckets_image, packed_image}
 use Rattle.cm_dump.specs.Spelling.{bucket_len}
 use Rattle.cm_dump.specs.Forms.{version_1}

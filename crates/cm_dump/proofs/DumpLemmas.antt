@@ -2,7 +2,7 @@
 use Rattle.std.proofs.Common.{◌≡◌, ℕ, ◌+◌, ◌*◌, List, ◌++◌, length, arith, refl, length-append}
 use Rattle.std.proofs.lemmas.List.FromFn.{length-map-range_with_len}
 use Rattle.cm_bdz.specs.Functions.{Bdz, BdzPh}
-use Rattle.cm_buckets.specs.Functions.{Brz}
+use Rattle.cm_brz_func.specs.Functions.{Brz}
 use Rattle.cm_rank.specs.Ranks.{sampled}
 use Rattle.cm_spec.specs.Chm.{Chm}
 use Rattle.cm_spec.specs.Dump.{fields_image}

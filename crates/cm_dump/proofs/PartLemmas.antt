@@ -3,7 +3,7 @@ use Rattle.std.proofs.Common.{◌≡◌, ◌∙◌, ℕ, ◌+◌, ◌-◌, ◌*�
 use Rattle.std.proofs.lemmas.List.{drop-drop, drop-take, take_all, take-take}
 use Rattle.std.proofs.lemmas.Nat.{div_below}
 use Rattle.std.proofs.Math.Nat.{mul-le-mul_left}
-use Rattle.cm_buckets.specs.Functions.{bucket_cells}
+use Rattle.cm_brz_func.specs.Functions.{bucket_cells}
 use Rattle.cm_spec.specs.Bdz.{bdz_size, made_odd, third_of}
 use Rattle.cm_spec.specs.Image.{packed_len}
 use Rattle.cm_spec.specs.Rule.{IsRatio}

@@ -11,9 +11,9 @@ use Rattle.std.proofs.lemmas.List.Sums.{sum_by-cons, sum_by_push}
 use Rattle.cm_bits.specs.Bound.{AllBelow}
 use Rattle.cm_bits.specs.Fault.{packed_fault}
 use Rattle.cm_bits.specs.Held.{packed_cells}
-use Rattle.cm_buckets.specs.Functions.{Brz, Bucket, IsBucket, bucket_cells, bucket_count, keys_in}
-use Rattle.cm_buckets.specs.Pushing.{with_bucket}
-use Rattle.cm_buckets.specs.declared.limits.TheConstants.{MAX_BUCKET, MIN_WIDTH, MAX_WIDTH}
+use Rattle.cm_brz_func.specs.Functions.{Brz, Bucket, IsBucket, bucket_cells, bucket_count, keys_in}
+use Rattle.cm_brz_func.specs.Pushing.{with_bucket}
+use Rattle.cm_brz_func.specs.declared.limits.TheConstants.{MAX_BUCKET, MIN_WIDTH, MAX_WIDTH}
 use Rattle.cm_spec.specs.Cells.{is_busy}
 use Rattle.cm_dump.specs.Dumps.{header, packed_image, bucket_image, buckets_image, brz_dump}
 use Rattle.cm_spec.specs.Image.{packed_len}

@@ -3,8 +3,8 @@ use Rattle.std.specs.Int.{w32}
 use Rattle.std.proofs.Common.{◌≡◌, ◌∙◌, ℕ, suc, ◌+◌, ◌-◌, ◌≤◌, length, ap, sym, subst, arith, refl, inl, inr, count_by, nat_lt, List, [], ◌∷◌, length-append, lit<, eq-eqb, true, false, Ok, Err}
 use Rattle.std.proofs.lemmas.Bool.{false≢true, ne_eqb}
 use Rattle.std.proofs.Math.Nat.{div-le_self}
-use Rattle.cm_buckets.specs.Functions.{Brz, Bucket, bucket_cells, bucket_count, keys_in}
-use Rattle.cm_buckets.specs.Pushing.{Miscounts, with_bucket}
+use Rattle.cm_brz_func.specs.Functions.{Brz, Bucket, bucket_cells, bucket_count, keys_in}
+use Rattle.cm_brz_func.specs.Pushing.{Miscounts, with_bucket}
 use Rattle.cm_spec.specs.Cells.{is_busy}
 use Rattle.cm_dump.specs.declared.fault.LoadFault.{LoadFault}
 use Rattle.cm_dump.specs.Reading.{Fails, end_at, field_at}

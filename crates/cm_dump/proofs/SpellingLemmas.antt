@@ -13,9 +13,9 @@ use Rattle.cm_bits.specs.Held.{packed_cells}
 use Rattle.cm_bits.specs.FieldsLaws.{fields_fault-image}
 use Rattle.cm_bits.specs.PackedLaws.{packed_fault-image}
 use Rattle.cm_bits.specs.declared.fault.ImageFault.{ImageFault}
-use Rattle.cm_buckets.specs.Functions.{Brz, Bucket, IsBrz, IsBucket, bucket_cells, keys_in}
-use Rattle.cm_buckets.specs.Pushing.{with_bucket}
-use Rattle.cm_buckets.specs.declared.limits.TheConstants.{MAX_BUCKET}
+use Rattle.cm_brz_func.specs.Functions.{Brz, Bucket, IsBrz, IsBucket, bucket_cells, keys_in}
+use Rattle.cm_brz_func.specs.Pushing.{with_bucket}
+use Rattle.cm_brz_func.specs.declared.limits.TheConstants.{MAX_BUCKET}
 use Rattle.cm_io.specs.declared.key_pass.TheConstants.{MAX_KEYS}
 use Rattle.cm_rank.specs.Ranks.{sampled}
 use Rattle.cm_dump.specs.declared.fault.LoadFault.{LoadFault}

@@ -4,7 +4,7 @@ use Rattle.std.specs.Prelude.{ℕ, List, [], ◌∷◌, ◌++◌, ◌+◌, ◌-�
 use Rattle.std.specs.Int.{byte_len, to_le_bytes, w32}
 use Rattle.std.specs.List.{concat, flat_map}
 use Rattle.cm_bdz.specs.Functions.{Bdz, BdzPh}
-use Rattle.cm_buckets.specs.Functions.{Brz, Bucket}
+use Rattle.cm_brz_func.specs.Functions.{Brz, Bucket}
 use Rattle.cm_rank.specs.Ranks.{sampled}
 use Rattle.cm_spec.specs.Chm.{Chm}
 use Rattle.cm_spec.specs.Dump.{fields_image}

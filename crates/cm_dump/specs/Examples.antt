@@ -1,7 +1,7 @@
 -- Dumps that the worked examples are about.
 use Rattle.std.specs.Prelude.{ℕ, List, [], ◌∷◌, ◌++◌, codes}
 use Rattle.cm_bdz.specs.Functions.{Bdz, BdzPh}
-use Rattle.cm_buckets.specs.Functions.{Brz}
+use Rattle.cm_brz_func.specs.Functions.{Brz}
 use Rattle.cm_spec.specs.Chm.{Chm}
 
 -- the header of a CHM function of some keys, with the ratio 2.09 and the seed 0

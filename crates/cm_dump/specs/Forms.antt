@@ -1,7 +1,7 @@
 -- What the versions of the dump differ in.
 use Rattle.std.specs.Prelude.{ℕ, List}
 use Rattle.std.specs.Int.{Width, w8}
-use Rattle.cm_buckets.specs.declared.limits.TheConstants.{MAX_BUCKET, MAX_WIDTH}
+use Rattle.cm_brz_func.specs.declared.limits.TheConstants.{MAX_BUCKET, MAX_WIDTH}
 use Rattle.cm_spec.specs.Dump.{magic}
 
 -- A version of the dump, by the numbers that a later version changes.

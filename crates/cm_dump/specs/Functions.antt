@@ -3,8 +3,8 @@ use Rattle.std.specs.Prelude.{◌≡◌, ◌<◌, ◌≤◌, ◌^◌, ℕ, List,
 use Rattle.cm_bdz.specs.Functions.{Bdz, BdzPh, bdz_answer, bdz_ph_answer}
 use Rattle.cm_bdz.specs.Places.{bdz_place}
 use Rattle.cm_bits.specs.Bound.{AllBelow}
-use Rattle.cm_buckets.specs.Functions.{IsBrz, brz_answer}
-use Rattle.cm_buckets.specs.Places.{brz_place}
+use Rattle.cm_brz_func.specs.Functions.{IsBrz, brz_answer}
+use Rattle.cm_brz_func.specs.Places.{brz_place}
 use Rattle.cm_io.specs.declared.key_pass.TheConstants.{MAX_KEYS}
 use Rattle.cm_chm.specs.Places.{chm_place}
 use Rattle.cm_spec.specs.Bdz.{bdz_size}

@@ -7,8 +7,8 @@ use Rattle.cm_bits.specs.declared.fault.ImageFault.{ImageFault}
 use Rattle.cm_bits.specs.declared.fault.ImageFault.TheVariants as image
 use Rattle.cm_bits.specs.Fault.{bytes_number, field_cells, fields_fault, packed_fault}
 use Rattle.cm_bits.specs.Held.{packed_cells}
-use Rattle.cm_buckets.specs.Functions.{Brz, Bucket, bucket_cells, bucket_count, keys_in}
-use Rattle.cm_buckets.specs.Pushing.{with_bucket}
+use Rattle.cm_brz_func.specs.Functions.{Brz, Bucket, bucket_cells, bucket_count, keys_in}
+use Rattle.cm_brz_func.specs.Pushing.{with_bucket}
 use Rattle.cm_rank.specs.Ranks.{sampled}
 use Rattle.cm_spec.specs.Bdz.{bdz_size}
 use Rattle.cm_spec.specs.Cells.{is_busy}

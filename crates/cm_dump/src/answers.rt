@@ -2,7 +2,7 @@
 ghost use Rattle.cm_dump.specs.Functions.{answer_by, place_by, span_by};
 
 use crate::Func;
-use cm_scheme::{Answers, Place};
+use cm_algo_scheme::{Answers, Place};
 
 /// A key gets what the function of its algorithm answers.
 impl Answers for Func {

@@ -1,12 +1,12 @@
 //! The buckets of a BRZ function, as they are written.
 ghost use Rattle.std.specs.Prelude.{◌≡◌, ◌<◌, ◌^◌, length, slice_index_or};
-ghost use Rattle.cm_buckets.specs.Functions.{no_bucket};
+ghost use Rattle.cm_brz_func.specs.Functions.{no_bucket};
 ghost use Rattle.cm_io.specs.Causes.{HasCause};
 ghost use Rattle.cm_io.specs.Writing.{Writes};
 ghost use Rattle.cm_dump.specs.Dumps.{bucket_image, buckets_image};
 ghost use Rattle.cm_dump.specs.Forms.{version_1};
 
-use cm_buckets::Brz;
+use cm_brz_func::Brz;
 use cm_io::{Failed, Sink, write_pieces};
 
 /// How many bytes a bucket has before its cells: its number of keys, and its seed.

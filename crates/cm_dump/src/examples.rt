@@ -4,7 +4,7 @@ ghost use Rattle.cm_dump.specs.Examples.{bdz_of_one, bdz_ph_of_two, brz_of_two, 
 ghost use Rattle.cm_dump.specs.Spelling.{spelling_of};
 ghost use Rattle.cm_dump.specs.declared.fault.LoadFault.TheVariants.{Truncated, BadAlgorithm, BadField, BadPadding, BadCell, BadCount, BadRank, Trailing};
 ghost use Rattle.cm_dump.specs.declared.writer.Func.TheVariants.{Bdz, BdzPh, Brz, Chm};
-ghost use Rattle.cm_buckets.specs.Functions.{brz_answer};
+ghost use Rattle.cm_brz_func.specs.Functions.{brz_answer};
 ghost use Rattle.cm_dump.specs.Dumps.{dump_of};
 
 /// CHM functions of one key and of two.

@@ -10,7 +10,7 @@ ghost use Rattle.cm_dump.specs.declared.fault.LoadFault.{LoadFault};
 
 use crate::LoadFault;
 use crate::items::{byte, item, number};
-use cm_buckets::{MAX_WIDTH, MIN_WIDTH};
+use cm_brz_func::{MAX_WIDTH, MIN_WIDTH};
 use cm_io::{MAX_KEYS, Source};
 
 /// What every dump begins with.

@@ -22,11 +22,11 @@ use crate::items::end;
 use crate::ranks::read_ranks;
 use crate::rest::load_brz;
 use crate::{Func, LoadFault};
+use cm_algo_scheme::{Built, Scheme};
 use cm_bdz::{Bdz, BdzPh, BdzPhScheme, BdzScheme, PartsFault};
 use cm_bits::{Cells, Crumbs, Fields, ImageFault, Trits};
 use cm_chm::{Chm, ChmScheme};
 use cm_io::Source;
-use cm_scheme::{Built, Scheme};
 use std::alloc::Global;
 
 /// The fault of the image that begins at this offset, in bytes from 0.

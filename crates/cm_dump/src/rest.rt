@@ -1,8 +1,8 @@
 //! The BRZ function of a header, bucket by bucket.
 ghost use Rattle.std.specs.Prelude.{◌≡◌, ◌+◌, ◌<◌, ◌≤◌, ◌^◌, ℕ, List, OnOk, IfOk, IfErr, false, count_by, length};
 ghost use Rattle.std.specs.Option.{ForSome};
-ghost use Rattle.cm_buckets.specs.Functions.{IsBrz, bucket_cells, bucket_count, keys_in};
-ghost use Rattle.cm_buckets.specs.declared.limits.TheConstants.{MAX_BUCKET, MIN_WIDTH, MAX_WIDTH};
+ghost use Rattle.cm_brz_func.specs.Functions.{IsBrz, bucket_cells, bucket_count, keys_in};
+ghost use Rattle.cm_brz_func.specs.declared.limits.TheConstants.{MAX_BUCKET, MIN_WIDTH, MAX_WIDTH};
 ghost use Rattle.cm_io.specs.declared.key_pass.TheConstants.{MAX_KEYS};
 ghost use Rattle.cm_spec.specs.Cells.{is_busy};
 ghost use Rattle.cm_spec.specs.Image.{packed_len};
@@ -17,12 +17,12 @@ use crate::front::Header;
 use crate::part::{byte_of, bytes_of, number_of};
 use crate::piece::{ENOUGH, Piece};
 use crate::reader::cells_from;
+use cm_algo_scheme::Scheme;
 use cm_bdz::{BdzScheme, PartsFault};
 use cm_bits::{Cells, Crumbs};
-use cm_buckets::{Brz, BrzParts};
+use cm_brz_func::{Brz, BrzParts};
 use cm_io::{Failed, Source};
 use cm_rank::Counted;
-use cm_scheme::Scheme;
 use std::alloc::Global;
 
 /// A bucket as it is read.

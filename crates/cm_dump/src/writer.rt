@@ -11,7 +11,7 @@ use crate::image::save_image;
 use crate::ranks::save_ranks;
 use cm_bdz::{Bdz, BdzPh};
 use cm_bits::{Cells, Crumbs, Fields, Trits};
-use cm_buckets::Brz;
+use cm_brz_func::Brz;
 use cm_chm::Chm;
 use cm_io::{Failed, Sink, write_pieces};
 

@@ -5,10 +5,10 @@ use Rattle.std.proofs.lemmas.Bool.{cases_Bool, cases_eq, cond-true, cond-false, 
 use Rattle.std.proofs.lemmas.List.{length-replicate, get_or-replicate}
 use Rattle.std.proofs.lemmas.List.Elements.{All-from_get_or}
 use Rattle.std.proofs.Math.ListN.{length-set}
-use Rattle.cm_edges.specs.Graph.{Links, lies_in, slot_touches, place_of, sole_of, is_free}
+use Rattle.cm_graph_edges.specs.Graph.{Links, lies_in, slot_touches, place_of, sole_of, is_free}
 use Rattle.cm_graph.specs.Next.{halves_at, half_at, AreNext, AreApart}
 use Rattle.cm_graph.specs.Chained.{AreChained, chain_of, chain_from, chain_without, next_without, before_in, times, is_place}
-use Rattle.cm_edges.specs.declared.incidence.Half.{Half}
+use Rattle.cm_graph_edges.specs.declared.incidence.Half.{Half}
 use Rattle.cm_graph.specs.declared.linked.Chain.{Chain}
 use Rattle.cm_graph.proofs.Chains.{times-cons, one_same, chain_kept, chain_cut, before_is_there}
 use Rattle.cm_graph.proofs.Places.{place_same_vertex, place_free, place_taken, place_here, place_other, place_half, place_within, count_at, position_of_one}

@@ -6,10 +6,10 @@ use Rattle.std.proofs.lemmas.List.{get_or_past, get_or-map, length-map}
 use Rattle.std.proofs.lemmas.List.Sums.{count_by-le-length, sum_by-append, sum_by-cons, sum_by-set}
 use Rattle.std.proofs.lemmas.Option.{none-some}
 use Rattle.cm_spec.specs.Graph.{ends_at}
-use Rattle.cm_edges.specs.Graph.{AreDegreesWithin, Links, all_linked, degree_of, halves_of, lies_in, linked, slot_touches}
+use Rattle.cm_graph_edges.specs.Graph.{AreDegreesWithin, Links, all_linked, degree_of, halves_of, lies_in, linked, slot_touches}
 use Rattle.cm_graph.specs.Next.{AreNext, half_at, halves_at}
 use Rattle.cm_graph.specs.Waiting.{AreSplit, Buckets, waiting_in}
-use Rattle.cm_edges.specs.declared.incidence.Half.{Half}
+use Rattle.cm_graph_edges.specs.declared.incidence.Half.{Half}
 use Rattle.cm_graph.proofs.Linking.{linked_first, relinked}
 use Rattle.cm_graph.proofs.Positions.{bare_count, count_new, touched_at, touches_at}
 use Rattle.cm_graph.proofs.Splitting.{apart, next, popped, vertex}

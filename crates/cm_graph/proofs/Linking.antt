@@ -9,9 +9,9 @@ use Rattle.std.proofs.lemmas.Option.{get_or_from_slice_get}
 use Rattle.std.proofs.Math.ListN.{length-set, length-take}
 use Rattle.std.proofs.Math.Seq.{set-append_seam}
 use Rattle.cm_spec.specs.Graph.{touches}
-use Rattle.cm_edges.specs.Graph.{Links, IsFree, IsLinked, linked, halves_of, slot_touches}
+use Rattle.cm_graph_edges.specs.Graph.{Links, IsFree, IsLinked, linked, halves_of, slot_touches}
 use Rattle.cm_graph.specs.Next.{halves_at, half_at, AreNext}
-use Rattle.cm_edges.specs.declared.incidence.Half.{Half}
+use Rattle.cm_graph_edges.specs.declared.incidence.Half.{Half}
 
 pub links_eq : (a b : ℕ) (s t : List (List (Option ℕ))) → a ≡ b → s ≡ t → ◌≡◌ {A = Links} (record { vertices = a; slots = s }) (record { vertices = b; slots = t })
 links_eq a b s t p q = λ i. record { vertices = p i; slots = q i }

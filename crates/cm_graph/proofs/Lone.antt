@@ -4,7 +4,7 @@ use Rattle.std.proofs.lemmas.List.{take_more_set, take-set, map-append, append-n
 use Rattle.std.proofs.lemmas.List.Elements.{filter-append}
 use mir.Val.{bool_byte}
 use Rattle.cm_spec.specs.Lists.{numbers_from}
-use Rattle.cm_edges.specs.Graph.{Links, degree_of, place_of, is_free, alone_of, alone_from}
+use Rattle.cm_graph_edges.specs.Graph.{Links, degree_of, place_of, is_free, alone_of, alone_from}
 
 numbers_more : (b n : ℕ) → numbers_from b (n + 1) ≡ numbers_from b n ++ (b + n) ∷ []
 numbers_more b zero = ap (λ x. x ∷ []) (let e : b ≡ b + 0 = omega arith in e)

@@ -4,10 +4,10 @@ use Rattle.std.specs.List.{count_by, position_or_len}
 use Rattle.std.proofs.lemmas.Bool.{cases_Bool, cases_eq, cases_lt, eq-eqb, eqb-true, ne_eqb, false≢true}
 use Rattle.std.proofs.lemmas.List.{get_or_past}
 use Rattle.std.proofs.lemmas.List.Sums.{sum_by-cons}
-use Rattle.cm_edges.specs.Graph.{lies_in}
+use Rattle.cm_graph_edges.specs.Graph.{lies_in}
 use Rattle.cm_graph.specs.Next.{half_at, AreNext}
 use Rattle.cm_graph.specs.Chained.{is_place}
-use Rattle.cm_edges.specs.declared.incidence.Half.{Half}
+use Rattle.cm_graph_edges.specs.declared.incidence.Half.{Half}
 use Rattle.cm_graph.proofs.Positions.{lies_is, place_is, other_edges}
 
 -- at one place there is one vertex

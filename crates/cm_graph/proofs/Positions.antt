@@ -10,9 +10,9 @@ use Rattle.std.proofs.Math.ListN.{length-set}
 use Rattle.std.proofs.Math.Nat.{div-add-mod', mul-zero}
 use Rattle.std.proofs.lemmas.List.Sums.{count_by-le-length, sum_by-set}
 use Rattle.std.proofs.lemmas.List.Folds.{sum_by-replicate}
-use Rattle.cm_edges.specs.Graph.{lies_in, slot_touches}
+use Rattle.cm_graph_edges.specs.Graph.{lies_in, slot_touches}
 use Rattle.cm_graph.specs.Next.{halves_at, half_at, AreNext, AreApart}
-use Rattle.cm_edges.specs.declared.incidence.Half.{Half}
+use Rattle.cm_graph_edges.specs.declared.incidence.Half.{Half}
 
 pub lies_is : (v : ℕ) (x : Option ℕ) → lies_in v x ≡ true → x ≡ Some v
 lies_is v None h = absurd (false≢true h)

@@ -6,9 +6,9 @@ use Rattle.std.proofs.lemmas.List.{get_or_past, take_more, set-get_or}
 use Rattle.std.proofs.lemmas.List.Elements.{All-from_get_or}
 use Rattle.std.proofs.lemmas.Option.{none-some, slice_get-get_or, slice_get_within, get_or_from_slice_get}
 use Rattle.std.proofs.Math.ListN.{length-set, length-take}
-use Rattle.cm_edges.specs.Graph.{Links, IsHalf, AreHalves, removed, removed_all, slot_of}
+use Rattle.cm_graph_edges.specs.Graph.{Links, IsHalf, AreHalves, removed, removed_all, slot_of}
 use Rattle.cm_graph.specs.Next.{halves_at, AreNext}
-use Rattle.cm_edges.specs.declared.incidence.Half.{Half}
+use Rattle.cm_graph_edges.specs.declared.incidence.Half.{Half}
 use Rattle.cm_graph.proofs.Positions.{place_is}
 
 -- a half-edge that is there, and its edge without it

@@ -8,10 +8,10 @@ use Rattle.std.proofs.lemmas.List.Sums.{sum_by-cons, count_by-le-length}
 use Rattle.std.proofs.lemmas.Option.{slice_get-get_or}
 use Rattle.std.proofs.lemmas.List.{length-replicate, get_or-replicate}
 use Rattle.std.proofs.Math.ListN.{length-set}
-use Rattle.cm_edges.specs.Graph.{Links, lies_in, slot_touches, sole_of, place_of, is_free}
+use Rattle.cm_graph_edges.specs.Graph.{Links, lies_in, slot_touches, sole_of, place_of, is_free}
 use Rattle.cm_graph.specs.Next.{halves_at, AreNext, AreApart}
 use Rattle.cm_graph.specs.Kept.{AreKept, with_place, without_place, share_of, xor_of}
-use Rattle.cm_edges.specs.declared.incidence.Half.{Half}
+use Rattle.cm_graph_edges.specs.declared.incidence.Half.{Half}
 use Rattle.cm_graph.specs.declared.wide.Vertex.{Vertex}
 use Rattle.cm_graph.proofs.Positions.{touched_at, place_is, long, in_more, apart_less, apart_more, touches_less, touches_more, touches_other, count_here, count_other, bare_half, bare_count}
 

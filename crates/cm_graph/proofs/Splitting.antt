@@ -8,10 +8,10 @@ use Rattle.std.proofs.lemmas.List.Elements.{All-push}
 use Rattle.std.proofs.lemmas.List.Sums.{sum_by-append, sum_by-cons, sum_by-set}
 use Rattle.std.proofs.lemmas.Option.{none-some}
 use Rattle.cm_spec.specs.Graph.{AreEdges, ends_at}
-use Rattle.cm_edges.specs.Graph.{Links, all_linked, halves_of, lies_in, slot_touches}
+use Rattle.cm_graph_edges.specs.Graph.{Links, all_linked, halves_of, lies_in, slot_touches}
 use Rattle.cm_graph.specs.Next.{AreNext, halves_at, half_at, with_half}
 use Rattle.cm_graph.specs.Waiting.{AreFirst, AreSplit, Buckets, IsEnd, IsMore, IsSame, count_waiting, times_in, times_of, times_there, times_waiting, waiting_in}
-use Rattle.cm_edges.specs.declared.incidence.Half.{Half}
+use Rattle.cm_graph_edges.specs.declared.incidence.Half.{Half}
 use Rattle.cm_graph.proofs.Linking.{links_eq}
 use Rattle.cm_graph.proofs.Positions.{bare_half, in_less, long, other_edges, place_edge, place_is, place_position, touched_at}
 

@@ -4,10 +4,10 @@ use Rattle.std.proofs.lemmas.List.{length-map, map-set}
 use Rattle.std.specs.Int.Bits.{xor_zero_r}
 use Rattle.std.proofs.lemmas.Nat.{xor_block, xor_lt, mod_below}
 use Rattle.std.proofs.Math.ListN.{get_or-map}
-use Rattle.cm_edges.specs.Graph.{Links, slot_touches, degree_of, sole_of, place_of, is_free}
+use Rattle.cm_graph_edges.specs.Graph.{Links, slot_touches, degree_of, sole_of, place_of, is_free}
 use Rattle.cm_graph.specs.Next.{halves_at, AreNext}
 use Rattle.cm_graph.specs.Kept.{AreKept, vertex_of, with_place, without_place}
-use Rattle.cm_edges.specs.declared.incidence.Half.{Half}
+use Rattle.cm_graph_edges.specs.declared.incidence.Half.{Half}
 use Rattle.cm_graph.specs.declared.wide.Vertex.{Vertex}
 use Rattle.cm_graph.proofs.Positions.{long, place_is}
 use Rattle.cm_graph.proofs.Shares.{kept_more, kept_less, some_degree, lone_place}

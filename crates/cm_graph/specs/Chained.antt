@@ -1,6 +1,6 @@
 -- What the chains of places say of the half-edges.
 use Rattle.std.specs.Prelude.{◌≡◌, ℕ, zero, suc, ◌-◌, ◌*◌, ◌/◌, ◌%◌, ◌<◌, ◌≤◌, ◌==◌, if◌then◌else◌, Bool, List, [], ◌∷◌, length, Option, count_by, slice_index, slice_index_or, slice_set}
-use Rattle.cm_edges.specs.Graph.{lies_in, slot_touches}
+use Rattle.cm_graph_edges.specs.Graph.{lies_in, slot_touches}
 use Rattle.cm_graph.specs.Next.{half_at, AreApart}
 use Rattle.cm_graph.specs.declared.linked.Chain.{Chain}
 

@@ -1,6 +1,6 @@
 -- Incidences with words of one width or the other as contracts see them, and which edges narrow words suffice for.
 use Rattle.std.specs.Prelude.{ℕ, ◌≤◌, Bool, true, false, List, length}
-use Rattle.cm_edges.specs.Graph.{Links, AreDegreesWithin, all_linked}
+use Rattle.cm_graph_edges.specs.Graph.{Links, AreDegreesWithin, all_linked}
 use Rattle.cm_graph.specs.declared.xored.Table.{Table}
 use Rattle.cm_graph.specs.declared.xored.Table.TheVariants as table
 

@@ -1,7 +1,7 @@
 -- What the degree and the xor that are kept of each vertex say of its half-edges.
 use Rattle.std.specs.Prelude.{◌≡◌, ℕ, suc, ◌+◌, ◌-◌, ◌*◌, ◌/◌, ◌%◌, ◌<◌, ◌≤◌, if◌then◌else◌, List, [], ◌∷◌, length, Option, count_by, bit_xor, slice_index_or}
 use Rattle.std.specs.List.{position_or_len}
-use Rattle.cm_edges.specs.Graph.{lies_in, slot_touches}
+use Rattle.cm_graph_edges.specs.Graph.{lies_in, slot_touches}
 use Rattle.cm_graph.specs.Next.{AreApart}
 use Rattle.cm_graph.specs.declared.wide.Vertex.{Vertex}
 

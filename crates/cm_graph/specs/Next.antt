@@ -1,6 +1,6 @@
 -- Slots that differ by one half-edge, as before and after it is linked or removed.
 use Rattle.std.specs.Prelude.{◌≡◌, ◌≢◌, ℕ, zero, suc, ◌/◌, ◌%◌, ◌<◌, List, [], ◌∷◌, length, Option, None, Some, slice_index_or, slice_set}
-use Rattle.cm_edges.specs.declared.incidence.Half.{Half}
+use Rattle.cm_graph_edges.specs.declared.incidence.Half.{Half}
 
 -- the half-edges of an edge number
 abbrev pub halves_at : List (List (Option ℕ)) → ℕ → List (Option ℕ)

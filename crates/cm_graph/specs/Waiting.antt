@@ -2,9 +2,9 @@
 use Rattle.std.specs.Prelude.{◌≡◌, ℕ, ◌+◌, ◌/◌, ◌%◌, ◌<◌, ◌≤◌, ◌==◌, if◌then◌else◌, List, [], length, Option, Some, All, count_by, is_some, map, slice_index_or, sum_by, Vec}
 use Rattle.std.specs.declared.alloc.Global.{Global}
 use Rattle.cm_spec.specs.Graph.{AreEdges, ends_at}
-use Rattle.cm_edges.specs.Graph.{Links}
+use Rattle.cm_graph_edges.specs.Graph.{Links}
 use Rattle.cm_graph.specs.Next.{halves_at, half_at}
-use Rattle.cm_edges.specs.declared.incidence.Half.{Half}
+use Rattle.cm_graph_edges.specs.declared.incidence.Half.{Half}
 
 abbrev pub Buckets : Type 0
 Buckets = List (Vec Half Global)

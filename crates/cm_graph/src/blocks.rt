@@ -1,10 +1,10 @@
 //! Linking by blocks of vertices: half-edges wait in a bucket for each block, and a full bucket is emptied into the words of its block.
 ghost use Rattle.std.specs.Prelude.{◌≡◌, ◌≢◌, ◌+◌, ◌*◌, ◌<◌, ◌≤◌, true, [], IfOk, length, replicate};
-ghost use Rattle.cm_edges.specs.Graph.{AreDegreesWithin, all_linked};
+ghost use Rattle.cm_graph_edges.specs.Graph.{AreDegreesWithin, all_linked};
 ghost use Rattle.cm_graph.specs.Waiting.{AreSplit, IsEnd, IsSame, IsMore, AreFirst, count_waiting, times_of, waiting_in};
 
 use crate::halves::{Halves, link_each};
-use cm_edges::{Edges, Half, Steps};
+use cm_graph_edges::{Edges, Half, Steps};
 use std::alloc::{AllocError, Global};
 use std::sync::ledger::Ledger;
 

@@ -1,11 +1,11 @@
 //! What keeps half-edges one by one, and what is done with many of them over any such.
 ghost use Rattle.std.specs.Prelude.{◌≡◌, ◌↔◌, ℕ, ◌+◌, ◌*◌, ◌/◌, ◌<◌, ◌≤◌, true, false, [], All, length, replicate, take};
 ghost use Rattle.cm_spec.specs.Graph.{IsEdge};
-ghost use Rattle.cm_edges.specs.Graph.{Links, IsFree, IsLinked, IsWidth, AreDegreesWithin, AreHalves, all_linked, linked, unlinked, removed_all, places_of, alone_from, place_of, degree_of, sole_of, is_free, slot_touches};
+ghost use Rattle.cm_graph_edges.specs.Graph.{Links, IsFree, IsLinked, IsWidth, AreDegreesWithin, AreHalves, all_linked, linked, unlinked, removed_all, places_of, alone_from, place_of, degree_of, sole_of, is_free, slot_touches};
 ghost use Rattle.cm_graph.specs.Next.{AreNext, halves_at};
 
 use crate::slots::Slots;
-use cm_edges::{Edges, Half, Steps};
+use cm_graph_edges::{Edges, Half, Steps};
 use std::sync::ledger::Ledger;
 
 /// What keeps the half-edges of linked edges.

@@ -11,4 +11,4 @@ pub mod xored;
 
 pub use crate::linked::Linked;
 pub use crate::xored::Xored;
-pub use cm_edges::{EdgeList, Edges, Half, Incidence, Steps};
+pub use cm_graph_edges::{EdgeList, Edges, Half, Incidence, Steps};

@@ -1,12 +1,12 @@
 //! An incidence that keeps for each vertex a chain of the places of its half-edges.
 ghost use Rattle.std.specs.Prelude.{◌≡◌, ◌+◌, ◌<◌, ◌≤◌, [], All, IfOk, length, replicate, true};
 ghost use Rattle.cm_spec.specs.Graph.{IsEdge};
-ghost use Rattle.cm_edges.specs.Graph.{IsFree, IsLinked, linked, unlinked};
+ghost use Rattle.cm_graph_edges.specs.Graph.{IsFree, IsLinked, linked, unlinked};
 ghost use Rattle.cm_graph.specs.Chained.{chain_from, before_in, chain_without, next_without};
 
 use crate::halves::{Halves, link_each, link_edge, list_from, remove_all, unlink_edge};
 use crate::slots::Slots;
-use cm_edges::{EdgeList, Half, Incidence, Steps};
+use cm_graph_edges::{EdgeList, Half, Incidence, Steps};
 use std::alloc::{AllocError, Global};
 use std::marker::Model;
 use std::sync::ledger::Ledger;
@@ -28,7 +28,7 @@ struct Chains {
 
 impl Model for Chains {
     ghost use Rattle.std.specs.Prelude.{length};
-    ghost use Rattle.cm_edges.specs.Graph.{Links};
+    ghost use Rattle.cm_graph_edges.specs.Graph.{Links};
     ghost use Rattle.cm_graph.specs.Chained.{AreChained};
 
     ghost Value = { Links };
@@ -137,7 +137,7 @@ pub struct Linked<const K: usize> {
 }
 
 impl<const K: usize> Model for Linked<K> {
-    ghost use Rattle.cm_edges.specs.Graph.{Links, IsWidth};
+    ghost use Rattle.cm_graph_edges.specs.Graph.{Links, IsWidth};
 
     ghost Value = { Links };
 

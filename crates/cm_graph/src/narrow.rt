@@ -3,7 +3,7 @@ ghost use Rattle.std.specs.Prelude.{◌≡◌, ◌≤◌, IfOk, [], replicate, l
 
 use crate::halves::Halves;
 use crate::slots::Slots;
-use cm_edges::Half;
+use cm_graph_edges::Half;
 use std::alloc::{AllocError, Global};
 use std::marker::Model;
 
@@ -25,7 +25,7 @@ pub(crate) struct Narrow {
 
 impl Model for Narrow {
     ghost use Rattle.std.specs.Prelude.{◌≤◌, length, map};
-    ghost use Rattle.cm_edges.specs.Graph.{Links};
+    ghost use Rattle.cm_graph_edges.specs.Graph.{Links};
     ghost use Rattle.cm_graph.specs.Kept.{AreKept, vertex_of};
 
     ghost Value = { Links };

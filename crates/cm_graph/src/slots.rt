@@ -1,7 +1,7 @@
 //! The slots of an incidence, which only proofs read.
 ghost use Rattle.std.specs.Prelude.{◌≡◌, ℕ, ◌/◌, ◌%◌, List, [], Option, None, replicate, slice_set, slice_index_or};
 ghost use Rattle.std.specs.Borrow.{ftrue};
-ghost use Rattle.cm_edges.specs.Graph.{halves_of};
+ghost use Rattle.cm_graph_edges.specs.Graph.{halves_of};
 ghost use Rattle.cm_graph.specs.Next.{with_half};
 
 use std::marker::Model;

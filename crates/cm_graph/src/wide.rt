@@ -1,10 +1,10 @@
 //! A degree and a xor of places for each vertex, in 8 bytes.
 ghost use Rattle.std.specs.Prelude.{◌≡◌, ◌≤◌, IfOk, [], replicate, length};
-ghost use Rattle.cm_edges.specs.Graph.{Links};
+ghost use Rattle.cm_graph_edges.specs.Graph.{Links};
 
 use crate::halves::Halves;
 use crate::slots::Slots;
-use cm_edges::Half;
+use cm_graph_edges::Half;
 use std::alloc::{AllocError, Global};
 use std::marker::Model;
 
@@ -24,7 +24,7 @@ pub(crate) struct Wide {
 
 impl Model for Wide {
     ghost use Rattle.std.specs.Prelude.{length};
-    ghost use Rattle.cm_edges.specs.Graph.{Links};
+    ghost use Rattle.cm_graph_edges.specs.Graph.{Links};
     ghost use Rattle.cm_graph.specs.Kept.{AreKept};
 
     ghost Value = { Links };

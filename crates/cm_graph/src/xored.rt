@@ -2,14 +2,14 @@
 ghost use Rattle.std.specs.Prelude.{◌≡◌, ◌+◌, ◌*◌, ◌<◌, ◌≤◌, All, IfOk, IsSome, length, take, true, false};
 ghost use Rattle.std.specs.Option.{ForSome};
 ghost use Rattle.cm_spec.specs.Graph.{IsEdge};
-ghost use Rattle.cm_edges.specs.Graph.{AreHalves, IsFree, IsLinked, IsWidth, alone_from, all_linked, degree_of, linked, places_of, removed_all, sole_of, unlinked};
+ghost use Rattle.cm_graph_edges.specs.Graph.{AreHalves, IsFree, IsLinked, IsWidth, alone_from, all_linked, degree_of, linked, places_of, removed_all, sole_of, unlinked};
 ghost use Rattle.cm_graph.specs.Choice.{FitNarrow, seen_of};
 
 use crate::blocks::link_all;
 use crate::halves::{Halves, link_edge, list_from, remove_all, unlink_edge};
 use crate::narrow::{MOST_EDGES, Narrow};
 use crate::wide::Wide;
-use cm_edges::{EdgeList, Edges, Half, Incidence, Steps};
+use cm_graph_edges::{EdgeList, Edges, Half, Incidence, Steps};
 use std::alloc::{AllocError, Global};
 use std::marker::Model;
 use std::sync::ledger::Ledger;
@@ -177,7 +177,7 @@ pub struct Xored<const K: usize> {
 }
 
 impl<const K: usize> Model for Xored<K> {
-    ghost use Rattle.cm_edges.specs.Graph.{IsWidth};
+    ghost use Rattle.cm_graph_edges.specs.Graph.{IsWidth};
     ghost use Rattle.cm_graph.specs.Choice.{Seen, seen_of};
 
     ghost Value = { Seen };

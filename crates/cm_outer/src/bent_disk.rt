@@ -5,12 +5,12 @@ ghost use Rattle.cm_io.specs.Causes.{HasDiskCause, Collects, HasCloseCause};
 ghost use Rattle.cm_io.specs.Files.{Creates, Closes};
 ghost use Rattle.cm_io.specs.Counts.{counted_if};
 ghost use Rattle.cm_outer.specs.TurnSources.{new_turns};
-ghost use Rattle.cm_memory.specs.MemSinks.{new_sink};
+ghost use Rattle.cm_io_memory.specs.MemSinks.{new_sink};
 ghost use Rattle.cm_outer.specs.BentSpills.{new_bent};
 
 use crate::{BentSpill, TurnSource};
 use cm_io::{Disk, DiskFault, Failed};
-use cm_memory::MemSink;
+use cm_io_memory::MemSink;
 use std::alloc::{AllocError, Global};
 use std::marker::Model;
 

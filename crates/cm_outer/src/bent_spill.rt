@@ -6,7 +6,7 @@ ghost use Rattle.cm_io.specs.Counts.{counted};
 ghost use Rattle.cm_outer.specs.BentSpills.{new_bent, bent};
 
 use cm_io::{Failed, Spill};
-use cm_memory::MemSpill;
+use cm_io_memory::MemSpill;
 use std::alloc::{AllocError, Global};
 use std::marker::Model;
 

@@ -16,7 +16,7 @@ pub use cm_io::{
     Disk, DiskFault, Failed, KeyBuf, KeyFault, KeyPass, MAX_KEY_LEN, MAX_KEYS, Notes, Sink, Source,
     Spill, write_pieces,
 };
-pub use cm_memory::{MemSink, MemSource, MemSpill};
+pub use cm_io_memory::{MemSink, MemSource, MemSpill};
 pub use disk_call::DiskCall;
 pub use mem_disk::MemDisk;
 pub use turn_source::TurnSource;

@@ -2,12 +2,12 @@
 ghost use Rattle.std.specs.Prelude.{◌≡◌, ◌↔◌, IsTrue, IfOk, Contains};
 ghost use Rattle.cm_io.specs.Counts.{counted};
 ghost use Rattle.cm_outer.specs.DiskCalls.{numbers};
-ghost use Rattle.cm_memory.specs.MemSources.{new_source};
-ghost use Rattle.cm_memory.specs.MemSinks.{new_sink};
-ghost use Rattle.cm_memory.specs.MemSpills.{new_spill};
+ghost use Rattle.cm_io_memory.specs.MemSources.{new_source};
+ghost use Rattle.cm_io_memory.specs.MemSinks.{new_sink};
+ghost use Rattle.cm_io_memory.specs.MemSpills.{new_spill};
 
 use crate::DiskCall;
-use cm_memory::{MemSink, MemSource, MemSpill};
+use cm_io_memory::{MemSink, MemSource, MemSpill};
 use std::alloc::{AllocError, Global};
 
 /// Counts one more call of a kind, and returns whether it is listed.

@@ -7,15 +7,15 @@ ghost use Rattle.cm_io.specs.Files.{IsThere, Opens, Creates, Closes, file_at};
 ghost use Rattle.cm_io.specs.Counts.{counted, counted_if};
 ghost use Rattle.cm_outer.specs.DiskCalls.{no_calls, numbers};
 ghost use Rattle.cm_outer.specs.MemDisks.{is_failed};
-ghost use Rattle.cm_memory.specs.MemSources.{new_source};
-ghost use Rattle.cm_memory.specs.MemSinks.{new_sink};
-ghost use Rattle.cm_memory.specs.MemSpills.{new_spill};
+ghost use Rattle.cm_io_memory.specs.MemSources.{new_source};
+ghost use Rattle.cm_io_memory.specs.MemSinks.{new_sink};
+ghost use Rattle.cm_io_memory.specs.MemSpills.{new_spill};
 
 use crate::DiskCall;
 use crate::listed_calls::{next_is_listed, sink_of, source_of, spill_of};
 use crate::mem_file::{MemFile, bytes_at, set_bytes};
 use cm_io::{Disk, DiskFault, Failed};
-use cm_memory::{MemSink, MemSource, MemSpill};
+use cm_io_memory::{MemSink, MemSource, MemSpill};
 use std::alloc::{AllocError, Global};
 use std::marker::Model;
 

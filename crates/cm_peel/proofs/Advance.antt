@@ -5,7 +5,7 @@ use Rattle.std.proofs.lemmas.Bool.{cases_Bool, and_from, and_left, and_right, co
 use Rattle.cm_spec.specs.Lists.{has}
 use Rattle.cm_spec.specs.Graph.{ends_at, degree_in}
 use Rattle.cm_spec.specs.Rounds.{is_left, is_held, left_after, removed_after, level_of, pivot_of}
-use Rattle.cm_edges.specs.Graph.{Graph, Links, is_free}
+use Rattle.cm_graph_edges.specs.Graph.{Graph, Links, is_free}
 use Rattle.cm_peel.specs.Incident.{AreLinked, is_half_left, free_position}
 use Rattle.cm_peel.specs.AtRound.{tag_of, byte_of}
 use Rattle.cm_peel.proofs.Falls.{falls_early, falls_level}

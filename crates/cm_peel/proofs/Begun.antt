@@ -2,7 +2,7 @@
 use Rattle.std.proofs.Common.{◌≡◌, ◌⊎◌, ℕ, suc, ◌<◌, true, false, not, ◌&&◌, List, [], length, get_or, sym, ◌∙◌, inl, inr}
 use Rattle.std.proofs.lemmas.Bool.{cases_Bool, and_parts, and_left, and_right, false≢true, not_from_true}
 use Rattle.cm_spec.specs.Rounds.{is_left, is_held, left_after}
-use Rattle.cm_edges.specs.Graph.{Graph, Links}
+use Rattle.cm_graph_edges.specs.Graph.{Graph, Links}
 use Rattle.cm_peel.specs.Incident.{AreLinked, is_half_left, is_picked}
 use Rattle.cm_peel.specs.AtRound.{InRound, byte_of, is_half_kept}
 use Rattle.cm_peel.specs.Peeling.{is_taken}

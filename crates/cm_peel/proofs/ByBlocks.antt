@@ -10,8 +10,8 @@ use Rattle.std.proofs.lemmas.Map.Keys.{IsDistinct-IsPermutation}
 use Rattle.cm_spec.specs.Lists.{has, numbers_from}
 use Rattle.cm_spec.specs.Graph.{AreEdges, ends_at}
 use Rattle.cm_spec.specs.Rounds.{is_left, level_of, removed_after, pivot_of}
-use Rattle.cm_edges.specs.declared.incidence.Half.{Half}
-use Rattle.cm_edges.specs.Graph.{Graph, Links, places_of, removed_all}
+use Rattle.cm_graph_edges.specs.declared.incidence.Half.{Half}
+use Rattle.cm_graph_edges.specs.Graph.{Graph, Links, places_of, removed_all}
 use Rattle.cm_peel.specs.AtRound.{AreTaken, InRound, IsOtherPlace, byte_of, is_half_kept, least, tag_of}
 use Rattle.cm_peel.specs.Incident.{is_half_left, other_halves_all, pivot_in}
 use Rattle.cm_peel.specs.Marks.{IsUnmarked, is_marked}

@@ -8,7 +8,7 @@ use Rattle.std.proofs.lemmas.Grind.{same_number_lists, get_or_default_zero}
 use Rattle.cm_spec.specs.Lists.{numbers_from, has}
 use Rattle.cm_spec.specs.Graph.{AreEdges, places}
 use Rattle.cm_spec.specs.Rounds.{is_left, left_after, removed_after, rest_of, level_of, pivot_of, order_upto, order_of}
-use Rattle.cm_edges.specs.Graph.{Graph, Links}
+use Rattle.cm_graph_edges.specs.Graph.{Graph, Links}
 use Rattle.cm_peel.specs.AtRound.{AtRound, byte_of}
 use Rattle.cm_peel.specs.Peeling.{IsPeelingOf, levels_of, is_taken, parities_in, pivots_in, untaken_of}
 use Rattle.cm_peel.proofs.Unlinking.{pivot_small}

@@ -7,7 +7,7 @@ use Rattle.std.proofs.lemmas.List.Elements.{filter-append}
 use Rattle.cm_spec.specs.Lists.{numbers_from, has}
 use Rattle.cm_spec.specs.Graph.{AreEdges, places, ends_at}
 use Rattle.cm_spec.specs.Rounds.{left_after, removed_after, is_left, is_held, level_of}
-use Rattle.cm_edges.specs.Graph.{Graph, Links, is_free, degree_of}
+use Rattle.cm_graph_edges.specs.Graph.{Graph, Links, is_free, degree_of}
 use Rattle.cm_peel.specs.AtRound.{AtRound, byte_of, tag_of}
 use Rattle.cm_peel.specs.Incident.{AreLinked, is_picked, free_position, first_byte}
 use Rattle.cm_peel.specs.Peeling.{taken_of}

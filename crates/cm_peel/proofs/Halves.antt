@@ -8,8 +8,8 @@ use Rattle.std.proofs.lemmas.List.Elements.{All-append}
 use Rattle.std.proofs.lemmas.List.Kept.{AllPairs-from_increasing}
 use Rattle.cm_spec.specs.Lists.{has}
 use Rattle.cm_spec.specs.Graph.{ends_at}
-use Rattle.cm_edges.specs.declared.incidence.Half.{Half}
-use Rattle.cm_edges.specs.Graph.{Graph, Links, IsHalf, AreHalves}
+use Rattle.cm_graph_edges.specs.declared.incidence.Half.{Half}
+use Rattle.cm_graph_edges.specs.Graph.{Graph, Links, IsHalf, AreHalves}
 use Rattle.cm_peel.specs.Incident.{AreLinked, other_halves, other_halves_all, pivot_in}
 use Rattle.cm_peel.specs.SetLaws.{Rises, Rises-weaker, increasing_from_Rises}
 use Rattle.cm_peel.proofs.Incident.{AreShort, place_in, slot_is, where_at, where_get}

@@ -8,8 +8,8 @@ use Rattle.std.proofs.lemmas.Bool.{both_ways, cases_Bool, cases_lt, eqb-true, eq
 use Rattle.cm_spec.specs.Lists.{has}
 use Rattle.cm_spec.specs.Graph.{AreEdges, places, touches, ends_at}
 use Rattle.cm_spec.specs.Rounds.{is_left, left_after, level_of}
-use Rattle.cm_edges.specs.declared.incidence.Half.{Half}
-use Rattle.cm_edges.specs.Graph.{Graph, Links, is_free, degree_of, places_of, removed_all, IsHalf}
+use Rattle.cm_graph_edges.specs.declared.incidence.Half.{Half}
+use Rattle.cm_graph_edges.specs.Graph.{Graph, Links, is_free, degree_of, places_of, removed_all, IsHalf}
 use Rattle.cm_peel.specs.Incident.{is_picked, free_position}
 use Rattle.cm_peel.specs.AtRound.{InRound, AreTaken, IsOtherPlace, is_half_kept, tag_of, is_listed, least}
 use Rattle.cm_peel.specs.Peeling.{is_taken}

@@ -10,8 +10,8 @@ use Rattle.std.proofs.lemmas.List.Folds.{list_any_at}
 use Rattle.cm_spec.specs.Lists.{numbers_from, has}
 use Rattle.cm_spec.specs.Graph.{touches, places, ends_at, degree_in}
 use Rattle.cm_spec.specs.Rounds.{is_left, left_after, level_of, pivot_of}
-use Rattle.cm_edges.specs.declared.incidence.Half.{Half}
-use Rattle.cm_edges.specs.Graph.{Graph, Links, lies_in, slot_touches, slot_of, degree_of, sole_of, place_of, halves_of, all_linked, removed, removed_all}
+use Rattle.cm_graph_edges.specs.declared.incidence.Half.{Half}
+use Rattle.cm_graph_edges.specs.Graph.{Graph, Links, lies_in, slot_touches, slot_of, degree_of, sole_of, place_of, halves_of, all_linked, removed, removed_all}
 use Rattle.cm_peel.specs.Incident.{AreLinked, halves_where, is_half_left}
 use Rattle.cm_peel.specs.SetLaws.{count_by-cons, count_by_two, place_within}
 use Rattle.cm_peel.specs.RoundLaws.{has_place, has_left_from, is_left_before}

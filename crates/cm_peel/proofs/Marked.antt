@@ -8,7 +8,7 @@ use Rattle.std.proofs.lemmas.List.{get_or_past}
 use mir.Val.{bool_byte}
 use Rattle.cm_spec.specs.Lists.{has, numbers_from}
 use Rattle.cm_spec.specs.Rounds.{is_left}
-use Rattle.cm_edges.specs.Graph.{Graph, Links}
+use Rattle.cm_graph_edges.specs.Graph.{Graph, Links}
 use Rattle.cm_peel.specs.AtRound.{InRound}
 use Rattle.cm_peel.specs.Marks.{is_marked}
 use Rattle.cm_peel.specs.Waiting.{marked_of}

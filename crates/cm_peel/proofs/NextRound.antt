@@ -10,7 +10,7 @@ use Rattle.std.proofs.lemmas.Map.Keys.{IsDistinct-IsPermutation}
 use Rattle.cm_spec.specs.Lists.{has}
 use Rattle.cm_spec.specs.Graph.{AreEdges, ends_at}
 use Rattle.cm_spec.specs.Rounds.{is_left, is_held, left_after, removed_after, level_of, pivot_of}
-use Rattle.cm_edges.specs.Graph.{Graph, Links}
+use Rattle.cm_graph_edges.specs.Graph.{Graph, Links}
 use Rattle.cm_peel.specs.Incident.{AreLinked, is_half_left, is_picked}
 use Rattle.cm_peel.specs.AtRound.{AtRound, InRound, byte_of, is_half_kept, other_places}
 use Rattle.cm_peel.specs.SetLaws.{increasing_from_Rises, Rises-from_increasing, has-from_Contains}

@@ -6,8 +6,8 @@ use Rattle.std.proofs.lemmas.Bool.{cases_Bool, cases_eq, cases_lt, eq-eqb, or_le
 use Rattle.std.proofs.lemmas.List.{get_or-take, get_or-drop, get_or-map, get_or-set_same, get_or_past, length-map, length-take-le, map-append, take-map, drop-map}
 use Rattle.cm_spec.specs.Lists.{has}
 use Rattle.cm_spec.specs.Graph.{AreEdges}
-use Rattle.cm_edges.specs.declared.incidence.Half.{Half}
-use Rattle.cm_edges.specs.Graph.{Graph, Links, IsHalf, AreHalves, slot_of, removed, removed_all}
+use Rattle.cm_graph_edges.specs.declared.incidence.Half.{Half}
+use Rattle.cm_graph_edges.specs.Graph.{Graph, Links, IsHalf, AreHalves, slot_of, removed, removed_all}
 use Rattle.cm_peel.specs.AtRound.{InRound, IsOtherPlace, is_half_kept}
 use Rattle.cm_peel.specs.Incident.{AreLinked}
 use Rattle.cm_peel.specs.SetLaws.{Contains-from_has}

@@ -5,7 +5,7 @@ use Rattle.std.proofs.lemmas.Bool.{cases_Bool, cases_lt, eqb-true, eq-eqb, ne_eq
 use Rattle.cm_spec.specs.Lists.{has}
 use Rattle.cm_spec.specs.Graph.{touches, places, ends_at, degree_in}
 use Rattle.cm_spec.specs.Rounds.{is_left, is_held, left_after, removed_after}
-use Rattle.cm_edges.specs.Graph.{Graph, Links, degree_of}
+use Rattle.cm_graph_edges.specs.Graph.{Graph, Links, degree_of}
 use Rattle.cm_peel.specs.Incident.{AreLinked, is_half_left, is_picked}
 use Rattle.cm_peel.proofs.Incident.{IsLive, lies, degree_is, lies_left, live}
 use Rattle.cm_peel.specs.SetLaws.{count_by-cons, count_by-filter, Rises, filter_agree_on, rising_is_filter}

@@ -1,7 +1,7 @@
 -- What the steps of a round by blocks hand on stays the same.
 use Rattle.std.proofs.Common.{◌≡◌, ◌∙◌, ℕ, List, subst}
-use Rattle.cm_edges.specs.declared.incidence.Half.{Half}
-use Rattle.cm_edges.specs.Graph.{Graph, Links}
+use Rattle.cm_graph_edges.specs.declared.incidence.Half.{Half}
+use Rattle.cm_graph_edges.specs.Graph.{Graph, Links}
 use Rattle.cm_peel.specs.declared.freed.Plan.{Plan}
 use Rattle.cm_peel.specs.declared.freed.Taking.{Taking}
 use Rattle.cm_peel.specs.Waiting.{AtBlocks, AtPart, CanWait, InTaking, IsOpen, IsSameTaking}

@@ -9,8 +9,8 @@ use Rattle.std.proofs.lemmas.Bool.{both_ways, cases_Bool, eqb-true, eq-eqb, ne_e
 use Rattle.cm_spec.specs.Lists.{has}
 use Rattle.cm_spec.specs.Graph.{AreEdges, touches, places, ends_at, degree_in}
 use Rattle.cm_spec.specs.Rounds.{is_left, left_after, removed_after, level_of, pivot_of}
-use Rattle.cm_edges.specs.declared.incidence.Half.{Half}
-use Rattle.cm_edges.specs.Graph.{Graph, Links, is_free, degree_of, sole_of, place_of, places_of, removed_all, IsHalf, AreHalves}
+use Rattle.cm_graph_edges.specs.declared.incidence.Half.{Half}
+use Rattle.cm_graph_edges.specs.Graph.{Graph, Links, is_free, degree_of, sole_of, place_of, places_of, removed_all, IsHalf, AreHalves}
 use Rattle.cm_peel.specs.Incident.{AreLinked, is_half_left, other_halves_all, pivot_in}
 use Rattle.cm_peel.specs.AtRound.{InRound, IsOtherPlace, is_half_kept, other_places}
 use Rattle.cm_peel.specs.SetLaws.{Rises, Rises-from_increasing, rises_below, has-filter, count_by_some, count_by-le}

@@ -7,8 +7,8 @@ use Rattle.std.proofs.lemmas.List.{get_or-set_same, get_or-map, get_or-take, len
 use Rattle.std.proofs.lemmas.List.Elements.{All-append}
 use Rattle.cm_spec.specs.Lists.{has}
 use Rattle.cm_spec.specs.Graph.{AreEdges, ends_at}
-use Rattle.cm_edges.specs.declared.incidence.Half.{Half}
-use Rattle.cm_edges.specs.Graph.{Graph, Links, IsHalf}
+use Rattle.cm_graph_edges.specs.declared.incidence.Half.{Half}
+use Rattle.cm_graph_edges.specs.Graph.{Graph, Links, IsHalf}
 use Rattle.cm_peel.specs.AtRound.{InRound, IsOtherPlace, is_half_kept}
 use Rattle.cm_peel.specs.Waiting.{put_room, halves_in, waiting_in, IsEnd, IsOpen, IsRoom, Waits, InBlocks, InTaking}
 use Rattle.cm_peel.specs.SetLaws.{Contains-from_has, AreApart}

@@ -4,7 +4,7 @@ use Rattle.std.specs.List.{list_any}
 use Rattle.cm_spec.specs.Lists.{has}
 use Rattle.cm_spec.specs.Graph.{AreEdges}
 use Rattle.cm_spec.specs.Rounds.{is_left, removed_after, level_of, pivot_of}
-use Rattle.cm_edges.specs.Graph.{Graph, Links}
+use Rattle.cm_graph_edges.specs.Graph.{Graph, Links}
 use Rattle.cm_peel.specs.Incident.{AreLinked, is_half_left, is_picked, free_position, other_halves_all}
 use Rattle.cm_peel.specs.Peeling.{is_taken}
 use Rattle.cm_peel.specs.SetLaws.{AreApart}

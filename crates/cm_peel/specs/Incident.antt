@@ -3,8 +3,8 @@ use Rattle.std.specs.Prelude.{◌≡◌, ℕ, suc, ◌+◌, ◌*◌, ◌%◌, �
 use Rattle.std.specs.List.{list_any, position_or_len}
 use Rattle.cm_spec.specs.Graph.{ends_at}
 use Rattle.cm_spec.specs.Rounds.{is_left, pivot_of}
-use Rattle.cm_edges.specs.declared.incidence.Half.{Half}
-use Rattle.cm_edges.specs.Graph.{Graph, Links, is_free}
+use Rattle.cm_graph_edges.specs.declared.incidence.Half.{Half}
+use Rattle.cm_graph_edges.specs.Graph.{Graph, Links, is_free}
 
 -- what is left of an edge whose ends are numbered from j on: the half-edges at the positions that pass the test
 abbrev pub halves_where : (ℕ → Bool) → ℕ → List ℕ → List (Option ℕ)

@@ -2,8 +2,8 @@
 use Rattle.std.specs.Prelude.{◌≡◌, ℕ, ◌+◌, ◌*◌, ◌/◌, ◌%◌, ◌<◌, ◌≤◌, true, false, ◌||◌, List, [], ◌∷◌, length, All, filter, map, take, drop, slice_index, slice_set}
 use Rattle.cm_spec.specs.Lists.{has, numbers_from}
 use Rattle.cm_spec.specs.Graph.{ends_at}
-use Rattle.cm_edges.specs.declared.incidence.Half.{Half}
-use Rattle.cm_edges.specs.Graph.{AreHalves, Graph, Links}
+use Rattle.cm_graph_edges.specs.declared.incidence.Half.{Half}
+use Rattle.cm_graph_edges.specs.Graph.{AreHalves, Graph, Links}
 use Rattle.cm_peel.specs.declared.freed.Plan.{Plan}
 use Rattle.cm_peel.specs.declared.freed.Taking.{Taking}
 use Rattle.cm_peel.specs.AtRound.{AreTaken, InRound, IsOtherPlace, IsSmall}

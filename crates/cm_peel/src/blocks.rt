@@ -3,7 +3,7 @@ ghost use Rattle.std.specs.Prelude.{◌≡◌, ◌≢◌, ℕ, true, false, List
 ghost use Rattle.std.specs.Ordering.{nat_cmp};
 ghost use Rattle.std.specs.List.Sorted.{IsSorted};
 ghost use Rattle.cm_spec.specs.Rounds.{left_after, removed_after};
-ghost use Rattle.cm_edges.specs.Graph.{Graph};
+ghost use Rattle.cm_graph_edges.specs.Graph.{Graph};
 ghost use Rattle.cm_peel.specs.AtRound.{InRound, IsSmall, other_places};
 ghost use Rattle.cm_peel.specs.Marks.{IsUnmarked};
 ghost use Rattle.cm_peel.specs.Waiting.{AreEmpty, AreTables, AtPart, CanWait, InTaking, IsOpen, IsSameTaking, AtTaking, halves_in, marked_of, put_room};
@@ -13,7 +13,7 @@ use crate::freed;
 use crate::freed::{EDGES, FREED, Plan, Taking};
 use crate::marks::list_marked;
 use crate::tables::{Round, Tables};
-use cm_edges::{Edges, Half, Incidence, Steps};
+use cm_graph_edges::{Edges, Half, Incidence, Steps};
 use std::sync::ledger::Ledger;
 
 /// How many vertices a block has.

@@ -1,11 +1,11 @@
 //! A round is worked on by chunks: scattered data is first read into small arrays, so that no store waits for a load.
 ghost use Rattle.std.specs.Prelude.{◌≡◌, ℕ, ◌+◌, ◌*◌, ◌/◌, ◌<◌, ◌≤◌, ◌++◌, ◌==◌, nat_lt, if◌then◌else◌, length, All, map, take, slice_index};
 ghost use Rattle.std.specs.List.{position_or_len};
-ghost use Rattle.cm_edges.specs.Graph.{degree_of};
+ghost use Rattle.cm_graph_edges.specs.Graph.{degree_of};
 ghost use Rattle.cm_peel.specs.AtRound.{AreTaken};
 ghost use Rattle.cm_peel.specs.Incident.{other_halves, other_halves_all, pivot_in};
 
-use cm_edges::{Edges, Half, Incidence, Steps};
+use cm_graph_edges::{Edges, Half, Incidence, Steps};
 use std::sync::ledger::Ledger;
 
 /// How many edges are worked on together.

@@ -8,7 +8,7 @@ use crate::blocks::count_blocks;
 use crate::chunk::{CHUNK_ENDS, Scratch, UNTAKEN};
 use crate::round::{advance, begin};
 use crate::tables::{Round, Tables};
-use cm_edges::{Edges, Incidence, Steps};
+use cm_graph_edges::{Edges, Incidence, Steps};
 use std::alloc::{AllocError, Global};
 use std::marker::Model;
 use std::sync::ledger::Ledger;

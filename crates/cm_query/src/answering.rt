@@ -13,9 +13,9 @@ use crate::fault::QueryFault;
 use crate::marks::mark;
 use crate::tally::Tally;
 use crate::writing::{LINE_END, note_key, write_line};
+use cm_algo_scheme::Answers;
 use cm_bits::{Bits, Cells};
 use cm_io::{Failed, KeyBuf, KeyPass, Notes, Sink};
-use cm_scheme::Answers;
 use itoa::Buffer;
 use std::alloc::Global;
 

@@ -6,8 +6,8 @@ ghost use Rattle.cm_query.specs.Waiting.{AreAnswers, Refills, RefillsBy, Waiting
 
 use crate::taken::{MOST, Taken};
 use arrayvec::ArrayVec;
+use cm_algo_scheme::Answers;
 use cm_io::{KeyBuf, KeyFault, KeyPass, MAX_KEYS};
-use cm_scheme::Answers;
 use std::marker::Model;
 
 /// Keys that were taken together and looked up together, of which some still wait. Clauses see those that wait, with their lines, and

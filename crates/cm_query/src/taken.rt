@@ -5,8 +5,8 @@ ghost use Rattle.cm_io.specs.Passes.{HasKeyCause};
 ghost use Rattle.cm_query.specs.Waiting.{Refills, RefillsBy, Takes};
 
 use arrayvec::ArrayVec;
+use cm_algo_scheme::{Answers, Place};
 use cm_io::{KeyBuf, KeyFault, KeyPass, MAX_KEY_LEN, MAX_KEYS};
-use cm_scheme::{Answers, Place};
 use std::marker::Model;
 
 /// How many keys are taken together at most.

@@ -3,19 +3,19 @@ use Rattle.std.proofs.Common.{◌≡◌, ◌∙◌, ◌⊎◌, ℕ, ◌<◌, ◌
 use Rattle.std.specs.Prelude.{slice_index}
 use Rattle.std.specs.Option.{ForSome}
 use Rattle.std.specs.Result.{IsErrAnd}
-use Rattle.cm_algorithm.specs.declared.algorithm.Algorithm.{Algorithm}
-use Rattle.cm_algorithm.specs.declared.algorithm.Algorithm.TheVariants as algorithms
+use Rattle.cm_algo_names.specs.declared.algorithm.Algorithm.{Algorithm}
+use Rattle.cm_algo_names.specs.declared.algorithm.Algorithm.TheVariants as algorithms
 use Rattle.cm_bdz.specs.Functions.{Bdz, BdzPh}
 use Rattle.cm_bdz.specs.Numbering.{bdz_under, bdz_ph_under}
 use Rattle.cm_brz.specs.BrzOf.{IsBrzOf}
 use Rattle.cm_brz.specs.Fails.{FailsBrz, HasBrzForm, IsCoredBucket, IsDamage, IsOverfull}
-use Rattle.cm_split.specs.Faults.{HasKeysCause, HasSpillCause}
+use Rattle.cm_brz_split.specs.Faults.{HasKeysCause, HasSpillCause}
 use Rattle.cm_brz.specs.Found.{AllOverfull, brz_under, bucket_report, first_cored, overfull_report}
 use Rattle.cm_brz.specs.Reports.{overfull_text}
-use Rattle.cm_split.specs.Split.{split_of}
-use Rattle.cm_split.specs.declared.fault.BrzFault.{BrzFault}
-use Rattle.cm_split.specs.declared.fault.BrzFault.TheVariants as brz_fault
-use Rattle.cm_buckets.specs.Functions.{Brz, IsBrz, bucket_count}
+use Rattle.cm_brz_split.specs.Split.{split_of}
+use Rattle.cm_brz_split.specs.declared.fault.BrzFault.{BrzFault}
+use Rattle.cm_brz_split.specs.declared.fault.BrzFault.TheVariants as brz_fault
+use Rattle.cm_brz_func.specs.Functions.{Brz, IsBrz, bucket_count}
 use Rattle.cm_dump.specs.declared.writer.Func.{Func}
 use Rattle.cm_dump.specs.declared.writer.Func.TheVariants as func
 use Rattle.cm_io.specs.Causes.{Collects}
@@ -23,18 +23,18 @@ use Rattle.cm_io.specs.Files.{Files, file_at, with_file}
 use Rattle.cm_io.specs.Passes.{Told}
 use Rattle.cm_io.specs.declared.key_pass.KeyFault.TheVariants as key_fault
 use Rattle.cm_peel.specs.CoreLaws.{rest_is_core}
-use Rattle.cm_seeds.specs.Fails.{FailsBuild, HasBuildCause, HasForm, HasNumbers, ShowsCore}
-use Rattle.cm_seeds.specs.declared.fault.BuildFault.{BuildFault}
-use Rattle.cm_seeds.specs.declared.fault.BuildFault.TheVariants as build_fault
+use Rattle.cm_algo_seeds.specs.Fails.{FailsBuild, HasBuildCause, HasForm, HasNumbers, ShowsCore}
+use Rattle.cm_algo_seeds.specs.declared.fault.BuildFault.{BuildFault}
+use Rattle.cm_algo_seeds.specs.declared.fault.BuildFault.TheVariants as build_fault
 use Rattle.cm_spec.specs.Bdz.{bdz_rule, bdz_ph_rule}
 use Rattle.cm_spec.specs.Built.{IsFirst, cells_under, chm_under, first_seed}
 use Rattle.cm_spec.specs.Chm.{Chm, chm_rule}
 use Rattle.cm_spec.specs.Rule.{Rule}
-use Rattle.cm_steps.specs.EndLaws.{collected}
-use Rattle.cm_steps.specs.declared.stop.Reason.TheVariants.{NoSeed, NoSeedFor, NoSplit}
-use Rattle.cm_steps.specs.declared.stop.Reason.{Reason}
-use Rattle.cm_steps.specs.declared.stop.Stop.TheVariants.{Memory, Read, Write, WriteOut, Refused, Changed, Spill, SpillDamaged, NoKeys, TooLong, TooMany}
-use Rattle.cm_steps.specs.declared.stop.Stop.{Stop}
+use Rattle.cm_tool_files.specs.EndLaws.{collected}
+use Rattle.cm_tool_files.specs.declared.stop.Reason.TheVariants.{NoSeed, NoSeedFor, NoSplit}
+use Rattle.cm_tool_files.specs.declared.stop.Reason.{Reason}
+use Rattle.cm_tool_files.specs.declared.stop.Stop.TheVariants.{Memory, Read, Write, WriteOut, Refused, Changed, Spill, SpillDamaged, NoKeys, TooLong, TooMany}
+use Rattle.cm_tool_files.specs.declared.stop.Stop.{Stop}
 use Rattle.cm_tool.specs.Faults.{FailsFunc, HasFuncCause, HasNone, HasStopForm, IsChange, IsChangeBy, IsReasonBy, fault_from_brz, fault_from_build, reason_of, shown_core, shown_overfull, stop_for}
 use Rattle.cm_tool.specs.Jobs.{seeds_tried}
 use Rattle.cm_tool.specs.Leaves.{GotReport, HasStopCause, IsBuiltFrom, IsFuncOf, IsRefused, Leaves, Refuses, Saves, StopsFor}

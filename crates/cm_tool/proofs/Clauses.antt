@@ -1,13 +1,13 @@
 -- What the top call promises by what the arguments ask for: moved along an equation, or for whatever they ask for.
 use Rattle.std.proofs.Common.{◌≡◌, ◌≢◌, ◌⊎◌, ◌↔◌, ℕ, ◌<◌, List, [], ◌∷◌, take, Option, Ok, Err, true, inl, inr, sym, subst, arith}
 use Rattle.std.proofs.lemmas.Bool.{false≢true}
-use Rattle.cm_algorithm.specs.declared.algorithm.Algorithm.{Algorithm}
-use Rattle.cm_algorithm.specs.declared.algorithm.Algorithm.TheVariants.{Chm, Bdz, BdzPh, Brz}
+use Rattle.cm_algo_names.specs.declared.algorithm.Algorithm.{Algorithm}
+use Rattle.cm_algo_names.specs.declared.algorithm.Algorithm.TheVariants.{Chm, Bdz, BdzPh, Brz}
 use Rattle.cm_io.specs.Causes.{IsSent}
 use Rattle.cm_io.specs.Writing.{then_bytes}
 use Rattle.cm_io.specs.WritingLaws.{then_nothing}
 use Rattle.cm_spec.specs.Lists.{has}
-use Rattle.cm_steps.specs.Ends.{usage_status_of}
+use Rattle.cm_tool_files.specs.Ends.{usage_status_of}
 use Rattle.cm_tool.specs.Run.{ForBuild, ForQuery, ForTest, ForText, UnlessBrz, UnlessBuild, UnlessJob, UnlessQuery, UnlessTest}
 use Rattle.cm_tool.specs.Spills.{UnlessSpilled}
 use Rattle.cm_words.specs.Options.{Read as Reading}

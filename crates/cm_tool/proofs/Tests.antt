@@ -1,14 +1,14 @@
 -- From the tests of algorithms to the outcome of a test.
 use Rattle.std.proofs.Common.{◌≡◌, ◌≢◌, ◌∙◌, ◌⊎◌, ℕ, ◌+◌, ◌^◌, ◌<◌, ◌≤◌, List, [], ◌∷◌, ◌++◌, length, take, Option, None, Some, Result, Ok, Err, inl, inr, refl, ap, sym, subst, arith, append-nil, append_assoc, lit<}
-use Rattle.cm_algorithm.specs.declared.algorithm.Algorithm.{Algorithm}
-use Rattle.cm_algorithm.specs.declared.algorithm.Algorithm.TheVariants.{Chm, Bdz, BdzPh, Brz}
+use Rattle.cm_algo_names.specs.declared.algorithm.Algorithm.{Algorithm}
+use Rattle.cm_algo_names.specs.declared.algorithm.Algorithm.TheVariants.{Chm, Bdz, BdzPh, Brz}
 use Rattle.cm_dump.specs.Dumps.{dump_of}
 use Rattle.cm_dump.specs.Functions.{answer_by}
 use Rattle.cm_dump.specs.declared.writer.Func.{Func}
 use Rattle.cm_keys.specs.Lines.{lines_of}
-use Rattle.cm_made.specs.Numbered.{AreMade}
-use Rattle.cm_made.specs.Texts.{made_text}
-use Rattle.cm_numbers.specs.Options.{algorithms, usual_ratio}
+use Rattle.cm_keys_made.specs.Numbered.{AreMade}
+use Rattle.cm_keys_made.specs.Texts.{made_text}
+use Rattle.cm_words_values.specs.Options.{algorithms, usual_ratio}
 use Rattle.cm_io.specs.Causes.{IsSent}
 use Rattle.cm_io.specs.Files.{Files}
 use Rattle.cm_io.specs.Passes.{HasKeyCause}
@@ -19,10 +19,10 @@ use Rattle.cm_io.specs.declared.key_pass.KeyFault.TheVariants as key_fault
 use Rattle.cm_query.specs.Stops.{StopsAt}
 use Rattle.cm_query.specs.Sums.{answer_sum}
 use Rattle.cm_query.specs.declared.fault.QueryFault.TheVariants.{Key}
-use Rattle.cm_steps.specs.Ends.{Says, message_of, status_of}
-use Rattle.cm_steps.specs.Messages.{reason_message}
-use Rattle.cm_steps.specs.declared.stop.Stop.TheVariants.{Memory, Read, Write, WriteOut, Refused, Changed, Spill, SpillDamaged, NoKeys, TooLong, TooMany}
-use Rattle.cm_steps.specs.declared.stop.Stop.{Stop}
+use Rattle.cm_tool_files.specs.Ends.{Says, message_of, status_of}
+use Rattle.cm_tool_files.specs.Messages.{reason_message}
+use Rattle.cm_tool_files.specs.declared.stop.Stop.TheVariants.{Memory, Read, Write, WriteOut, Refused, Changed, Spill, SpillDamaged, NoKeys, TooLong, TooMany}
+use Rattle.cm_tool_files.specs.declared.stop.Stop.{Stop}
 use Rattle.cm_tool.specs.Faults.{FailsFunc, HasFuncCause, HasStopForm, IsChangeBy, IsReasonBy, UsesSpill, shown_core, shown_overfull, stop_for}
 use Rattle.cm_tool.specs.Jobs.{seeds_of}
 use Rattle.cm_tool.specs.Leaves.{GotReport, IsFuncOf, IsOutCause, KeepsOut, StopsFor}

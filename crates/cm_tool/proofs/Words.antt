@@ -1,13 +1,13 @@
 -- From what the words ask for to what the top call promises.
 use Rattle.std.proofs.Common.{◌≡◌, ◌≢◌, ◌∙◌, ◌⊎◌, ℕ, List, [], Option, None, Some, Ok, Err, inl, inr, refl, ap, sym, subst, arith}
-use Rattle.cm_algorithm.specs.declared.algorithm.Algorithm.TheVariants.{Chm}
+use Rattle.cm_algo_names.specs.declared.algorithm.Algorithm.TheVariants.{Chm}
 use Rattle.cm_io.specs.Files.{Files}
 use Rattle.cm_io.specs.Writing.{then_bytes}
 use Rattle.cm_io.specs.WritingLaws.{then_nothing}
-use Rattle.cm_steps.specs.Ends.{Says, usage_status_of}
-use Rattle.cm_steps.specs.Messages.{out_of_memory, usage_message}
-use Rattle.cm_steps.specs.declared.stop.QueryStop.TheVariants as query_stop
-use Rattle.cm_steps.specs.declared.stop.Stop.TheVariants as stop
+use Rattle.cm_tool_files.specs.Ends.{Says, usage_status_of}
+use Rattle.cm_tool_files.specs.Messages.{out_of_memory, usage_message}
+use Rattle.cm_tool_files.specs.declared.stop.QueryStop.TheVariants as query_stop
+use Rattle.cm_tool_files.specs.declared.stop.Stop.TheVariants as stop
 use Rattle.cm_tool.specs.Outcome.{Outcome, job_outcome, printing, refusal}
 use Rattle.cm_tool.specs.Run.{ForQuery, ForTest, IsCutShort, IsMessage, IsStatus, LacksFile, Reaches, UnlessQuery, UnlessTest}
 use Rattle.cm_tool.specs.TestEnds.{GotPrefix}

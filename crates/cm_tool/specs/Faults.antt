@@ -1,21 +1,21 @@
 -- Why there is no function of keys.
 use Rattle.std.specs.Prelude.{◌≡◌, ◌≢◌, ◌<◌, ◌≤◌, ◌+◌, ℕ, List, [], length, Option, None, Some, Result, Ok, Err}
 use Rattle.cm_io.specs.Passes.{IsToldFault}
-use Rattle.cm_algorithm.specs.declared.algorithm.Algorithm.{Algorithm}
-use Rattle.cm_algorithm.specs.declared.algorithm.Algorithm.TheVariants.{Brz}
+use Rattle.cm_algo_names.specs.declared.algorithm.Algorithm.{Algorithm}
+use Rattle.cm_algo_names.specs.declared.algorithm.Algorithm.TheVariants.{Brz}
 use Rattle.cm_brz.specs.Reports.{overfull_text}
-use Rattle.cm_split.specs.declared.fault.BrzFault.{BrzFault}
-use Rattle.cm_split.specs.declared.fault.BrzFault.TheVariants as brz_fault
+use Rattle.cm_brz_split.specs.declared.fault.BrzFault.{BrzFault}
+use Rattle.cm_brz_split.specs.declared.fault.BrzFault.TheVariants as brz_fault
 use Rattle.cm_io.specs.Causes.{Rose}
 use Rattle.cm_io.specs.Passes.{HasKeyCause, Told}
 use Rattle.cm_io.specs.declared.key_pass.KeyFault.{KeyFault}
 use Rattle.cm_io.specs.declared.key_pass.KeyFault.TheVariants as key_fault
-use Rattle.cm_seeds.specs.declared.fault.BuildFault.{BuildFault}
-use Rattle.cm_seeds.specs.declared.fault.BuildFault.TheVariants as build_fault
-use Rattle.cm_steps.specs.declared.stop.Reason.TheVariants.{NoSeed, NoSeedFor, NoSplit}
-use Rattle.cm_steps.specs.declared.stop.Reason.{Reason}
-use Rattle.cm_steps.specs.declared.stop.Stop.TheVariants as stops
-use Rattle.cm_steps.specs.declared.stop.Stop.{Stop}
+use Rattle.cm_algo_seeds.specs.declared.fault.BuildFault.{BuildFault}
+use Rattle.cm_algo_seeds.specs.declared.fault.BuildFault.TheVariants as build_fault
+use Rattle.cm_tool_files.specs.declared.stop.Reason.TheVariants.{NoSeed, NoSeedFor, NoSplit}
+use Rattle.cm_tool_files.specs.declared.stop.Reason.{Reason}
+use Rattle.cm_tool_files.specs.declared.stop.Stop.TheVariants as stops
+use Rattle.cm_tool_files.specs.declared.stop.Stop.{Stop}
 use Rattle.cm_tool.specs.Seeds.{NoneWorks}
 use Rattle.cm_tool.specs.Verdict.{Shown, verdict_by}
 use Rattle.cm_tool.specs.declared.fault.FuncFault.{FuncFault}

@@ -1,7 +1,7 @@
 -- What each end of a build leaves.
 use Rattle.std.specs.Prelude.{◌≡◌, ◌⊎◌, ◌≤◌, ℕ, List, [], length, take, Option, None, Some, Result, Ok, Err}
 use Rattle.std.specs.Option.{ForSome}
-use Rattle.cm_algorithm.specs.declared.algorithm.Algorithm.{Algorithm}
+use Rattle.cm_algo_names.specs.declared.algorithm.Algorithm.{Algorithm}
 use Rattle.cm_dump.specs.Dumps.{dump_of}
 use Rattle.cm_dump.specs.Functions.{IsFunction}
 use Rattle.cm_dump.specs.declared.writer.Func.{Func}
@@ -12,10 +12,10 @@ use Rattle.cm_io.specs.Writing.{then_bytes}
 use Rattle.cm_io.specs.declared.key_pass.KeyFault.TheVariants as key_fault
 use Rattle.cm_spec.specs.Built.{cells_under, first_seed, IsFirst}
 use Rattle.cm_spec.specs.Rule.{IsCount, Rule}
-use Rattle.cm_steps.specs.Summaries.{summary_of}
-use Rattle.cm_steps.specs.declared.built.Summary.{Summary}
-use Rattle.cm_steps.specs.declared.stop.Stop.TheVariants.{Memory, Read, Write, WriteOut, Refused, Spill, NoKeys, TooLong, TooMany}
-use Rattle.cm_steps.specs.declared.stop.Stop.{Stop}
+use Rattle.cm_tool_files.specs.Summaries.{summary_of}
+use Rattle.cm_tool_files.specs.declared.built.Summary.{Summary}
+use Rattle.cm_tool_files.specs.declared.stop.Stop.TheVariants.{Memory, Read, Write, WriteOut, Refused, Spill, NoKeys, TooLong, TooMany}
+use Rattle.cm_tool_files.specs.declared.stop.Stop.{Stop}
 use Rattle.cm_tool.specs.Faults.{HasNone, shown_core, shown_overfull, stop_for}
 use Rattle.cm_tool.specs.Jobs.{seeds_tried}
 use Rattle.cm_tool.specs.Outcome.{keys_in}

@@ -2,7 +2,7 @@
 use Rattle.std.specs.Prelude.{◌≡◌, ◌≢◌, ◌⊎◌, ℕ, List, [], ◌∷◌, ◌++◌, length, take, Option, Some, Ok, Err, true}
 use Rattle.std.specs.Option.{ForSome}
 use Rattle.cm_bdz.specs.Functions.{bdz_answer, bdz_ph_answer}
-use Rattle.cm_buckets.specs.Functions.{brz_answer}
+use Rattle.cm_brz_func.specs.Functions.{brz_answer}
 use Rattle.cm_bdz.specs.Numbering.{AnswersApart}
 use Rattle.cm_chm.specs.Numbering.{AnswersNumbers}
 use Rattle.cm_dump.specs.Dumps.{dump_of}
@@ -15,12 +15,12 @@ use Rattle.cm_io.specs.Causes.{Rose}
 use Rattle.cm_io.specs.Files.{Files, file_at, with_file}
 use Rattle.cm_io.specs.Writing.{then_bytes}
 use Rattle.cm_spec.specs.Lists.{has}
-use Rattle.cm_steps.specs.Asked.{AskedPart, GotNothing, Spells, keys_at}
-use Rattle.cm_steps.specs.Ends.{IsPrintMessage, Says}
-use Rattle.cm_steps.specs.Messages.{bad_dump, built_message, out_of_memory, cannot_read, cannot_use_spill, cannot_write, cannot_write_out, keys_changed, no_keys, line_too_long, reason_message, spill_damaged, too_many_keys, usage_message}
-use Rattle.cm_steps.specs.Texts.{help_text, version_text}
-use Rattle.cm_steps.specs.declared.built.Summary.{Summary}
-use Rattle.cm_steps.specs.declared.stop.Reason.{Reason}
+use Rattle.cm_tool_files.specs.Asked.{AskedPart, GotNothing, Spells, keys_at}
+use Rattle.cm_tool_files.specs.Ends.{IsPrintMessage, Says}
+use Rattle.cm_tool_files.specs.Messages.{bad_dump, built_message, out_of_memory, cannot_read, cannot_use_spill, cannot_write, cannot_write_out, keys_changed, no_keys, line_too_long, reason_message, spill_damaged, too_many_keys, usage_message}
+use Rattle.cm_tool_files.specs.Texts.{help_text, version_text}
+use Rattle.cm_tool_files.specs.declared.built.Summary.{Summary}
+use Rattle.cm_tool_files.specs.declared.stop.Reason.{Reason}
 use Rattle.cm_tool.specs.Faults.{IsChangeBy, IsReasonBy, UsesSpill}
 use Rattle.cm_tool.specs.Jobs.{seeds_tried}
 use Rattle.cm_tool.specs.Leaves.{IsPart}
@@ -29,8 +29,8 @@ use Rattle.cm_tool.specs.Seeds.{IsMadeBy, NoneWorks}
 use Rattle.cm_tool.specs.Spills.{HasSpilled, UnlessSpilled}
 use Rattle.cm_tool.specs.TestEnds.{IsTestMessage}
 use Rattle.cm_tool.specs.Verdict.{Shown}
-use Rattle.cm_algorithm.specs.declared.algorithm.Algorithm.{Algorithm}
-use Rattle.cm_algorithm.specs.declared.algorithm.Algorithm.TheVariants.{Chm, Bdz, BdzPh, Brz}
+use Rattle.cm_algo_names.specs.declared.algorithm.Algorithm.{Algorithm}
+use Rattle.cm_algo_names.specs.declared.algorithm.Algorithm.TheVariants.{Chm, Bdz, BdzPh, Brz}
 use Rattle.cm_words.specs.Options.{Read as Reading}
 use Rattle.cm_words.specs.declared.fault.UsageFault.{UsageFault}
 use Rattle.cm_words.specs.declared.jobs.BuildJob.{BuildJob}

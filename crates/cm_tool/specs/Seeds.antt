@@ -1,13 +1,13 @@
 -- The seeds that a build takes, and why none works, by 2-cores.
 use Rattle.std.specs.Prelude.{◌≡◌, ◌⊎◌, ℕ, List, length, slice_index, Some}
-use Rattle.cm_algorithm.specs.declared.algorithm.Algorithm.{Algorithm}
-use Rattle.cm_algorithm.specs.declared.algorithm.Algorithm.TheVariants.{Chm, Bdz, BdzPh, Brz}
+use Rattle.cm_algo_names.specs.declared.algorithm.Algorithm.{Algorithm}
+use Rattle.cm_algo_names.specs.declared.algorithm.Algorithm.TheVariants.{Chm, Bdz, BdzPh, Brz}
 use Rattle.cm_bdz.specs.Numbering.{bdz_under, bdz_ph_under}
 use Rattle.cm_brz.specs.BrzOf.{IsBrzOf}
 use Rattle.cm_brz.specs.Found.{AllOverfull, first_cored}
-use Rattle.cm_buckets.specs.Splitting.{keys_of_bucket}
-use Rattle.cm_split.specs.Split.{split_of}
-use Rattle.cm_buckets.specs.Functions.{bucket_count}
+use Rattle.cm_brz_func.specs.Splitting.{keys_of_bucket}
+use Rattle.cm_brz_split.specs.Split.{split_of}
+use Rattle.cm_brz_func.specs.Functions.{bucket_count}
 use Rattle.cm_dump.specs.declared.writer.Func.{Func}
 use Rattle.cm_dump.specs.declared.writer.Func.TheVariants as func
 use Rattle.cm_spec.specs.Bdz.{bdz_rule, bdz_ph_rule}

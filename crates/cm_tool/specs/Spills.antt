@@ -1,9 +1,9 @@
 -- What a build does to the disk's spill.
 use Rattle.std.specs.Prelude.{◌≡◌, ℕ, List, length, Option, Some}
-use Rattle.cm_algorithm.specs.declared.algorithm.Algorithm.{Algorithm}
-use Rattle.cm_algorithm.specs.declared.algorithm.Algorithm.TheVariants.{Brz}
-use Rattle.cm_split.specs.Puts.{records_under}
-use Rattle.cm_split.specs.Spilled.{AreSpilled}
+use Rattle.cm_algo_names.specs.declared.algorithm.Algorithm.{Algorithm}
+use Rattle.cm_algo_names.specs.declared.algorithm.Algorithm.TheVariants.{Brz}
+use Rattle.cm_brz_split.specs.Puts.{records_under}
+use Rattle.cm_brz_split.specs.Spilled.{AreSpilled}
 use Rattle.cm_dump.specs.declared.writer.Func.{Func}
 use Rattle.cm_dump.specs.declared.writer.Func.TheVariants as func
 

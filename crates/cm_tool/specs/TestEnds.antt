@@ -1,15 +1,15 @@
 -- How a test ends, by its outcome over files with known contents.
 use Rattle.std.specs.Prelude.{◌≡◌, ◌≢◌, ◌⊎◌, ◌++◌, ℕ, List, [], ◌∷◌, codes, take, Option, Result, Ok, Err}
-use Rattle.cm_algorithm.specs.declared.algorithm.Algorithm.{Algorithm}
-use Rattle.cm_algorithm.specs.declared.algorithm.Algorithm.TheVariants.{Chm, Bdz, BdzPh}
+use Rattle.cm_algo_names.specs.declared.algorithm.Algorithm.{Algorithm}
+use Rattle.cm_algo_names.specs.declared.algorithm.Algorithm.TheVariants.{Chm, Bdz, BdzPh}
 use Rattle.cm_io.specs.Causes.{Rose}
 use Rattle.cm_io.specs.Files.{Files}
 use Rattle.cm_io.specs.Writing.{then_bytes}
-use Rattle.cm_steps.specs.Ends.{Says}
-use Rattle.cm_steps.specs.Messages.{cannot_use_spill, cannot_write_out, keys_changed, line_too_long, no_keys, out_of_memory, reason_message, spill_damaged, too_many_keys}
-use Rattle.cm_steps.specs.declared.stop.Reason.{Reason}
-use Rattle.cm_steps.specs.declared.stop.Stop.TheVariants.{Memory, Read, Refused, Spill, Write, WriteOut}
-use Rattle.cm_steps.specs.declared.stop.Stop.{Stop}
+use Rattle.cm_tool_files.specs.Ends.{Says}
+use Rattle.cm_tool_files.specs.Messages.{cannot_use_spill, cannot_write_out, keys_changed, line_too_long, no_keys, out_of_memory, reason_message, spill_damaged, too_many_keys}
+use Rattle.cm_tool_files.specs.declared.stop.Reason.{Reason}
+use Rattle.cm_tool_files.specs.declared.stop.Stop.TheVariants.{Memory, Read, Refused, Spill, Write, WriteOut}
+use Rattle.cm_tool_files.specs.declared.stop.Stop.{Stop}
 use Rattle.cm_tool.specs.Faults.{HasStopForm, IsReasonBy, UsesSpill, shown_core, shown_overfull}
 use Rattle.cm_tool.specs.Ending.{Outcome}
 use Rattle.cm_tool.specs.Tested.{test_outcome, test_verdict, tested_by}

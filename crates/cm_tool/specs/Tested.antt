@@ -1,18 +1,18 @@
 -- What a test job does: over generated keys each algorithm builds a function, which is saved and loaded, and answers every key.
 use Rattle.std.specs.Prelude.{ℕ, List, [], ◌∷◌, ◌++◌, codes, decimal, length, None, Result, Ok, Err}
-use Rattle.cm_algorithm.specs.Names.{name_of}
-use Rattle.cm_algorithm.specs.declared.algorithm.Algorithm.{Algorithm}
-use Rattle.cm_algorithm.specs.declared.algorithm.Algorithm.TheVariants.{Bdz, Brz}
+use Rattle.cm_algo_names.specs.Names.{name_of}
+use Rattle.cm_algo_names.specs.declared.algorithm.Algorithm.{Algorithm}
+use Rattle.cm_algo_names.specs.declared.algorithm.Algorithm.TheVariants.{Bdz, Brz}
 use Rattle.cm_dump.specs.Dumps.{dump_of}
 use Rattle.cm_dump.specs.Functions.{answer_by}
 use Rattle.cm_dump.specs.declared.writer.Func.{Func}
-use Rattle.cm_made.specs.Texts.{made_text}
-use Rattle.cm_numbers.specs.Options.{algorithms, usual_ratio}
+use Rattle.cm_keys_made.specs.Texts.{made_text}
+use Rattle.cm_words_values.specs.Options.{algorithms, usual_ratio}
 use Rattle.cm_io.specs.Files.{Files}
 use Rattle.cm_io.specs.Passes.{Told}
 use Rattle.cm_io.specs.Writing.{joined}
 use Rattle.cm_query.specs.Sums.{answer_sum}
-use Rattle.cm_steps.specs.Asked.{keys_in}
+use Rattle.cm_tool_files.specs.Asked.{keys_in}
 use Rattle.cm_tool.specs.Ending.{Outcome, printing, reporting}
 use Rattle.cm_tool.specs.Jobs.{seeds_of}
 use Rattle.cm_tool.specs.Verdict.{Shown, verdict_by}

@@ -1,19 +1,19 @@
 -- What a build makes of keys: a function, or a report on why there is none.
 use Rattle.std.specs.Prelude.{ℕ, List, length, slice_index, Option, None, Some, Result, Ok, Err}
-use Rattle.cm_algorithm.specs.declared.algorithm.Algorithm.{Algorithm}
-use Rattle.cm_algorithm.specs.declared.algorithm.Algorithm.TheVariants.{Chm, Bdz, BdzPh, Brz}
+use Rattle.cm_algo_names.specs.declared.algorithm.Algorithm.{Algorithm}
+use Rattle.cm_algo_names.specs.declared.algorithm.Algorithm.TheVariants.{Chm, Bdz, BdzPh, Brz}
 use Rattle.cm_bdz.specs.Numbering.{bdz_under, bdz_ph_under}
 use Rattle.cm_brz.specs.Found.{brz_under, bucket_report, first_cored, overfull_report}
-use Rattle.cm_split.specs.Split.{split_of}
-use Rattle.cm_buckets.specs.Functions.{bucket_count}
+use Rattle.cm_brz_split.specs.Split.{split_of}
+use Rattle.cm_brz_func.specs.Functions.{bucket_count}
 use Rattle.cm_dump.specs.declared.writer.Func.{Func}
 use Rattle.cm_dump.specs.declared.writer.Func.TheVariants as func
 use Rattle.cm_spec.specs.Bdz.{bdz_rule, bdz_ph_rule}
 use Rattle.cm_spec.specs.Built.{chm_under, first_seed}
 use Rattle.cm_spec.specs.Chm.{chm_rule}
 use Rattle.cm_spec.specs.Rule.{Rule}
-use Rattle.cm_steps.specs.declared.stop.Reason.TheVariants.{NoSeed, NoSeedFor, NoSplit}
-use Rattle.cm_steps.specs.declared.stop.Reason.{Reason}
+use Rattle.cm_tool_files.specs.declared.stop.Reason.TheVariants.{NoSeed, NoSeedFor, NoSplit}
+use Rattle.cm_tool_files.specs.declared.stop.Reason.{Reason}
 use Rattle.cm_tool.specs.Jobs.{seeds_tried}
 use Rattle.cm_witness.specs.Reports.{core_report}
 use Rattle.cm_words.specs.declared.jobs.BuildJob.{BuildJob}

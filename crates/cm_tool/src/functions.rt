@@ -1,9 +1,9 @@
 //! Functions of the algorithms, built over a pass of keys.
 ghost use Rattle.std.specs.Prelude.{◌≡◌, ◌<◌, ◌≤◌, length, slice_index, count_by, IfOk, IfErr};
 ghost use Rattle.std.specs.Option.{ForSome};
-ghost use Rattle.cm_algorithm.specs.declared.algorithm.Algorithm.TheVariants.{Brz};
+ghost use Rattle.cm_algo_names.specs.declared.algorithm.Algorithm.TheVariants.{Brz};
 ghost use Rattle.cm_dump.specs.Functions.{IsFunction};
-ghost use Rattle.cm_seeds.specs.Fails.{FailsBuild, HasBuildCause, HasForm, HasNumbers};
+ghost use Rattle.cm_algo_seeds.specs.Fails.{FailsBuild, HasBuildCause, HasForm, HasNumbers};
 ghost use Rattle.cm_spec.specs.Cells.{is_busy};
 ghost use Rattle.cm_spec.specs.Rule.{IsRatio};
 ghost use Rattle.cm_tool.specs.Faults.{FailsFunc, HasFuncCause, HasStopForm, stop_for};
@@ -14,7 +14,7 @@ ghost use Rattle.cm_tool.specs.Spills.{HasSpilled, UnlessSpilled};
 use crate::fault::{FuncFault, fault_of_brz};
 use crate::plan::Plan;
 use cm_algo::{BuildFault, Built, Scheme, build};
-use cm_algorithm::Algorithm;
+use cm_algo_names::Algorithm;
 use cm_bdz::{Bdz, BdzPh, BdzPhScheme, BdzScheme, PartsFault};
 use cm_brz::build::brz;
 use cm_brz::verdicts;

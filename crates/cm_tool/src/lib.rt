@@ -11,5 +11,5 @@ mod testing;
 mod top;
 
 pub use crate::top::run;
-pub use cm_made::MadeKeys;
-pub use cm_steps::{print_help, print_version, report_no_memory};
+pub use cm_keys_made::MadeKeys;
+pub use cm_tool_files::{print_help, print_version, report_no_memory};

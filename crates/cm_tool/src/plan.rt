@@ -3,7 +3,7 @@ ghost use Rattle.std.specs.Prelude.{◌≡◌};
 ghost use Rattle.cm_tool.specs.Plans.{IsPlan, plan_for};
 ghost use Rattle.cm_words.specs.Limits.{IsBuild};
 
-use cm_algorithm::Algorithm;
+use cm_algo_names::Algorithm;
 use cm_words::BuildJob;
 
 /// How a function is built: the algorithm, the ratio of vertices to keys in millionths, the parameter -b, and BRZ's buffer in bytes.

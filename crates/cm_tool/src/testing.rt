@@ -1,14 +1,14 @@
 //! Tests over generated keys.
 ghost use Rattle.std.specs.Prelude.{◌≡◌, ◌≢◌, ◌<◌, ◌≤◌, ◌^◌, ◌⊎◌, ◌↔◌, ℕ, List, [], ◌∷◌, None, Some, Ok, IfOk, IfErr, true};
 ghost use Rattle.std.specs.Option.{ForSome};
-ghost use Rattle.cm_algorithm.specs.declared.algorithm.Algorithm.{Algorithm};
+ghost use Rattle.cm_algo_names.specs.declared.algorithm.Algorithm.{Algorithm};
 ghost use Rattle.cm_dump.specs.Functions.{IsFunction, answer_by};
-ghost use Rattle.cm_numbers.specs.Limits.{IsBuffer};
-ghost use Rattle.cm_numbers.specs.Options.{bits_value, usual_ratio};
+ghost use Rattle.cm_words_values.specs.Limits.{IsBuffer};
+ghost use Rattle.cm_words_values.specs.Options.{bits_value, usual_ratio};
 ghost use Rattle.cm_io.specs.Causes.{HasCause, IsSent};
 ghost use Rattle.cm_io.specs.Writing.{Writes};
 ghost use Rattle.cm_query.specs.Sums.{answer_sum};
-ghost use Rattle.cm_steps.specs.Ends.{Says};
+ghost use Rattle.cm_tool_files.specs.Ends.{Says};
 ghost use Rattle.cm_tool.specs.Faults.{HasFuncCause, HasStopForm, stop_for};
 ghost use Rattle.cm_tool.specs.Leaves.{HasOutCause, HasStopCause, KeepsOut};
 ghost use Rattle.cm_tool.specs.Plans.{IsPlan};
@@ -22,13 +22,13 @@ use crate::building::{seeds, stop_of};
 use crate::fault::FuncFault;
 use crate::functions::func_of;
 use crate::plan::Plan;
-use cm_algorithm::Algorithm;
+use cm_algo_names::Algorithm;
 use cm_dump::{Func, saved_len};
 use cm_io::{Disk, Failed, KeyPass, Sink, write_pieces};
 use cm_keys::Keys;
-use cm_made::MadeKeys;
+use cm_keys_made::MadeKeys;
 use cm_query::sum_answers;
-use cm_steps::{Stop, reload, report, send_text};
+use cm_tool_files::{Stop, reload, report, send_text};
 use cm_words::TestJob;
 use itoa::Buffer;
 use std::alloc::Global;
@@ -100,7 +100,7 @@ fn build_generated<D: Disk>(
     ensures form { IfErr result (λ e. HasStopForm algorithm (stop_for e)) }
 {
     // A law, for the proof alone.
-    cm_made::laws::lines();
+    cm_keys_made::laws::lines();
     let mut keys = generated_pass(job.keys);
     let tried = seeds(job.seed, job.count);
     let built = func_of::<Keys<MadeKeys>, D, Brand>(
@@ -127,7 +127,7 @@ fn generated_sum(function: &Func, n: u32) -> u64
     ensures sum { result ≡ answer_sum (answer_by function.now) (generated n).keys }
 {
     // A law, for the proof alone.
-    cm_made::laws::lines();
+    cm_keys_made::laws::lines();
     let mut keys = generated_pass(n);
     let summed = sum_answers(function, &mut keys);
     // The text of the keys never fails.

@@ -1,7 +1,7 @@
 -- How the gathering of a certificate ends.
 use Rattle.std.specs.Prelude.{◌≡◌, ◌≢◌, ◌⊎◌, ℕ, ◌+◌, ◌<◌, ◌≤◌, length, Bool, true, false, None, Some, Result, Ok, Err}
-use Rattle.cm_algorithm.specs.declared.algorithm.Algorithm.{Algorithm}
-use Rattle.cm_algorithm.specs.declared.algorithm.Algorithm.TheVariants.{Chm, Bdz, BdzPh, Brz}
+use Rattle.cm_algo_names.specs.declared.algorithm.Algorithm.{Algorithm}
+use Rattle.cm_algo_names.specs.declared.algorithm.Algorithm.TheVariants.{Chm, Bdz, BdzPh, Brz}
 use Rattle.cm_io.specs.Passes.{Told, HasKeyCause}
 use Rattle.cm_io.specs.declared.key_pass.KeyFault.{KeyFault}
 use Rattle.cm_io.specs.declared.key_pass.KeyFault.TheVariants.{Read, TooLong, TooMany}

@@ -1,7 +1,7 @@
 -- The text of a certificate.
 use Rattle.std.specs.Prelude.{ℕ, List, [], ◌∷◌, ◌++◌, length, map, Option, None, Some, codes, decimal}
-use Rattle.cm_algorithm.specs.Names.{name_of}
-use Rattle.cm_algorithm.specs.declared.algorithm.Algorithm.{Algorithm}
+use Rattle.cm_algo_names.specs.Names.{name_of}
+use Rattle.cm_algo_names.specs.declared.algorithm.Algorithm.{Algorithm}
 use Rattle.cm_io.specs.Writing.{joined}
 use Rattle.cm_spec.specs.Rule.{Rule}
 use Rattle.cm_witness.specs.Cores.{edges_left, pairs_left}

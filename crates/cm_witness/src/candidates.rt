@@ -2,7 +2,7 @@
 ghost use Rattle.std.specs.Prelude.{◌≡◌, ◌/◌, ◌%◌, ◌^◌, ◌<◌, ◌≤◌, ℕ, List, length, All, IfOk, true};
 ghost use Rattle.cm_witness.specs.Candidates.{FindsEqual, bits_of, is_once, is_twice, mixed, word_of};
 
-use cm_edges::Edges;
+use cm_graph_edges::Edges;
 use std::alloc::{AllocError, Global};
 use std::marker::Model;
 

@@ -1,6 +1,6 @@
 //! What a failed build shows.
 
-use cm_algorithm::Algorithm;
+use cm_algo_names::Algorithm;
 use cm_io::KeyFault;
 
 /// A bucket of keys: the seed that split the keys into buckets, and the bucket's number, from 0.

@@ -13,8 +13,8 @@ ghost use Rattle.cm_witness.specs.declared.certificate.GatherFault.TheVariants a
 use crate::candidates::Candidates;
 use crate::certificate::{Certificate, CoreEdge, GatherFault, InBucket};
 use crate::firsts::EqualKeys;
-use cm_algorithm::Algorithm;
-use cm_edges::Edges;
+use cm_algo_names::Algorithm;
+use cm_graph_edges::Edges;
 use cm_io::{KeyBuf, KeyFault, KeyPass};
 use std::alloc::{AllocError, Global};
 

@@ -1,6 +1,6 @@
 //! Worked examples of reports, and a law of pairs.
 ghost use Rattle.std.specs.Prelude.{◌≡◌, ℕ, List, ◌∷◌, ◌++◌, Some, Contains, codes};
-ghost use Rattle.cm_algorithm.specs.declared.algorithm.Algorithm.TheVariants as algorithm;
+ghost use Rattle.cm_algo_names.specs.declared.algorithm.Algorithm.TheVariants as algorithm;
 ghost use Rattle.cm_spec.specs.Bdz.{bdz_rule};
 ghost use Rattle.cm_spec.specs.Chm.{chm_rule};
 ghost use Rattle.cm_spec.specs.Examples.{a_and_b, empty_and_a, two_empty};

@@ -11,7 +11,7 @@ mod table;
 
 pub use candidates::count_candidates;
 pub use certificate::{Certificate, CoreEdge, GatherFault, InBucket, Pair};
-pub use cm_algorithm::Algorithm;
+pub use cm_algo_names::Algorithm;
 pub use firsts::{EqualKeys, equal_pairs};
 pub use gathering::{expect_end, gather, gather_with};
 pub use laws::{each_paired, reports};

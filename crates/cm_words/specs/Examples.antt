@@ -1,7 +1,7 @@
 -- Arguments and jobs that the worked examples are about.
 use Rattle.std.specs.Prelude.{ℕ, ◌==◌, ◌++◌, List, [], ◌∷◌, codes, false, None, if◌then◌else◌}
 use Rattle.clap.specs.Words.{Text}
-use Rattle.cm_algorithm.specs.declared.algorithm.Algorithm.TheVariants.{Chm}
+use Rattle.cm_algo_names.specs.declared.algorithm.Algorithm.TheVariants.{Chm}
 use Rattle.cm_words.specs.declared.jobs.BuildJob.{BuildJob}
 use Rattle.cm_words.specs.declared.jobs.QueryJob.{QueryJob}
 use Rattle.cm_words.specs.declared.jobs.TestJob.{TestJob}

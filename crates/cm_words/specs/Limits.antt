@@ -1,8 +1,8 @@
 -- The ranges of what a job asks for.
 use Rattle.std.specs.Prelude.{◌≡◌, Bool, true}
 use Rattle.std.specs.Option.{ForSome}
-use Rattle.cm_algorithm.specs.declared.algorithm.Algorithm.TheVariants.{Bdz, Brz}
-use Rattle.cm_numbers.specs.Limits.{AreInRange, IsBuffer, IsCount, IsFirst, IsTestSize}
+use Rattle.cm_algo_names.specs.declared.algorithm.Algorithm.TheVariants.{Bdz, Brz}
+use Rattle.cm_words_values.specs.Limits.{AreInRange, IsBuffer, IsCount, IsFirst, IsTestSize}
 use Rattle.cm_words.specs.declared.jobs.BuildJob.{BuildJob}
 use Rattle.cm_words.specs.declared.jobs.Job.{Job}
 use Rattle.cm_words.specs.declared.jobs.Job.TheVariants.{Build, Query, Test}

@@ -2,7 +2,7 @@
 use Rattle.std.specs.Prelude.{ℕ, ◌++◌, Bool, true, false, List, [], ◌∷◌, codes, Option, Some, None, Ok, Err, if◌then◌else◌, unwrap_or}
 use Rattle.clap.specs.Words.{Kinds, Row, Text, fault_of, first_of, matches_of}
 use Rattle.cm_words.specs.Command.{cmph_app}
-use Rattle.cm_numbers.specs.Options.{and_then}
+use Rattle.cm_words_values.specs.Options.{and_then}
 use Rattle.cm_words.specs.Options.{Read, as_usage, is_counted, is_set, values_of}
 use Rattle.cm_words.specs.declared.fault.UsageFault.TheVariants.{NoFile, Words}
 use Rattle.cm_words.specs.declared.jobs.BuildJob.{BuildJob}

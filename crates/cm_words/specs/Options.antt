@@ -3,7 +3,7 @@ use Rattle.std.specs.Prelude.{Bool, false, nat_lt, List, codes, Result, Ok, Err,
 use Rattle.std.specs.Option.{option_map_or}
 use Rattle.std.specs.Str.{bytes_eq}
 use Rattle.clap.specs.Words.{Row, Text, count_of, first_of}
-use Rattle.cm_numbers.specs.Options.{Checked, algorithm_value, and_then, bits_value, buffer_value, count_value, first_value, hash_value, ratio_value, seed_value, test_value}
+use Rattle.cm_words_values.specs.Options.{Checked, algorithm_value, and_then, bits_value, buffer_value, count_value, first_value, hash_value, ratio_value, seed_value, test_value}
 use Rattle.cm_words.specs.declared.fault.UsageFault.{UsageFault}
 use Rattle.cm_words.specs.declared.fault.UsageFault.TheVariants.{BadValue}
 use Rattle.cm_words.specs.declared.values.Values.{Values}

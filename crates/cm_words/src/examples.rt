@@ -2,8 +2,8 @@
 #![tactic(auto, unfolding(crate::specs::Meaning::job_of, crate::specs::Command::with_argument, clap::proofs::OnLiterals::clap_on_literals))]
 
 ghost use Rattle.std.specs.Prelude.{◌≡◌, ◌∷◌, [], Ok, Err, Some, None, true, codes};
-ghost use Rattle.cm_algorithm.specs.declared.algorithm.Algorithm.TheVariants.{Bdz, BdzPh, Brz};
-ghost use Rattle.cm_numbers.specs.Digits.{millionths_of, whole_of};
+ghost use Rattle.cm_algo_names.specs.declared.algorithm.Algorithm.TheVariants.{Bdz, BdzPh, Brz};
+ghost use Rattle.cm_words_values.specs.Digits.{millionths_of, whole_of};
 ghost use Rattle.cm_words.specs.Examples.{plain_build, plain_query, plain_test, query_of_file, typed};
 ghost use Rattle.cm_words.specs.Meaning.{job_of};
 ghost use Rattle.cm_words.specs.declared.fault.UsageFault.TheVariants.{BadValue, NoFile, Words};

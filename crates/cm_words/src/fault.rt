@@ -5,7 +5,7 @@ ghost use Rattle.cm_words.specs.Refusals.{fault_of_kind};
 ghost use Rattle.cm_words.specs.declared.fault.UsageFault.TheVariants.{BadValue, Memory};
 
 use clap::error::ErrorKind;
-use cm_numbers::BadValue as BadOption;
+use cm_words_values::BadValue as BadOption;
 use std::alloc::{AllocError, AllocFailed};
 use thiserror::Error;
 

@@ -1,6 +1,6 @@
 //! What the program is asked to do.
 use crate::Text;
-use cm_algorithm::Algorithm;
+use cm_algo_names::Algorithm;
 
 /// A build: a function over the keys of a file, saved in another.
 #[derive(Debug, Drop)]

@@ -9,7 +9,7 @@ mod reading;
 mod texts;
 mod values;
 
-pub use cm_numbers::{millionths, whole};
+pub use cm_words_values::{millionths, whole};
 pub use fault::UsageFault;
 pub use jobs::{BuildJob, Job, QueryJob, TestJob};
 pub use reading::read_words;

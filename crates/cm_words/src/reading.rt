@@ -1,7 +1,7 @@
 //! The job of the arguments.
 ghost use Rattle.std.specs.Prelude.{◌≡◌, ◌⊎◌, Err, IfErr, IfOk, IsNone, IsOk, Ok, codes, false, map, option_map, string_bytes, true};
 ghost use Rattle.clap.specs.Words.{first_of, found_of, rows_of};
-ghost use Rattle.cm_numbers.specs.Limits.{IsTestSize};
+ghost use Rattle.cm_words_values.specs.Limits.{IsTestSize};
 ghost use Rattle.cm_words.specs.Limits.{AreValues, IsBuild, IsJob, IsTest};
 ghost use Rattle.cm_words.specs.Meaning.{build_of, directory_of, function_of, job_of, job_of_rows, job_over, query_of, test_of};
 ghost use Rattle.cm_words.specs.Options.{is_build};

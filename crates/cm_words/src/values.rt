@@ -5,8 +5,8 @@ ghost use Rattle.cm_words.specs.Limits.{AreValues};
 ghost use Rattle.cm_words.specs.Options.{is_build, is_counted, is_set, values_of};
 
 use clap::ArgMatches;
-use cm_algorithm::Algorithm;
-use cm_numbers::{BadValue, algorithm, bits, buffer, count, first, hash, ratio, seed, test};
+use cm_algo_names::Algorithm;
+use cm_words_values::{BadValue, algorithm, bits, buffer, count, first, hash, ratio, seed, test};
 
 /// The values of the options that are tested.
 #[derive(Clone, Copy, Debug)]

@@ -3,10 +3,10 @@ use Rattle.cm_spec.specs.Built.{graph_of}
 use Rattle.cm_spec.specs.Rounds.{rest_of}
 use Rattle.cm_witness.specs.Cores.{EqualKeysMeet, keys_at}
 use Rattle.cm_witness.specs.Pairs.{pairs}
-use Rattle.cm_seeds.specs.Fails.{HasBuildCause, ShowsCore, build_fault_of}
-use Rattle.cm_seeds.specs.CoredLaws.{cause_on, fails_pass, handed_on, no_form, none_found, numbers_of, refused}
-use Rattle.cm_seeds.specs.EqualKeysLaws.{equal_keys_meet, none_works}
-use Rattle.cm_seeds.specs.OneSeedLaws.{no_keys, steps_both, steps_one}
+use Rattle.cm_algo_seeds.specs.Fails.{HasBuildCause, ShowsCore, build_fault_of}
+use Rattle.cm_algo_seeds.specs.CoredLaws.{cause_on, fails_pass, handed_on, no_form, none_found, numbers_of, refused}
+use Rattle.cm_algo_seeds.specs.EqualKeysLaws.{equal_keys_meet, none_works}
+use Rattle.cm_algo_seeds.specs.OneSeedLaws.{no_keys, steps_both, steps_one}
 use Rattle.cm_algo.proofs.builds.build.Goals as goal
 
 pub returns-in_err-built-clause-steps : goal.returns-in_err-built-clause-steps

@@ -1,8 +1,8 @@
 use Rattle.std.proofs.Common.{arith, ◌∙◌, ℕ, ap, subst, sum, take}
 use Rattle.std.proofs.lemmas.List.Sums.{sum_by_more, sum_by_more_le}
-use Rattle.cm_split.specs.Puts.{keys_in_bucket}
+use Rattle.cm_brz_split.specs.Puts.{keys_in_bucket}
 use Rattle.cm_brz.specs.BrzOf.{PushesBucket}
-use Rattle.cm_buckets.specs.Functions.{Brz}
+use Rattle.cm_brz_func.specs.Functions.{Brz}
 use Rattle.cm_brz.proofs.Pushes.{built_more, more_keys_in, one_bucket_more, same_but_buckets, steps_more}
 use Rattle.cm_brz.proofs.buckets.build_buckets.Goals as goal
 

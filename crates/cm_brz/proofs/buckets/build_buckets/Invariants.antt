@@ -1,8 +1,8 @@
 use Rattle.std.proofs.Common.{◌≡◌, ◌≤◌, ◌+◌, ◌*◌, ℕ, List, true, length, sum, take}
 use Rattle.cm_brz.specs.BrzOf.{AreBuilt}
-use Rattle.cm_split.specs.Puts.{keys_in_bucket}
-use Rattle.cm_split.specs.Records.{Record}
-use Rattle.cm_buckets.specs.Functions.{keys_in}
+use Rattle.cm_brz_split.specs.Puts.{keys_in_bucket}
+use Rattle.cm_brz_split.specs.Records.{Record}
+use Rattle.cm_brz_func.specs.Functions.{keys_in}
 use Rattle.cm_brz.proofs.buckets.build_buckets.Given as goal
 
 abbrev pub invariant-loop-j : goal.invariant-loop-j

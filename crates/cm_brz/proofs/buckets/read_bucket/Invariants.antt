@@ -1,6 +1,6 @@
 use Rattle.std.proofs.Common.{◌≡◌, List, true, length}
-use Rattle.cm_split.specs.BucketPass.{last_line}
-use Rattle.cm_split.specs.Records.{Record}
+use Rattle.cm_brz_split.specs.BucketPass.{last_line}
+use Rattle.cm_brz_split.specs.Records.{Record}
 use Rattle.cm_brz.proofs.Reading.{AreRead}
 use Rattle.cm_brz.proofs.buckets.read_bucket.Given as goal
 

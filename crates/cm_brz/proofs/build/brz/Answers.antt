@@ -1,5 +1,5 @@
 use Rattle.std.proofs.Common.{◌∙◌, sym}
-use Rattle.cm_split.specs.SpilledLaws.{new_holds, spilled}
+use Rattle.cm_brz_split.specs.SpilledLaws.{new_holds, spilled}
 use Rattle.cm_brz.proofs.build.brz.Goals as goal
 
 pub returns-clause-spilled : goal.returns-clause-spilled

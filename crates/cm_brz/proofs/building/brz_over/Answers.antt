@@ -1,8 +1,8 @@
 use Rattle.std.proofs.Common.{arith, ◌≡◌, ◌∙◌, ℕ, List, ap, get_or, length, sym, subst, Some, Option}
 use Rattle.cm_brz.specs.BrzOf.{AreBuilt}
 use Rattle.cm_brz.specs.Fails.{FailsBuckets}
-use Rattle.cm_split.specs.Puts.{keys_in_bucket, records_under}
-use Rattle.cm_buckets.specs.Functions.{Brz, Bucket, bucket_count}
+use Rattle.cm_brz_split.specs.Puts.{keys_in_bucket, records_under}
+use Rattle.cm_brz_func.specs.Functions.{Brz, Bucket, bucket_count}
 use Rattle.cm_brz.proofs.Pushes.{no_keys}
 use Rattle.cm_brz.proofs.Whole.{brz_of, fails_whole, returned}
 use Rattle.cm_brz.proofs.building.brz_over.Goals as goal

@@ -1,7 +1,7 @@
 use Rattle.std.proofs.Common.{arith, ◌≡◌, ◌∙◌, ℕ, get_or, length, ap, sym, subst, refl, Some, length-append, length-drop}
 use Rattle.std.proofs.lemmas.List.{length-take}
-use Rattle.cm_split.specs.Split.{split_of}
-use Rattle.cm_buckets.specs.Functions.{bucket_count}
+use Rattle.cm_brz_split.specs.Split.{split_of}
+use Rattle.cm_brz_func.specs.Functions.{bucket_count}
 use Rattle.cm_brz.proofs.Whole.{refuses_at}
 use Rattle.cm_brz.proofs.building.split_keys.Goals as goal
 

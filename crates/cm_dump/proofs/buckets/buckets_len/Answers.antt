@@ -1,7 +1,7 @@
 use Rattle.std.proofs.Common.{◌≡◌, ◌∙◌, ◌<◌, ◌≤◌, ℕ, List, length, ap, arith}
 use Rattle.std.specs.Prelude.{slice_index_or}
 use Rattle.std.proofs.lemmas.List.FromFn.{length-map-range_with_len}
-use Rattle.cm_buckets.specs.Functions.{Bucket, no_bucket}
+use Rattle.cm_brz_func.specs.Functions.{Bucket, no_bucket}
 use Rattle.cm_spec.specs.Image.{packed_byte, packed_len}
 use Rattle.cm_dump.proofs.BucketLemmas.{length-buckets_more}
 use Rattle.cm_dump.proofs.PartLemmas.{bucket_short}

@@ -1,5 +1,5 @@
 use Rattle.std.proofs.Common.{◌≡◌, ◌∙◌, ◌+◌, ◌≤◌, ℕ, List, length, ap, arith, refl, subst, sym, Err, Ok}
-use Rattle.cm_buckets.specs.Functions.{Brz, bucket_count}
+use Rattle.cm_brz_func.specs.Functions.{Brz, bucket_count}
 use Rattle.cm_dump.specs.declared.piece.TheConstants.{ENOUGH}
 use Rattle.cm_dump.specs.Reading.{Fails, HasLoadCause, IsPart}
 use Rattle.cm_dump.specs.Spelling.{left_of}

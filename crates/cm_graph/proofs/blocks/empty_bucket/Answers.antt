@@ -1,7 +1,7 @@
 use Rattle.std.proofs.Common.{◌≡◌, ◌∙◌, ◌<◌, ◌++◌, ◌∷◌, [], ap, refl, sym, subst, arith, length, set}
 use Rattle.std.proofs.lemmas.List.{length_push}
 use Rattle.std.proofs.Math.ListN.{length-set}
-use Rattle.cm_edges.specs.Graph.{Links}
+use Rattle.cm_graph_edges.specs.Graph.{Links}
 use Rattle.cm_graph.proofs.Linking.{links_eq}
 use Rattle.cm_graph.specs.Next.{AreNext}
 use Rattle.cm_graph.specs.Waiting.{AreSplit, times_of, waiting_in}

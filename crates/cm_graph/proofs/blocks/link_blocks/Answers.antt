@@ -1,5 +1,5 @@
 use Rattle.std.proofs.Common.{List, ℕ, arith, subst, sym}
-use Rattle.cm_edges.specs.Graph.{Links}
+use Rattle.cm_graph_edges.specs.Graph.{Links}
 use Rattle.cm_graph.specs.Waiting.{AreFirst, AreSplit}
 use Rattle.cm_graph.proofs.Splitting.{bare_first, bare_split, count_none}
 use Rattle.cm_graph.proofs.blocks.link_blocks.Goals as goal

@@ -1,6 +1,6 @@
 use Rattle.std.proofs.Common.{◌≡◌, ◌+◌, ◌∙◌, List, ℕ, [], get_or, sym, ap, arith, subst}
 use Rattle.std.proofs.lemmas.Option.{get_or_from_slice_get}
-use Rattle.cm_edges.specs.Graph.{AreDegreesWithin, Links, linked}
+use Rattle.cm_graph_edges.specs.Graph.{AreDegreesWithin, Links, linked}
 use Rattle.cm_graph.proofs.Degrees.{within_first}
 use Rattle.cm_graph.proofs.Linking.{linked_first, linked_more}
 use Rattle.cm_graph.proofs.halves.link_each.Goals as goal

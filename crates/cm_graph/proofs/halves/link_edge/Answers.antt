@@ -1,8 +1,8 @@
 use Rattle.std.proofs.Common.{◌≡◌, ◌+◌, ◌*◌, ◌/◌, ◌<◌, ℕ, List, [], Option, length, get_or, set, take, false, rules, arith, refl, ap, sym, subst, ◌∙◌}
 use Rattle.std.proofs.lemmas.Option.{slice_get_within}
-use Rattle.cm_edges.specs.Graph.{Links, degree_of, linked, halves_of, slot_touches}
+use Rattle.cm_graph_edges.specs.Graph.{Links, degree_of, linked, halves_of, slot_touches}
 use Rattle.cm_graph.specs.Next.{AreNext, halves_at}
-use Rattle.cm_edges.specs.declared.incidence.Half.{Half}
+use Rattle.cm_graph_edges.specs.declared.incidence.Half.{Half}
 use Rattle.cm_graph.proofs.Degrees.{room_at}
 use Rattle.cm_graph.proofs.Positions.{place_edge, place_position}
 use Rattle.cm_graph.proofs.Linking.{links_eq, relinked, linked_bare, linked_next, linked_apart, few_edges}

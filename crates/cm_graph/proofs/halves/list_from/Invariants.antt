@@ -1,5 +1,5 @@
 use Rattle.std.proofs.Common.{◌≡◌, ◌≤◌, ◌+◌, length, take}
-use Rattle.cm_edges.specs.Graph.{alone_from}
+use Rattle.cm_graph_edges.specs.Graph.{alone_from}
 use Rattle.cm_graph.proofs.halves.list_from.Given as goal
 
 abbrev pub invariant-loop-i : goal.invariant-loop-i

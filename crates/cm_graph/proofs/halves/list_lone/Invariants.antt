@@ -1,5 +1,5 @@
 use Rattle.std.proofs.Common.{◌≡◌, ◌≤◌, ◌+◌, take}
-use Rattle.cm_edges.specs.Graph.{places_of}
+use Rattle.cm_graph_edges.specs.Graph.{places_of}
 use Rattle.cm_graph.proofs.halves.list_lone.Given as goal
 
 abbrev pub invariant-loop-half : goal.invariant-loop-half

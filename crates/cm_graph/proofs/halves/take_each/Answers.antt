@@ -1,7 +1,7 @@
 use Rattle.std.proofs.Common.{◌≡◌, ◌/◌, ◌%◌, ◌<◌, ℕ, List, [], Option, None, get_or, set, take, arith, ap, sym, subst, ◌∙◌}
-use Rattle.cm_edges.specs.Graph.{Links, removed, removed_all}
+use Rattle.cm_graph_edges.specs.Graph.{Links, removed, removed_all}
 use Rattle.cm_graph.specs.Next.{AreNext}
-use Rattle.cm_edges.specs.declared.incidence.Half.{Half}
+use Rattle.cm_graph_edges.specs.declared.incidence.Half.{Half}
 use Rattle.cm_graph.proofs.Linking.{links_eq}
 use Rattle.cm_graph.proofs.Removing.{removed_next, removed_more, removed_all-vertices, next_there}
 use Rattle.cm_graph.proofs.halves.take_each.Goals as goal

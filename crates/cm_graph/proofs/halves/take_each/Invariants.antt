@@ -1,5 +1,5 @@
 use Rattle.std.proofs.Common.{◌≡◌, ◌+◌, take}
-use Rattle.cm_edges.specs.Graph.{removed_all}
+use Rattle.cm_graph_edges.specs.Graph.{removed_all}
 use Rattle.cm_graph.proofs.halves.take_each.Given as goal
 
 abbrev pub invariant-loop-half : goal.invariant-loop-half

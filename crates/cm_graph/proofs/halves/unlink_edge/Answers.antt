@@ -1,8 +1,8 @@
 use Rattle.std.proofs.Common.{◌≡◌, ◌-◌, ◌+◌, ◌*◌, ◌<◌, ℕ, List, Option, length, get_or, set, take, set-set, rules, arith, refl, ap, sym, subst, ◌∙◌}
 use Rattle.std.proofs.lemmas.Option.{slice_get_within}
-use Rattle.cm_edges.specs.Graph.{Links, linked, halves_of}
+use Rattle.cm_graph_edges.specs.Graph.{Links, linked, halves_of}
 use Rattle.cm_graph.specs.Next.{AreNext}
-use Rattle.cm_edges.specs.declared.incidence.Half.{Half}
+use Rattle.cm_graph_edges.specs.declared.incidence.Half.{Half}
 use Rattle.cm_graph.proofs.Positions.{place_edge, place_position}
 use Rattle.cm_graph.proofs.Linking.{links_eq, linked_whole, linked_next, few_edges}
 use Rattle.cm_graph.proofs.halves.unlink_edge.Goals as goal

@@ -1,5 +1,5 @@
 use Rattle.std.proofs.Common.{◌≡◌, ◌+◌, take}
-use Rattle.cm_edges.specs.Graph.{linked}
+use Rattle.cm_graph_edges.specs.Graph.{linked}
 use Rattle.cm_graph.proofs.halves.unlink_edge.Given as goal
 
 abbrev pub invariant-loop-j : goal.invariant-loop-j

@@ -3,8 +3,8 @@ use Rattle.std.specs.List.{All}
 use Rattle.std.proofs.Math.Seq.{take-add}
 use Rattle.std.proofs.lemmas.List.{take_all}
 use Rattle.cm_spec.specs.Graph.{AreEdges}
-use Rattle.cm_edges.specs.declared.incidence.Half.{Half}
-use Rattle.cm_edges.specs.Graph.{Graph, Links, places_of, removed_all}
+use Rattle.cm_graph_edges.specs.declared.incidence.Half.{Half}
+use Rattle.cm_graph_edges.specs.Graph.{Graph, Links, places_of, removed_all}
 use Rattle.cm_peel.specs.declared.freed.Plan.{Plan}
 use Rattle.cm_peel.specs.AtRound.{AreTaken}
 use Rattle.cm_peel.specs.Waiting.{AreOpen, AtPart, InTaking, Leads, halves_in}

@@ -1,5 +1,5 @@
 use Rattle.std.proofs.Common.{◌≡◌, ◌≤◌, ◌+◌, ◌-◌, ◌*◌, ◌/◌, ◌++◌, ℕ, List, length, map, take}
-use Rattle.cm_edges.specs.Graph.{Graph, removed_all}
+use Rattle.cm_graph_edges.specs.Graph.{Graph, removed_all}
 use Rattle.cm_peel.specs.Waiting.{AtPart, InTaking, IsSameTaking, halves_in, marked_of}
 use Rattle.cm_peel.proofs.Incident.{place_in}
 use Rattle.cm_peel.proofs.blocks.empty.Given as goal

@@ -1,5 +1,5 @@
 use Rattle.std.proofs.Common.{◌≡◌, ◌≤◌, ◌<◌, ◌+◌, ◌-◌, ◌*◌, ℕ, List, get_or, length, sum}
-use Rattle.cm_edges.specs.Graph.{Graph}
+use Rattle.cm_graph_edges.specs.Graph.{Graph}
 use Rattle.cm_peel.specs.Waiting.{IsSameTaking, AtTaking, marked_of}
 use Rattle.cm_peel.proofs.blocks.empty_all.Given as goal
 

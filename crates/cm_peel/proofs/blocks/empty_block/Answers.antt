@@ -1,7 +1,7 @@
 use Rattle.std.proofs.Common.{◌≡◌, ℕ, List, ◌++◌, map, ◌+◌, ◌-◌, ◌*◌, ◌<◌, ◌≤◌, length, get_or, set, take, drop, refl, sym, ap, subst, arith, length-drop}
 use Rattle.std.proofs.Math.ListN.{length-set}
 use Rattle.std.proofs.lemmas.List.{length-take-le}
-use Rattle.cm_edges.specs.Graph.{Graph, Links}
+use Rattle.cm_graph_edges.specs.Graph.{Graph, Links}
 use Rattle.cm_peel.specs.declared.freed.Plan.{Plan}
 use Rattle.cm_peel.specs.Waiting.{AtBlocks, AtPart, InBlocks, InTaking, halves_in, waiting_in}
 use Rattle.cm_peel.proofs.Incident.{place_in}

@@ -2,7 +2,7 @@ use Rattle.std.proofs.Common.{◌≡◌, ◌∙◌, ℕ, suc, ◌+◌, ◌*◌, 
 use Rattle.std.specs.List.Sorted.{IsSorted}
 use Rattle.std.proofs.lemmas.List.{length-take-le}
 use Rattle.cm_spec.specs.Rounds.{left_after, removed_after}
-use Rattle.cm_edges.specs.Graph.{Graph, Links}
+use Rattle.cm_graph_edges.specs.Graph.{Graph, Links}
 use Rattle.cm_peel.specs.AtRound.{InRound, other_places}
 use Rattle.cm_peel.specs.Marks.{IsUnmarked, is_marked}
 use Rattle.cm_peel.specs.Waiting.{AreEmpty, AreTables, IsRoom, InTaking, marked_of}

@@ -2,8 +2,8 @@ use Rattle.std.proofs.Common.{◌≡◌, ◌≢◌, ◌∙◌, ℕ, List, [], �
 use Rattle.std.proofs.lemmas.List.Sums.{sum_by-set}
 use Rattle.std.proofs.lemmas.Bool.{cases_eq}
 use Rattle.std.proofs.lemmas.List.{get_or_default}
-use Rattle.cm_edges.specs.declared.incidence.Half.{Half}
-use Rattle.cm_edges.specs.Graph.{Graph, Links}
+use Rattle.cm_graph_edges.specs.declared.incidence.Half.{Half}
+use Rattle.cm_graph_edges.specs.Graph.{Graph, Links}
 use Rattle.cm_peel.specs.declared.freed.Plan.{Plan}
 use Rattle.cm_peel.specs.Waiting.{AtBlocks, CanWait, IsEnd, IsOpen, put_room}
 use Rattle.cm_peel.proofs.Incident.{place_in}

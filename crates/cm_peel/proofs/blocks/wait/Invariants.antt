@@ -1,5 +1,5 @@
 use Rattle.std.proofs.Common.{◌≡◌, ◌≤◌, ◌+◌, ◌*◌, ◌++◌, ℕ, List, length, map, sum, take}
-use Rattle.cm_edges.specs.Graph.{Graph}
+use Rattle.cm_graph_edges.specs.Graph.{Graph}
 use Rattle.cm_peel.specs.Waiting.{CanWait, IsOpen, IsSameTaking, AtTaking, marked_of}
 use Rattle.cm_peel.proofs.Incident.{place_in}
 use Rattle.cm_peel.proofs.blocks.wait.Given as goal

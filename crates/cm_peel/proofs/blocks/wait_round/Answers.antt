@@ -6,8 +6,8 @@ use Rattle.std.proofs.Math.Nat.{mul-le-mul_left}
 use Rattle.std.proofs.lemmas.List.{length-take-le}
 use Rattle.std.proofs.lemmas.List.Elements.{All-take, All-drop}
 use Rattle.cm_spec.specs.Rounds.{removed_after}
-use Rattle.cm_edges.specs.declared.incidence.Half.{Half}
-use Rattle.cm_edges.specs.Graph.{Graph}
+use Rattle.cm_graph_edges.specs.declared.incidence.Half.{Half}
+use Rattle.cm_graph_edges.specs.Graph.{Graph}
 use Rattle.cm_peel.specs.AtRound.{other_places}
 use Rattle.cm_peel.specs.Incident.{other_halves_all, pivot_in}
 use Rattle.cm_peel.specs.Waiting.{AtBlocks, CanWait}

@@ -1,5 +1,5 @@
 use Rattle.std.proofs.Common.{◌≡◌, ◌+◌, length, map, take}
-use Rattle.cm_edges.specs.Graph.{degree_of}
+use Rattle.cm_graph_edges.specs.Graph.{degree_of}
 use Rattle.cm_peel.proofs.chunk.degrees_of.Given as goal
 
 abbrev pub invariant-loop-i : goal.invariant-loop-i

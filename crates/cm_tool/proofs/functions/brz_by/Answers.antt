@@ -1,5 +1,5 @@
 use Rattle.std.proofs.Common.{arith, ◌≡◌, ◌∙◌, ◌≤◌, ℕ, List, [], length, Option, None, Some, true, is_some, refl, ap}
-use Rattle.cm_buckets.specs.Functions.{bucket_count}
+use Rattle.cm_brz_func.specs.Functions.{bucket_count}
 use Rattle.cm_tool.proofs.Builds.{BrzLaws, brz_cause, brz_fails, brz_from}
 use Rattle.cm_tool.proofs.functions.brz_by.Goals as goal
 

@@ -2,7 +2,7 @@ use Rattle.std.proofs.Common.{◌≡◌, ◌∙◌, Result, Ok, Err, sym, subst,
 use Rattle.std.specs.Prelude.{IfErr}
 use Rattle.std.specs.Option.{ForSome}
 use Rattle.std.specs.Result.{IsErrAnd}
-use Rattle.cm_algorithm.specs.declared.algorithm.Algorithm.TheVariants.{Bdz, BdzPh, Chm}
+use Rattle.cm_algo_names.specs.declared.algorithm.Algorithm.TheVariants.{Bdz, BdzPh, Chm}
 use Rattle.cm_bits.specs.PackedLaws.{AllBelow-packed_cells}
 use Rattle.cm_tool.proofs.Builds.{bdz_fails, bdz_from, bdz_ph_fails, bdz_ph_from, build_cause, build_form, chm_fails, chm_from}
 use Rattle.cm_tool.specs.Faults.{FailsFunc, HasStopForm, stop_for}

@@ -1,13 +1,13 @@
 use Rattle.std.proofs.Common.{◌≡◌, ◌∙◌, ℕ, ◌≤◌, List, [], length, Some, refl, ap, sym, subst, arith}
 use Rattle.std.specs.FinMap as map
-use Rattle.cm_algorithm.specs.declared.algorithm.Algorithm.{Algorithm}
-use Rattle.cm_algorithm.specs.declared.algorithm.Algorithm.TheVariants.{Bdz, BdzPh, Brz, Chm}
+use Rattle.cm_algo_names.specs.declared.algorithm.Algorithm.{Algorithm}
+use Rattle.cm_algo_names.specs.declared.algorithm.Algorithm.TheVariants.{Bdz, BdzPh, Brz, Chm}
 use Rattle.cm_bdz.specs.Functions as bdz
 use Rattle.cm_bdz.specs.Functions.{bdz_answer, bdz_ph_answer}
 use Rattle.cm_bdz.specs.Numbering.{AnswersApart, bdz_ph_under, bdz_under}
 use Rattle.cm_brz.specs.BrzOf.{IsBrzOf}
-use Rattle.cm_buckets.specs.Functions as buckets
-use Rattle.cm_buckets.specs.Functions.{brz_answer}
+use Rattle.cm_brz_func.specs.Functions as buckets
+use Rattle.cm_brz_func.specs.Functions.{brz_answer}
 use Rattle.cm_chm.specs.Numbering.{AnswersNumbers}
 use Rattle.cm_dump.specs.Spelling.{spelling_of}
 use Rattle.cm_dump.specs.declared.writer.Func.{Func}

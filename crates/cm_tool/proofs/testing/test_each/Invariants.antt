@@ -1,8 +1,8 @@
 use Rattle.std.proofs.Common.{◌≡◌, ◌++◌, ℕ, List, Option, Result, take}
 use Rattle.std.specs.Option.{ForSome}
-use Rattle.cm_algorithm.specs.declared.algorithm.Algorithm.{Algorithm}
+use Rattle.cm_algo_names.specs.declared.algorithm.Algorithm.{Algorithm}
 use Rattle.cm_io.specs.Causes.{IsSent}
-use Rattle.cm_steps.specs.declared.stop.Stop.{Stop}
+use Rattle.cm_tool_files.specs.declared.stop.Stop.{Stop}
 use Rattle.cm_tool.specs.TestEnds.{EndsTest}
 use Rattle.cm_tool.specs.Tested.{tested_by}
 use Rattle.cm_tool.proofs.testing.test_each.Given as goal

@@ -1,6 +1,6 @@
 use Rattle.std.proofs.Common.{◌≡◌, ◌<◌, ◌≤◌, All, is_some, length, slice_index, take, true, vec_capacity}
 use Rattle.std.specs.Option.{ForSome}
-use Rattle.cm_algorithm.specs.declared.algorithm.Algorithm.{Algorithm}
+use Rattle.cm_algo_names.specs.declared.algorithm.Algorithm.{Algorithm}
 use Rattle.cm_witness.specs.Cores.{core_edges, keys_at}
 use Rattle.cm_witness.specs.Gathers.{ends_of, has_third}
 use Rattle.cm_witness.specs.Noted.{AreNoted}

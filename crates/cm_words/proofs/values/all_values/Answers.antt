@@ -1,6 +1,6 @@
 use Rattle.std.proofs.Common.{◌≡◌, ◌∙◌, Ok, ap, codes, refl, sym}
 use Rattle.clap.specs.Words.{first_of, found_of, rows_of}
-use Rattle.cm_numbers.specs.Options.{algorithm_value, bits_value, buffer_value, count_value, first_value, hash_value, ratio_value, seed_value, test_value}
+use Rattle.cm_words_values.specs.Options.{algorithm_value, bits_value, buffer_value, count_value, first_value, hash_value, ratio_value, seed_value, test_value}
 use Rattle.cm_words.specs.Options.{is_build}
 use Rattle.cm_words.proofs.values.all_values.Goals as goal
 

@@ -1,6 +1,6 @@
 use Rattle.std.proofs.Common.{◌≡◌, ◌/◌, ◌<◌, List, Option, ℕ, false, length, ap, refl, sym, subst, arith}
 use Rattle.std.proofs.lemmas.List.Sums.{count_by-le-length}
-use Rattle.cm_edges.specs.Graph.{Links, slot_touches}
+use Rattle.cm_graph_edges.specs.Graph.{Links, slot_touches}
 use Rattle.cm_graph.specs.Next.{AreNext, halves_at}
 use Rattle.cm_graph.proofs.Positions.{apart_more, count_below}
 use Rattle.cm_graph.proofs.Chaining.{chained_more, degree_is}

@@ -1,5 +1,5 @@
 use Rattle.std.proofs.Common.{◌≡◌, ◌<◌, ◌∙◌, List, Option, ℕ, length, ap, sym, subst}
-use Rattle.cm_edges.specs.Graph.{Links}
+use Rattle.cm_graph_edges.specs.Graph.{Links}
 use Rattle.cm_graph.specs.Next.{AreNext}
 use Rattle.cm_graph.specs.Chained.{chain_without, next_without}
 use Rattle.cm_graph.specs.declared.linked.Chain.{Chain}

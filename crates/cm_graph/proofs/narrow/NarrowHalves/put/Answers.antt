@@ -1,6 +1,6 @@
 use Rattle.std.proofs.Common.{◌≡◌, ◌/◌, ◌<◌, List, Option, ℕ, false, length, ap, refl, sym, subst, arith}
 use Rattle.std.proofs.lemmas.Bool.{false≢true}
-use Rattle.cm_edges.specs.Graph.{Links, degree_of, slot_touches}
+use Rattle.cm_graph_edges.specs.Graph.{Links, degree_of, slot_touches}
 use Rattle.cm_graph.specs.Next.{AreNext, halves_at}
 use Rattle.cm_graph.proofs.Words.{words_more, word_degree_is, xor_small, xor_whole, small_place}
 use Rattle.cm_graph.proofs.narrow.NarrowHalves.put.Goals as goal

@@ -1,5 +1,5 @@
 use Rattle.std.proofs.Common.{◌≡◌, ◌/◌, ◌<◌, ◌≤◌, List, Option, ℕ, length, ap, sym, subst, arith}
-use Rattle.cm_edges.specs.Graph.{Links}
+use Rattle.cm_graph_edges.specs.Graph.{Links}
 use Rattle.cm_graph.specs.Next.{AreNext}
 use Rattle.cm_graph.proofs.Positions.{long}
 use Rattle.cm_graph.proofs.Words.{words_less, word_has_degree, xor_whole, small_place}

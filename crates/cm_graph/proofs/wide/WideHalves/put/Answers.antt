@@ -1,5 +1,5 @@
 use Rattle.std.proofs.Common.{◌≡◌, ◌/◌, ◌<◌, List, Option, ℕ, false, length, ap, refl, sym, subst, arith}
-use Rattle.cm_edges.specs.Graph.{Links, slot_touches}
+use Rattle.cm_graph_edges.specs.Graph.{Links, slot_touches}
 use Rattle.cm_graph.specs.Next.{AreNext, halves_at}
 use Rattle.cm_graph.proofs.Shares.{kept_more, few_degree}
 use Rattle.cm_graph.proofs.Positions.{count_below}

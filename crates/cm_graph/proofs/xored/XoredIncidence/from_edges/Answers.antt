@@ -1,5 +1,5 @@
 use Rattle.std.proofs.Common.{sym, subst}
-use Rattle.cm_edges.specs.Graph.{Graph}
+use Rattle.cm_graph_edges.specs.Graph.{Graph}
 use Rattle.cm_graph.specs.Choice.{FitNarrow}
 use Rattle.cm_graph.proofs.xored.XoredIncidence.from_edges.Goals as goal
 

@@ -1,0 +1,14 @@
+use Rattle.std.proofs.Common.{◌≡◌, ◌≤◌, true}
+use Rattle.cm_algo_seeds.proofs.passes.count_all.Given as goal
+
+abbrev pub invariant-loop-turn : goal.invariant-loop-turn
+invariant-loop-turn g l =
+    let P = g.P.KeyPass in
+    record {
+      ready : P.usable l.keys ≡ true;
+      same : P.told l.keys ≡ P.told l.fn.keys;
+      quiet : P.faults l.keys ≡ P.faults l.fn.keys;
+      at : P.place l.keys ≡ l.count;
+      some : l.turn ≤ l.count;
+      few : l.count ≤ 16777216;
+    }

@@ -1,0 +1,172 @@
+use Rattle.std.proofs.Common.{arith, ◌≡◌, ◌≤◌, ◌∙◌, ℕ, ◌+◌, ◌*◌, length, refl, subst, sym, get_or}
+use Rattle.cm_witness.specs.Cores.{EqualKeysMeet}
+use Rattle.cm_algo_seeds.specs.Fails.{HasBuildCause, build_fault_of}
+use Rattle.cm_algo_seeds.specs.CoredLaws.{cause_on, fails_pass, handed_on, no_form, numbers_of, refused}
+use Rattle.cm_algo_seeds.specs.EqualKeysLaws.{equal_keys_meet}
+use Rattle.cm_algo_seeds.specs.OneSeedLaws.{steps_both, steps_one}
+use Rattle.cm_algo_seeds.proofs.seeds.build_with.Goals as goal
+
+pub returns-in_err-built-clause-steps : goal.returns-in_err-built-clause-steps
+returns-in_err-built-clause-steps g c = λ told is. steps_one g.row.K (length told.keys) (length told.keys) _ _ _ (c.build_first.ensures.steps told is) refl c.requires.some
+
+pub returns-in-Ok-clause-many : goal.returns-in-Ok-clause-many
+returns-in-Ok-clause-many g c = (rw c.in-Ok.is at c.in_ok-built.ensures.made).many
+
+pub returns-in-Ok-clause-cells : goal.returns-in-Ok-clause-cells
+returns-in-Ok-clause-cells g c = (rw c.in-Ok.is at c.in_ok-built.ensures.made).sizes
+
+pub returns-in-Ok-clause-busy : goal.returns-in-Ok-clause-busy
+returns-in-Ok-clause-busy g c = (rw c.in-Ok.is at c.in_ok-built.ensures.made).busy
+
+pub returns-in-Ok-clause-seed : goal.returns-in-Ok-clause-seed
+returns-in-Ok-clause-seed g c = (rw c.in-Ok.is at c.in_ok-built.ensures.made).chosen
+
+pub returns-in-Ok-clause-first : goal.returns-in-Ok-clause-first
+returns-in-Ok-clause-first g c = rw c.in-Ok.is at c.in_ok-built.ensures.first
+
+pub returns-in-Ok-clause-steps : goal.returns-in-Ok-clause-steps
+returns-in-Ok-clause-steps g c = λ told is. steps_one g.row.K (length told.keys) (length told.keys) _ _ _ (c.build_first.ensures.steps told is) refl c.requires.some
+
+pub build_later-requires-clause-many : goal.build_later-requires-clause-many
+build_later-requires-clause-many g c = let many = rw c.in-Err.is at c.in_ok-built.ensures.long in
+    (omega (arith, c.len-m.ensures.count, many.0), omega (arith, c.len-m.ensures.count, many.1))
+
+pub build_later-requires-clause-ratio : goal.build_later-requires-clause-ratio
+build_later-requires-clause-ratio g c = c.requires.ratio
+
+pub build_later-requires-clause-some : goal.build_later-requires-clause-some
+build_later-requires-clause-some g c = c.requires.some
+
+pub build_later-requires-clause-left : goal.build_later-requires-clause-left
+build_later-requires-clause-left g c = λ told is.
+    let left = rw c.in-Err.is at c.in_ok-built.ensures.left in
+    (left told (sym c.build_first.ensures.told ∙ is)).left
+
+pub returns-in_err-later-in-Err-clause-told : goal.returns-in_err-later-in-Err-clause-told
+returns-in_err-later-in-Err-clause-told g c = c.build_later.ensures.told ∙ c.build_first.ensures.told
+
+pub returns-in_err-later-in-Err-clause-fault : goal.returns-in_err-later-in-Err-clause-fault
+returns-in_err-later-in-Err-clause-fault g c =
+    let fault = c.in_err-later-in-Err.field-0.0 in
+    let left = rw c.in-Err.is at c.in_ok-built.ensures.left in
+    handed_on c.from_residual-in_err-later-in-Err.result (build_fault_of fault) _ c.from_residual-in_err-later-in-Err.ensures.1
+    (λ told is. fails_pass (g.S.Scheme.rule c.args.scheme.now) told c.args.c c.args.seeds.now _ fault (c.len-m.ensures.count ∙ (left told is).many) (c.in_err-later-in-Err.ensures.fault told (c.build_first.ensures.told ∙ is)))
+
+pub returns-in_err-later-in-Err-clause-cause : goal.returns-in_err-later-in-Err-clause-cause
+returns-in_err-later-in-Err-clause-cause g c =
+    let P = g.P.KeyPass in
+    let fault = c.in_err-later-in-Err.field-0.0 in
+    subst (λ (before : ℕ). HasBuildCause before (P.faults c.build_later.new.keys) c.from_residual-in_err-later-in-Err.result) c.in_ok-built.ensures.cause
+    (cause_on _ _ (P.faults c.build_later.new.keys) c.from_residual-in_err-later-in-Err.result fault c.from_residual-in_err-later-in-Err.ensures.1 c.in_err-later-in-Err.ensures.cause)
+
+pub returns-in_err-later-in-Err-clause-numbers : goal.returns-in_err-later-in-Err-clause-numbers
+returns-in_err-later-in-Err-clause-numbers g c =
+    let fault = c.in_err-later-in-Err.field-0.0 in
+    let many = rw c.in-Err.is at c.in_ok-built.ensures.long in
+    handed_on c.from_residual-in_err-later-in-Err.result (build_fault_of fault) _ c.from_residual-in_err-later-in-Err.ensures.1 (numbers_of _ _ fault (omega (arith, c.len-m.ensures.count, many.0)) c.in_err-later-in-Err.ensures.changed)
+
+pub returns-in_err-later-in-Err-clause-certificate : goal.returns-in_err-later-in-Err-clause-certificate
+returns-in_err-later-in-Err-clause-certificate g c =
+    let fault = c.in_err-later-in-Err.field-0.0 in
+    handed_on c.from_residual-in_err-later-in-Err.result (build_fault_of fault) _ c.from_residual-in_err-later-in-Err.ensures.1 (no_form _ _ fault)
+
+pub returns-in_err-later-in-Err-clause-steps : goal.returns-in_err-later-in-Err-clause-steps
+returns-in_err-later-in-Err-clause-steps g c = λ told is.
+    let left = rw c.in-Err.is at c.in_ok-built.ensures.left in
+    steps_both g.row.K c.len-m.result (length told.keys) c.args.steps.now _ _ _ (c.len-m.ensures.count ∙ (left told is).many) (c.build_first.ensures.steps told is) c.build_later.ensures.steps
+
+pub returns-in-Some-clause-told : goal.returns-in-Some-clause-told
+returns-in-Some-clause-told g c = c.build_later.ensures.told ∙ c.build_first.ensures.told
+
+pub returns-in-Some-clause-cause : goal.returns-in-Some-clause-cause
+returns-in-Some-clause-cause g c = c.in_ok-later-in-Err.ensures.cause ∙ c.in_ok-built.ensures.cause
+
+pub returns-in-Some-clause-many : goal.returns-in-Some-clause-many
+returns-in-Some-clause-many g c = (rw c.in-Some.is at c.in_ok-later-in-Err.ensures.made).many
+
+pub returns-in-Some-clause-cells : goal.returns-in-Some-clause-cells
+returns-in-Some-clause-cells g c = (rw c.in-Some.is at c.in_ok-later-in-Err.ensures.made).sizes
+
+pub returns-in-Some-clause-busy : goal.returns-in-Some-clause-busy
+returns-in-Some-clause-busy g c = (rw c.in-Some.is at c.in_ok-later-in-Err.ensures.made).busy
+
+pub returns-in-Some-clause-seed : goal.returns-in-Some-clause-seed
+returns-in-Some-clause-seed g c = (rw c.in-Some.is at c.in_ok-later-in-Err.ensures.made).chosen
+
+pub returns-in-Some-clause-first : goal.returns-in-Some-clause-first
+returns-in-Some-clause-first g c = λ told is.
+    let left = rw c.in-Err.is at c.in_ok-built.ensures.left in
+    let made = rw c.in-Some.is at c.in_ok-later-in-Err.ensures.first in
+    let same : c.len-m.result ≡ length told.keys = c.len-m.ensures.count ∙ (left told is).many in
+    ((left told is).ended, made c.args.steps.now (subst (λ (m : ℕ). c.build_first.new.steps ≤ c.args.steps.now + 8 * (g.row.K * m)) (sym same) (c.build_first.ensures.steps told is)) told (c.build_first.ensures.told ∙ is))
+
+pub returns-in-Some-clause-steps : goal.returns-in-Some-clause-steps
+returns-in-Some-clause-steps g c = λ told is.
+    let left = rw c.in-Err.is at c.in_ok-built.ensures.left in
+    steps_both g.row.K c.len-m.result (length told.keys) c.args.steps.now _ _ _ (c.len-m.ensures.count ∙ (left told is).many) (c.build_first.ensures.steps told is) c.build_later.ensures.steps
+
+pub certify-requires : goal.certify-requires
+certify-requires g c =
+    let left = rw c.in-Err.is at c.in_ok-built.ensures.left in (
+      omega arith,
+      (
+        rw c.in-Err.is at c.in_ok-built.ensures.peeled,
+        λ told is. subst (EqualKeysMeet told.keys) (sym (left told (sym (c.build_later.ensures.told ∙ c.build_first.ensures.told) ∙ is)).is) (equal_keys_meet (g.S.Scheme.rule c.args.scheme.now) told.keys c.args.c (get_or c.args.seeds.now 0 0)),
+      ),
+    )
+
+pub returns-in_err-certificate-in-None-clause-told : goal.returns-in_err-certificate-in-None-clause-told
+returns-in_err-certificate-in-None-clause-told g c = c.certify.ensures.told ∙ (c.build_later.ensures.told ∙ c.build_first.ensures.told)
+
+pub returns-in_err-certificate-in-None-clause-fault : goal.returns-in_err-certificate-in-None-clause-fault
+returns-in_err-certificate-in-None-clause-fault g c =
+    let fault = c.in_err-certificate-in-None.field-0.0 in
+    let left = rw c.in-Err.is at c.in_ok-built.ensures.left in
+    handed_on c.from_residual-in_err-certificate-in-None.result (build_fault_of fault) _ c.from_residual-in_err-certificate-in-None.ensures.1
+    (λ told is. fails_pass (g.S.Scheme.rule c.args.scheme.now) told c.args.c c.args.seeds.now _ fault ((left told is).many) (c.in_err-certificate-in-None.ensures.fault told (c.build_later.ensures.told ∙ (c.build_first.ensures.told ∙ is))))
+
+pub returns-in_err-certificate-in-None-clause-cause : goal.returns-in_err-certificate-in-None-clause-cause
+returns-in_err-certificate-in-None-clause-cause g c =
+    let P = g.P.KeyPass in
+    let fault = c.in_err-certificate-in-None.field-0.0 in
+    subst (λ (before : ℕ). HasBuildCause before (P.faults c.certify.new.keys) c.from_residual-in_err-certificate-in-None.result) (c.in_ok-later-in-Err.ensures.cause ∙ c.in_ok-built.ensures.cause)
+    (cause_on _ _ (P.faults c.certify.new.keys) c.from_residual-in_err-certificate-in-None.result fault c.from_residual-in_err-certificate-in-None.ensures.1 c.in_err-certificate-in-None.ensures.cause)
+
+pub returns-in_err-certificate-in-None-clause-numbers : goal.returns-in_err-certificate-in-None-clause-numbers
+returns-in_err-certificate-in-None-clause-numbers g c =
+    let fault = c.in_err-certificate-in-None.field-0.0 in
+    let many = rw c.in-Err.is at c.in_ok-built.ensures.long in
+    handed_on c.from_residual-in_err-certificate-in-None.result (build_fault_of fault) _ c.from_residual-in_err-certificate-in-None.ensures.1 (numbers_of _ _ fault many.0 c.in_err-certificate-in-None.ensures.changed)
+
+pub returns-in_err-certificate-in-None-clause-certificate : goal.returns-in_err-certificate-in-None-clause-certificate
+returns-in_err-certificate-in-None-clause-certificate g c =
+    let fault = c.in_err-certificate-in-None.field-0.0 in
+    handed_on c.from_residual-in_err-certificate-in-None.result (build_fault_of fault) _ c.from_residual-in_err-certificate-in-None.ensures.1 (no_form _ _ fault)
+
+pub returns-in_err-certificate-in-None-clause-steps : goal.returns-in_err-certificate-in-None-clause-steps
+returns-in_err-certificate-in-None-clause-steps g c = λ told is.
+    let left = rw c.in-Err.is at c.in_ok-built.ensures.left in
+    steps_both g.row.K c.len-m.result (length told.keys) c.args.steps.now _ _ _ (c.len-m.ensures.count ∙ (left told is).many) (c.build_first.ensures.steps told is) c.build_later.ensures.steps
+
+pub returns-clause-told : goal.returns-clause-told
+returns-clause-told g c = c.certify.ensures.told ∙ (c.build_later.ensures.told ∙ c.build_first.ensures.told)
+
+pub returns-clause-cause : goal.returns-clause-cause
+returns-clause-cause g c = c.in_ok-certificate-in-None.ensures.cause ∙ (c.in_ok-later-in-Err.ensures.cause ∙ c.in_ok-built.ensures.cause)
+
+pub returns-clause-fault : goal.returns-clause-fault
+returns-clause-fault g c = λ told is.
+    let left = rw c.in-Err.is at c.in_ok-built.ensures.left in
+    let many = rw c.in-Err.is at c.in_ok-built.ensures.long in
+    let was = left told is in
+    let none = rw c.in-None.is at c.in_ok-later-in-Err.ensures.none in
+    refused (g.S.Scheme.rule c.args.scheme.now) told c.args.c c.args.seeds.now c.in_ok-certificate-in-None.certificate (omega (arith, was.many, many.0)) was.ended (none told (c.build_first.ensures.told ∙ is))
+    (c.in_ok-certificate-in-None.ensures.shows told (c.build_later.ensures.told ∙ (c.build_first.ensures.told ∙ is)) c.args.c was.is)
+
+pub returns-clause-certificate : goal.returns-clause-certificate
+returns-clause-certificate g c = c.in_ok-certificate-in-None.ensures.form
+
+pub returns-clause-steps : goal.returns-clause-steps
+returns-clause-steps g c = λ told is.
+    let left = rw c.in-Err.is at c.in_ok-built.ensures.left in
+    steps_both g.row.K c.len-m.result (length told.keys) c.args.steps.now _ _ _ (c.len-m.ensures.count ∙ (left told is).many) (c.build_first.ensures.steps told is) c.build_later.ensures.steps

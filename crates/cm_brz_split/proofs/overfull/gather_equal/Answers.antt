@@ -1,0 +1,33 @@
+use Rattle.std.proofs.Common.{arith, rules, ◌∙◌, ℕ, ◌+◌, ap, sym}
+use Rattle.cm_brz_split.proofs.Equal.{byte_is, byte_most, noted_more, pairs_noted, size_noted}
+use Rattle.cm_brz_split.proofs.overfull.gather_equal.Goals as goal
+
+pub returns-in-None-clause-fault : goal.returns-in-None-clause-fault
+returns-in-None-clause-fault g c = λ told is.
+    let gone = rw c.in-None.is at c.in_ok-here.ensures.ends in
+    let ends = gone told (c.loop-count.invariant.same ∙ is) in
+    omega (arith, ends.all, (c.requires.counted told is).many, c.loop-count.invariant.at, c.loop-count-test.true)
+
+pub loop-count-preserved : goal.loop-count-preserved
+loop-count-preserved g c =
+    let before = c.loop-count.invariant in
+    let notes = rw c.in-Some.is at c.in_ok-here.ensures.notes in
+    let counts = rw c.in-Some.is at c.in_ok-here.ensures.counts in
+    record {
+      ready = search rules;
+      same = search rules;
+      quiet = search rules;
+      at = omega (arith, counts, before.at);
+      few = omega (arith, byte_most c.in-Some.here, before.few);
+      noted = λ told is. noted_more c.loop-count.found _ _ _ _ _ told.keys _ _ _ _ _ c.in-Some.here (before.noted told is) (notes told (before.same ∙ is)) (ap (λ (n : ℕ). c.loop-count.found + n) (byte_is c.in-Some.here));
+    }
+
+pub returns-then-found-over-clause-fault : goal.returns-then-found-over-clause-fault
+returns-then-found-over-clause-fault g c = λ told is.
+    let before = c.loop-count.invariant in
+    c.if-found-over.true (size_noted c.loop-count.found _ _ told.keys _ _ _ _ (before.noted told is) (c.in_ok-expect_end.ensures.end told (before.same ∙ is)).none_left ∙ sym (c.requires.over told is))
+
+pub returns-clause-equal : goal.returns-clause-equal
+returns-clause-equal g c = λ told is.
+    let before = c.loop-count.invariant in
+    pairs_noted c.loop-count.found _ _ told.keys _ _ _ _ _ (before.noted told is) (c.in_ok-expect_end.ensures.end told (before.same ∙ is)).none_left c.into_pairs.ensures

@@ -1,0 +1,88 @@
+//! The equal keys of an overfull bucket.
+ghost use Rattle.std.specs.Prelude.{◌≡◌, ◌+◌, ◌≤◌, drop, IfOk, IfErr, IfSome, IfNone, IsTrue, OnOk, None, true};
+ghost use Rattle.std.specs.Option.{ForSome};
+ghost use Rattle.cm_io.specs.Passes.{Ends};
+ghost use Rattle.cm_io.specs.declared.key_pass.TheConstants.{MAX_KEYS};
+ghost use Rattle.cm_witness.specs.Gathers.{HasGatherCause};
+ghost use Rattle.cm_witness.specs.Pairs.{pairs};
+ghost use Rattle.cm_brz_split.specs.Passes.{AreCounted, FailsAgain, HasTwo, NotesNext};
+ghost use Rattle.cm_brz_func.specs.Splitting.{keys_of_bucket};
+ghost use Rattle.cm_brz_split.specs.Split.{size_of_bucket};
+
+use crate::split::{Overfull, Split};
+use cm_io::{KeyBuf, KeyPass};
+use cm_witness::{EqualKeys, GatherFault, Pair, expect_end};
+use std::alloc::Global;
+
+/// Passes the next key, and notes it with its line if it is of this bucket. Returns whether it is, or none at the end. The buffer is
+/// scratch space.
+fn note_next<P: KeyPass>(
+    alloc: Global,
+    keys: &mut P,
+    key: &mut KeyBuf,
+    split: &Split,
+    bucket: u32,
+    equal: &mut EqualKeys,
+) -> Result<Option<bool>, GatherFault>
+    requires usable { IsTrue (P.usable keys.old) }
+    ensures told { P.told keys.new ≡ P.told keys.old }
+    ensures cause { HasGatherCause (P.faults keys.old) (P.faults keys.new) result }
+    ensures counts { IfOk result (λ o. IfSome o (λ _. P.place keys.new ≡ P.place keys.old + 1)) }
+    ensures usable { OnOk result (P.usable keys.new ≡ true) }
+    ensures notes { IfOk result (λ o. IfSome o (λ here. ForSome (P.told keys.old) (λ told. NotesNext (drop (P.place keys.old) told.keys) (drop (P.place keys.new) told.keys) split.now.buckets split.now.seed bucket here equal.old.firsts equal.old.pairs.items equal.new.firsts equal.new.pairs.items))) }
+    ensures ends { IfOk result (λ o. IfNone o (ForSome (P.told keys.old) (λ told. Ends told (P.place keys.old) None))) }
+    ensures differs { IfErr result HasTwo }
+    ensures fault { IfErr result (λ e. ForSome (P.told keys.old) (λ told. FailsAgain told e)) }
+{
+    if !keys.next(key)? {
+        return Ok(None);
+    }
+    let here = split.bucket_of(key.as_slice()) == bucket;
+    if here {
+        equal.note(alloc, keys.line(), key.as_slice())?;
+    }
+    Ok(Some(here))
+}
+
+/// The equal keys of an overfull bucket, as the first line that has the key and a later one, in the order of the later ones. The keys,
+/// which were counted, are passed once; of equal ones of the bucket one is kept. The buffer is scratch space.
+pub fn gather_equal<P: KeyPass>(
+    alloc: Global,
+    keys: &mut P,
+    key: &mut KeyBuf,
+    m: u32,
+    split: &Split,
+    over: Overfull,
+) -> Result<Vec<Pair>, GatherFault>
+    requires few { m ≤ MAX_KEYS }
+    requires counted { ForSome (P.told keys.old) (AreCounted m) }
+    requires over { ForSome (P.told keys.old) (λ told. over.count ≡ size_of_bucket told.keys split.now.buckets split.now.seed over.bucket) }
+    ensures told { P.told keys.new ≡ P.told keys.old }
+    ensures cause { HasGatherCause (P.faults keys.old) (P.faults keys.new) result }
+    ensures equal { IfOk result (λ equal. ForSome (P.told keys.old) (λ told. equal.items ≡ pairs (keys_of_bucket told.keys split.now.buckets split.now.seed over.bucket))) }
+    ensures differs { IfErr result HasTwo }
+    ensures fault { IfErr result (λ e. ForSome (P.told keys.old) (λ told. FailsAgain told e)) }
+{
+    let mut equal = EqualKeys::new(alloc, over.count as usize)?;
+    keys.rewind()?;
+    let mut found = 0;
+    for count in 0..m {
+        match note_next(alloc, keys, key, split, over.bucket, &mut equal)? {
+            Some(here) => found += here as u32,
+            None => {
+                return Err(GatherFault::Changed {
+                    first: m,
+                    now: count,
+                });
+            }
+        }
+    }
+    expect_end(keys, key, m)?;
+    if found != over.count {
+        return Err(GatherFault::Changed {
+            first: over.count,
+            now: found,
+        });
+    }
+    Ok(equal.into_pairs())
+}

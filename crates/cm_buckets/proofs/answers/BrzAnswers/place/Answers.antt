@@ -1,5 +1,0 @@
-use Rattle.std.proofs.Common.{rules}
-use Rattle.cm_buckets.proofs.answers.BrzAnswers.place.Goals as goal
-
-pub returns : goal.returns
-returns c = search rules

@@ -1,4 +1,0 @@
-use Rattle.cm_examples.proofs.graph.shows.Given as goal
-
-abbrev pub ghosts-shows_by : goal.ghosts-shows_by
-ghosts-shows_by g a = record { name = a.blank.name; parts = a.blank.parts }

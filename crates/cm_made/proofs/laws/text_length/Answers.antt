@@ -1,5 +1,0 @@
-use Rattle.cm_made.proofs.TextLemmas.{length-text}
-use Rattle.cm_made.proofs.laws.text_length.Goals as goal
-
-pub returns : goal.returns
-returns c = length-text

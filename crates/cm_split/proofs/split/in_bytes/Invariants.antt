@@ -1,8 +1,0 @@
-use Rattle.std.proofs.Common.{◌≡◌, ◌≤◌, length, take, vec_capacity}
-use Rattle.cm_split.proofs.split.in_bytes.Given as goal
-
-abbrev pub invariant-loop-size : goal.invariant-loop-size
-invariant-loop-size l = record {
-  room : length l.sizes ≤ vec_capacity l.bytes;
-  same : l.bytes.items ≡ take l.size-index l.sizes;
-}

@@ -1,9 +1,0 @@
-use Rattle.std.proofs.Common.{refl}
-use Rattle.cm_split.proofs.split.next_bucket.Goals as goal
-
-pub returns-clause-gives : goal.returns-clause-gives
-returns-clause-gives g c = λ told is. (
-  (g.P.KeyPass.last c.pass.new.self, c.in-Some.next.now),
-  c.pass.ensures.gives c.in-Some.next.now c.in-Some.ensures.stands refl told is,
-  c.bucket_of.ensures.bucket,
-)

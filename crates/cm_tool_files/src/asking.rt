@@ -1,0 +1,65 @@
+//! The keys of a file, answered by a function.
+ghost use Rattle.std.specs.Prelude.{◌≡◌, ◌+◌, ◌≤◌, ℕ, List, Err, IfOk, false};
+ghost use Rattle.std.specs.Option.{ForSome};
+ghost use Rattle.cm_dump.specs.Functions.{answer_by};
+ghost use Rattle.cm_io.specs.Causes.{IsSent};
+ghost use Rattle.cm_io.specs.Noting.{Noted};
+ghost use Rattle.cm_tool_files.specs.Asked.{EndsKeys, HasQueryStopCause, stop_from_query};
+ghost use Rattle.cm_tool_files.specs.declared.stop.QueryStop.{QueryStop};
+ghost use Rattle.cm_words.specs.declared.jobs.QueryJob.{QueryJob};
+
+use crate::stop::QueryStop;
+use cm_dump::Func;
+use cm_io::{Disk, DiskFault, KeyFault, Notes, Sink};
+use cm_keys::Keys;
+use cm_query::{QueryFault, Tally, query};
+use cm_words::QueryJob;
+use std::alloc::Global;
+
+/// Why a failed query of a pass stops a job.
+fn stop_of_query(fault: QueryFault) -> QueryStop
+    ensures stop { result ≡ stop_from_query fault }
+{
+    match fault {
+        QueryFault::Memory => QueryStop::Memory,
+        QueryFault::Key(KeyFault::Read) => QueryStop::Read,
+        QueryFault::Key(KeyFault::TooLong { line }) => QueryStop::TooLong { line },
+        QueryFault::Key(KeyFault::TooMany) => QueryStop::TooMany,
+        QueryFault::Write => QueryStop::Write,
+    }
+}
+
+/// Writes a function's answers to the keys of a keys file.
+pub(crate) fn ask_keys<D: Disk, O: Sink, E: Sink>(
+    alloc: Global,
+    function: &Func,
+    job: &QueryJob,
+    disk: &mut D,
+    out: &mut O,
+    err: &mut E,
+    notes: &mut Notes,
+) -> Result<Tally, QueryStop>
+    ensures files { D.files disk.new ≡ D.files disk.old }
+    ensures spilled { D.spilled disk.new ≡ D.spilled disk.old }
+    ensures cause { HasQueryStopCause (D.read_faults disk.old) (D.read_faults disk.new) (D.write_faults disk.old) (D.write_faults disk.new) (O.faults out.old) (O.faults out.new) result }
+    ensures memory { result ≡ Err QueryStop.Memory → O.written out.new ≡ O.written out.old }
+    ensures sent { O.waits out.old ≡ 0 → IsSent (O.waits out.new) (O.faults out.old) (O.faults out.new) }
+    ensures notes_sent { (notes.old ≡ false → E.waits err.old ≡ 0) → notes.new ≡ false → E.waits err.new ≡ 0 }
+    ensures within { IfOk result (λ tally. tally.repeated + tally.unknown ≤ tally.lines) }
+    ensures says { (text : List ℕ) × Noted notes.old notes.new (E.written err.old) (E.written err.new) (E.faults err.old) (E.faults err.new) text }
+    ensures told { ForSome (D.files disk.old) (λ files. (text : List ℕ) × Noted notes.old notes.new (E.written err.old) (E.written err.new) (E.faults err.old) (E.faults err.new) text
+        × EndsKeys (answer_by function.now) files job.now (O.written out.old) (O.written out.new) text result) }
+{
+    let reader = match disk.open(job.keys.as_str()) {
+        Ok(reader) => reader,
+        Err(DiskFault::Memory) => return Err(QueryStop::Memory),
+        Err(DiskFault::Failed) => return Err(QueryStop::Read),
+    };
+    let mut pass = Keys::new(reader, job.first);
+    let asked = query(alloc, function, &mut pass, out, err, notes);
+    disk.shut(pass.into_source());
+    match asked {
+        Ok(tally) => Ok(tally),
+        Err(fault) => Err(stop_of_query(fault)),
+    }
+}

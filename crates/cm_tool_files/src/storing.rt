@@ -1,0 +1,28 @@
+//! A function, saved as a file.
+ghost use Rattle.std.specs.Prelude.{◌≡◌};
+ghost use Rattle.cm_dump.specs.Dumps.{dump_of};
+ghost use Rattle.cm_io.specs.Causes.{HasDiskCause};
+ghost use Rattle.cm_tool_files.specs.Stores.{Stores};
+
+use cm_dump::{Func, save};
+use cm_io::{Disk, DiskFault, Failed};
+
+/// Makes the path hold the dump of a function.
+pub fn store<D: Disk>(path: &str, function: &Func, disk: &mut D) -> Result<(), DiskFault>
+    ensures files { Stores path.now (dump_of function.now) (D.files disk.old) (D.files disk.new) result }
+    ensures spilled { D.spilled disk.new ≡ D.spilled disk.old }
+    ensures read_faults { D.read_faults disk.new ≡ D.read_faults disk.old }
+    ensures cause { HasDiskCause (D.write_faults disk.old) (D.write_faults disk.new) result }
+{
+    let mut writer = disk.create(path)?;
+    match save(function, &mut writer) {
+        Ok(()) => match disk.close(path, writer) {
+            Ok(()) => Ok(()),
+            Err(Failed) => Err(DiskFault::Failed),
+        },
+        Err(Failed) => {
+            let _ = disk.close(path, writer);
+            Err(DiskFault::Failed)
+        }
+    }
+}
