@@ -17,6 +17,11 @@ HasKeyCause before now (Err Read) = (before ≤ now) × Rose before now
 HasKeyCause before now (Err (TooLong line)) = now ≡ before
 HasKeyCause before now (Err TooMany) = now ≡ before
 
+-- the fault that a call failed with, if it failed
+abbrev pub failure_of : {T : Type 0} → Result T KeyFault → Option KeyFault
+failure_of (Ok x) = None
+failure_of (Err fault) = Some fault
+
 -- The keys from the place on have come to their end, which is this fault or none.
 pub record Ends (told : Told) (place : ℕ) (fault : Option KeyFault) : Type 0 where
   pub none_left : drop place told.keys ≡ []

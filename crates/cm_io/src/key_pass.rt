@@ -1,6 +1,6 @@
-ghost use Rattle.std.specs.Prelude.{◌≡◌, ◌<◌, ◌≤◌, ◌+◌, ℕ, List, length, Option, Ok, Bool, true, false, OnOk, OnErr, IfOk, IfSome, IfNone, IsTrue, IsOkUnless, if◌then◌else◌};
+ghost use Rattle.std.specs.Prelude.{◌≡◌, ◌<◌, ◌≤◌, ◌+◌, ◌++◌, ℕ, List, [], ◌∷◌, length, map, Option, Ok, Bool, true, false, OnOk, OnErr, IfOk, IfSome, IfNone, IsTrue, IsOkUnless, if◌then◌else◌};
 ghost use Rattle.std.specs.Option.{ForSome};
-ghost use Rattle.cm_io.specs.Passes.{Told, HasKeyCause, GivesFour, GivesKey, PassesKeys};
+ghost use Rattle.cm_io.specs.Passes.{Told, HasKeyCause, GivesFour, GivesKey, PassesKeys, failure_of};
 ghost use Rattle.cm_spec.specs.Lookup2.{words};
 
 use arrayvec::ArrayVec;
@@ -31,6 +31,8 @@ pub enum KeyFault {
 
 /// A list of keys that can be passed again.
 pub trait KeyPass {
+    ghost use Rattle.cm_io.specs.declared.key_pass.KeyFault.{KeyFault};
+
     /// The keys with their lines and the fault at their end, if they are known.
     ghost told: { Self → Option Told };
 
@@ -45,6 +47,15 @@ pub trait KeyPass {
 
     /// How often what it reads from has failed.
     ghost faults: { Self → ℕ };
+
+    /// The fault that the last call of `next` or `rewind` failed with, if it failed.
+    ghost failure: { Self → Option KeyFault };
+
+    /// These are the keys that it has yielded since the last rewind, with their lines. It may be true of any list if the keys aren't known.
+    ghost gave: { Self → List (ℕ × List ℕ) → Type 0 };
+
+    /// The last call of `next` found no further key.
+    ghost at_end: { Self → Type 0 };
 
     /// The next key is buffered, and has these bytes.
     ghost stands: { Self → List ℕ → Type 0 };
@@ -67,6 +78,9 @@ pub trait KeyPass {
         ensures gives { ForSome (told self.old) (λ told.
             GivesKey told (place self.old) (place self.new) (last self.new) key.new.items result) }
         ensures cause { HasKeyCause (faults self.old) (faults self.new) result }
+        ensures failure { failure self.new ≡ failure_of result }
+        ensures gave { (keys : List (ℕ × List ℕ)) → gave self.old keys →
+            IfOk result (λ more. gave self.new (keys ++ (if more then (last self.new, key.new.items) ∷ [] else []))) }
 
         // A key is one more, of a later line.
         ensures counts { IfOk result (λ more. place self.new ≡ place self.old + (if more then 1 else 0)) }
@@ -75,6 +89,7 @@ pub trait KeyPass {
 
         // The end and a failure leave the place and the line as they are.
         ensures ended { IfOk result (λ more. more ≡ false → last self.new ≡ last self.old) }
+        ensures at_end { IfOk result (λ more. more ≡ false → at_end self.new) }
         ensures refused { OnErr result ((place self.new ≡ place self.old) × (last self.new ≡ last self.old)) }
         ensures usable { OnOk result (usable self.new ≡ true) }
         ensures unusable { OnErr result (usable self.new ≡ false) };
@@ -106,6 +121,8 @@ pub trait KeyPass {
         ensures told { told self.new ≡ told self.old }
         ensures gives { (key : List ℕ) → stands self.old key → length key ≡ len → ForSome (told self.old) (λ told.
             GivesKey told (place self.old) (place self.new) (last self.new) key (Ok true)) }
+        ensures gave { (keys : List (ℕ × List ℕ)) (key : List ℕ) → gave self.old keys → stands self.old key → length key ≡ len →
+            gave self.new (keys ++ (last self.new, key) ∷ []) }
         ensures cause { faults self.new ≡ faults self.old }
         ensures counts { place self.new ≡ place self.old + 1 }
         ensures few { place self.new ≤ MAX_KEYS }
@@ -119,6 +136,8 @@ pub trait KeyPass {
         requires usable { IsTrue (usable self.old) }
         ensures told { told self.new ≡ told self.old }
         ensures gives { IfSome result (λ four. ForSome (told self.old) (λ told. GivesFour told (place self.old) seed four)) }
+        ensures gave { IfSome result (λ four. (keys : List (ℕ × List ℕ)) → gave self.old keys →
+            (more : List (ℕ × List ℕ)) × (four ≡ map (λ key. words key.1 seed) more) × gave self.new (keys ++ more)) }
         ensures cause { faults self.new ≡ faults self.old }
         ensures counts { IfSome result (λ _. place self.new ≡ place self.old + 4) }
         ensures few { IfSome result (λ _. place self.new ≤ MAX_KEYS) }
@@ -134,6 +153,8 @@ pub trait KeyPass {
         requires usable { IsTrue (usable self.old) }
         ensures told { told self.new ≡ told self.old }
         ensures gives { 0 < result → ForSome (told self.old) (λ told. PassesKeys told (place self.new) (last self.new)) }
+        ensures gave { (keys : List (ℕ × List ℕ)) → gave self.old keys →
+            (more : List (ℕ × List ℕ)) × (length more ≡ result) × gave self.new (keys ++ more) }
         ensures cause { faults self.new ≡ faults self.old }
         ensures counts { place self.new ≡ place self.old + result }
         ensures few { 0 < result → place self.new ≤ MAX_KEYS }
@@ -148,8 +169,10 @@ pub trait KeyPass {
     fn rewind(&mut self) -> Result<(), KeyFault>
         ensures told { told self.new ≡ told self.old }
         ensures start { OnOk result ((place self.new ≡ 0) × (last self.new ≡ 0)) }
+        ensures gave { OnOk result (gave self.new []) }
         ensures read { IsOkUnless result KeyFault.Read }
         ensures cause { HasKeyCause (faults self.old) (faults self.new) result }
+        ensures failure { failure self.new ≡ failure_of result }
         ensures refused { OnErr result ((place self.new ≡ place self.old) × (last self.new ≡ last self.old)) }
         ensures usable { OnOk result (usable self.new ≡ true) }
         ensures unusable { OnErr result (usable self.new ≡ false) };
