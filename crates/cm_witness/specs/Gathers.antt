@@ -1,5 +1,5 @@
 -- How the gathering of a certificate ends.
-use Rattle.std.specs.Prelude.{◌≡◌, ◌≢◌, ◌⊎◌, ℕ, ◌+◌, ◌<◌, ◌≤◌, length, Bool, true, false, None, Some, Result, Ok, Err}
+use Rattle.std.specs.Prelude.{◌≡◌, ◌≢◌, ◌⊎◌, ℕ, ◌+◌, ◌<◌, ◌≤◌, length, Bool, true, false, Option, None, Some, Result, Ok, Err}
 use Rattle.cm_algo_names.specs.declared.algorithm.Algorithm.{Algorithm}
 use Rattle.cm_algo_names.specs.declared.algorithm.Algorithm.TheVariants.{Chm, Bdz, BdzPh, Brz}
 use Rattle.cm_io.specs.Passes.{Told, HasKeyCause}
@@ -35,6 +35,12 @@ HasGatherCause before now (Ok x) = now ≡ before
 HasGatherCause before now (Err Memory) = now ≡ before
 HasGatherCause before now (Err (Key fault)) = HasKeyCause {T = Unit {0}} before now (Err fault)
 HasGatherCause before now (Err (Changed first again)) = now ≡ before
+
+-- `Key` has the fault that the pass failed with last
+abbrev pub HasFailure : Option KeyFault → GatherFault → Type 0
+HasFailure failure Memory = Unit {0}
+HasFailure failure (Key fault) = failure ≡ Some fault
+HasFailure failure (Changed first now) = Unit {0}
 
 -- known keys, of which m were expected, have come to their end, which is this fault: unless the source has failed, there are no more
 -- than m

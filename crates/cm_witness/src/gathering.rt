@@ -5,7 +5,7 @@ ghost use Rattle.std.specs.Option.{ForSome};
 ghost use Rattle.cm_io.specs.Passes.{Ends, HasKeyCause, GivesKey};
 ghost use Rattle.cm_witness.specs.Candidates.{FindsEqual, is_twice};
 ghost use Rattle.cm_witness.specs.Cores.{EqualKeysMeet, core_edge as core_edge_of, core_edges, keys_at};
-ghost use Rattle.cm_witness.specs.Gathers.{FailsGather, HasGatherCause, HasOther, ends_of, has_buckets, has_third};
+ghost use Rattle.cm_witness.specs.Gathers.{FailsGather, HasFailure, HasGatherCause, HasOther, ends_of, has_buckets, has_third};
 ghost use Rattle.cm_witness.specs.Noted.{AreNoted, TakesKey};
 ghost use Rattle.cm_witness.specs.Pairs.{pairs};
 ghost use Rattle.cm_witness.specs.declared.certificate.GatherFault.TheVariants as gather_fault;
@@ -41,6 +41,7 @@ fn pass_next<P: KeyPass>(keys: &mut P, key: &mut KeyBuf) -> Result<bool, KeyFaul
     ensures told { P.told keys.new ≡ P.told keys.old }
     ensures gives { ForSome (P.told keys.old) (λ told. (next : List ℕ) × GivesKey told (P.place keys.old) (P.place keys.new) (P.last keys.new) next result) }
     ensures cause { HasKeyCause (P.faults keys.old) (P.faults keys.new) result }
+    ensures failed { IfErr result (λ fault. P.failure keys.new ≡ Some fault) }
     ensures counts { IfOk result (λ more. P.place keys.new ≡ P.place keys.old + (if more then 1 else 0)) }
     ensures usable { OnOk result (P.usable keys.new ≡ true) }
 {
@@ -65,6 +66,7 @@ fn pass_keys<P: KeyPass>(
     requires within { (from ≤ until) × (until ≤ m) }
     ensures told { P.told keys.new ≡ P.told keys.old }
     ensures cause { HasGatherCause (P.faults keys.old) (P.faults keys.new) result }
+    ensures failed { IfErr result (HasFailure (P.failure keys.new)) }
     ensures usable { OnOk result (P.usable keys.new ≡ true) }
     ensures at { OnOk result (P.place keys.new ≡ until) }
     ensures changed { IfErr result (HasOther m (P.place keys.new)) }
@@ -88,6 +90,7 @@ fn read_key<P: KeyPass>(keys: &mut P, key: &mut KeyBuf, e: u32, m: u32) -> Resul
     requires within { e < m }
     ensures told { P.told keys.new ≡ P.told keys.old }
     ensures cause { HasGatherCause (P.faults keys.old) (P.faults keys.new) result }
+    ensures failed { IfErr result (HasFailure (P.failure keys.new)) }
     ensures usable { OnOk result (P.usable keys.new ≡ true) }
     ensures at { OnOk result (P.place keys.new ≡ e + 1) }
     ensures gives { IfOk result (λ line. ForSome (P.told keys.old) (λ told. GivesKey told (P.place keys.old) (P.place keys.new) line key.new.items (Ok true))) }
@@ -107,6 +110,7 @@ fn pass_key<P: KeyPass>(keys: &mut P, key: &mut KeyBuf, e: u32, m: u32) -> Resul
     requires within { e < m }
     ensures told { P.told keys.new ≡ P.told keys.old }
     ensures cause { HasGatherCause (P.faults keys.old) (P.faults keys.new) result }
+    ensures failed { IfErr result (HasFailure (P.failure keys.new)) }
     ensures usable { OnOk result (P.usable keys.new ≡ true) }
     ensures at { OnOk result (P.place keys.new ≡ e + 1) }
     ensures gives { IfOk result (λ line. ForSome (P.told keys.old) (λ told. (next : List ℕ) × GivesKey told (P.place keys.old) (P.place keys.new) line next (Ok true))) }
@@ -134,6 +138,7 @@ fn take_key<P: KeyPass>(
     requires within { e < m }
     ensures told { P.told keys.new ≡ P.told keys.old }
     ensures cause { HasGatherCause (P.faults keys.old) (P.faults keys.new) result }
+    ensures failed { IfErr result (HasFailure (P.failure keys.new)) }
     ensures usable { OnOk result (P.usable keys.new ≡ true) }
     ensures at { OnOk result (P.place keys.new ≡ e + 1) }
     ensures gives { IfOk result (λ line. ForSome (P.told keys.old) (λ told. TakesKey told.keys e line candidate equal.old.firsts equal.old.pairs.items equal.new.firsts equal.new.pairs.items)) }
@@ -168,7 +173,10 @@ pub fn expect_end<P: KeyPass>(keys: &mut P, key: &mut KeyBuf, m: u32) -> Result<
     requires at { P.place keys.old ≡ m }
     ensures told { P.told keys.new ≡ P.told keys.old }
     ensures cause { HasGatherCause (P.faults keys.old) (P.faults keys.new) result }
+    ensures failed { IfErr result (HasFailure (P.failure keys.new)) }
     ensures given { OnOk result (P.place keys.new ≡ m) }
+    ensures at_end { OnOk result (P.at_end keys.new) }
+    ensures gave { (passed : List (ℕ × List ℕ)) → P.gave keys.old passed → OnOk result (P.gave keys.new passed) }
     ensures end { OnOk result (ForSome (P.told keys.old) (λ told. Ends told (P.place keys.old) None)) }
     ensures memory { result ≢ Err gather_fault.Memory }
     ensures changed { IfErr result (HasOther m (P.place keys.new)) }
@@ -196,6 +204,7 @@ fn pass_to_end<P: KeyPass>(
     requires within { from ≤ m }
     ensures told { P.told keys.new ≡ P.told keys.old }
     ensures cause { HasGatherCause (P.faults keys.old) (P.faults keys.new) result }
+    ensures failed { IfErr result (HasFailure (P.failure keys.new)) }
     ensures given { OnOk result (P.place keys.new ≡ m) }
     ensures end { OnOk result (ForSome (P.told keys.old) (λ told. (length told.keys ≡ m) × (told.fault ≡ None))) }
     ensures changed { IfErr result (HasOther m (P.place keys.new)) }
@@ -225,6 +234,7 @@ fn gather_edges<P: KeyPass, const K: usize>(
     requires none { AreNoted [] equal.old.firsts equal.old.pairs.items }
     ensures told { P.told keys.new ≡ P.told keys.old }
     ensures cause { HasGatherCause (P.faults keys.old) (P.faults keys.new) result }
+    ensures failed { IfErr result (HasFailure (P.failure keys.new)) }
     ensures count { IfOk result (λ core. length core.items ≡ length rest.now) }
     ensures third { (algorithm : Algorithm) → K ≡ ends_of algorithm → IfOk result (λ core. All (λ e. is_some e.third ≡ has_third algorithm) core.items) }
     ensures given { OnOk result (P.place keys.new ≡ length edges.now.edges) }
@@ -272,6 +282,7 @@ pub fn gather<P: KeyPass, const K: usize>(
     // Whatever is known of the keys.
     ensures told { P.told keys.new ≡ P.told keys.old }
     ensures cause { HasGatherCause (P.faults keys.old) (P.faults keys.new) result }
+    ensures failed { IfErr result (HasFailure (P.failure keys.new)) }
     ensures algorithm { IfOk result (λ made. made.algorithm ≡ algorithm) }
     ensures seed { IfOk result (λ made. made.seed ≡ seed) }
     ensures place { IfOk result (λ made. made.place ≡ place) }
@@ -310,6 +321,7 @@ pub fn gather_with<P: KeyPass, const K: usize>(
     // Whatever the pass tells.
     ensures told { P.told keys.new ≡ P.told keys.old }
     ensures cause { HasGatherCause (P.faults keys.old) (P.faults keys.new) result }
+    ensures failed { IfErr result (HasFailure (P.failure keys.new)) }
     ensures algorithm { IfOk result (λ made. made.algorithm ≡ algorithm) }
     ensures seed { IfOk result (λ made. made.seed ≡ seed) }
     ensures place { IfOk result (λ made. made.place ≡ place) }
