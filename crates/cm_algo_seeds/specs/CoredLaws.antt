@@ -1,21 +1,22 @@
 -- Builds that fail.
-use Rattle.std.proofs.Common.{◌≡◌, ◌≢◌, ◌∙◌, ℕ, ◌<◌, ◌≤◌, List, [], length, get_or, Option, None, Result, Ok, Err, IfOk, IfErr, IsErrAnd, false, inl, inr, refl, ap, sym, subst, arith}
+use Rattle.std.proofs.Common.{◌≡◌, ◌≢◌, ◌∙◌, ℕ, ◌<◌, ◌≤◌, List, [], length, get_or, Option, None, Some, Result, Ok, Err, IfOk, IfErr, IsErrAnd, false, inl, inr, refl, ap, sym, subst, arith}
 use Rattle.std.specs.Option.{ForSome}
 use Rattle.cm_algo_names.specs.declared.algorithm.Algorithm.{Algorithm}
 use Rattle.cm_algo_names.specs.declared.algorithm.Algorithm.TheVariants.{Chm, Bdz, BdzPh, Brz}
 use Rattle.cm_io.specs.Passes.{Told}
+use Rattle.cm_io.specs.declared.key_pass.KeyFault.{KeyFault}
 use Rattle.cm_io.specs.declared.key_pass.KeyFault.TheVariants.{Read, TooLong, TooMany}
 use Rattle.cm_algo_scheme.specs.Kinds.{HasEnds}
 use Rattle.cm_spec.specs.Built.{graph_of}
 use Rattle.cm_spec.specs.Rounds.{rest_of}
 use Rattle.cm_spec.specs.Rule.{Rule}
 use Rattle.cm_witness.specs.Cores.{core_edges, keys_at}
-use Rattle.cm_witness.specs.Gathers.{FailsGather, HasGatherCause, HasOther, ends_of, has_buckets}
+use Rattle.cm_witness.specs.Gathers.{FailsGather, HasFailure, HasGatherCause, HasOther, HasPassed, ends_of, has_buckets}
 use Rattle.cm_witness.specs.Pairs.{pairs}
 use Rattle.cm_witness.specs.declared.certificate.Certificate.{Certificate}
 use Rattle.cm_witness.specs.declared.certificate.GatherFault.{GatherFault}
 use Rattle.cm_witness.specs.declared.certificate.GatherFault.TheVariants as gather_fault
-use Rattle.cm_algo_seeds.specs.Fails.{FailsBuild, FoundEqual, HasBuildCause, HasForm, HasNumbers, ShowsCore, build_fault_of}
+use Rattle.cm_algo_seeds.specs.Fails.{FailsBuild, FoundEqual, HasBuildCause, HasBuildFailure, HasCounted, HasForm, HasNumbers, ShowsCore, build_fault_of}
 use Rattle.cm_algo_seeds.specs.declared.fault.BuildFault.{BuildFault}
 use Rattle.cm_algo_seeds.specs.declared.fault.BuildFault.TheVariants.{Cored}
 use Rattle.cm_algo_seeds.specs.OneSeedLaws.{all_cored, none_chosen}
@@ -75,6 +76,18 @@ pub numbers_of : (m place : ℕ) (fault : GatherFault) → 1 ≤ m → HasOther 
 numbers_of m place gather_fault.Memory some other = tt
 numbers_of m place (gather_fault.Key fault) some other = tt
 numbers_of m place (gather_fault.Changed first now) some other = (omega (arith, other.0), other.1)
+
+-- a pass that failed hands on its fault
+pub failure_of : (failure : Option KeyFault) (fault : GatherFault) → HasFailure failure fault → HasBuildFailure failure (build_fault_of fault)
+failure_of failure gather_fault.Memory has = tt
+failure_of failure (gather_fault.Key fault) has = has
+failure_of failure (gather_fault.Changed first now) has = tt
+
+-- and what was counted before it
+pub counted_of : {P : Type 0} (at_end : P → Type 0) (place : P → ℕ) (keys : P) (m now : ℕ) (fault : GatherFault) → HasPassed at_end place m → HasOther m now fault → HasCounted at_end place keys (build_fault_of fault)
+counted_of at_end place keys m now gather_fault.Memory passed other = tt
+counted_of at_end place keys m now (gather_fault.Key fault) passed other = tt
+counted_of at_end place keys m now (gather_fault.Changed first found) passed other = subst (λ (n : ℕ). HasPassed at_end place n) (sym other.0) passed
 
 pub no_form : (algorithm : Algorithm) (seed : ℕ) (fault : GatherFault) → HasForm algorithm seed (build_fault_of fault)
 no_form algorithm seed gather_fault.Memory = tt

@@ -1,11 +1,12 @@
 -- Why a build fails.
-use Rattle.std.specs.Prelude.{◌≡◌, ◌≢◌, ℕ, ◌<◌, ◌≤◌, List, [], All, length, slice_index, is_some, None, Result, Ok, Err}
+use Rattle.std.specs.Prelude.{◌≡◌, ◌≢◌, ℕ, ◌<◌, ◌≤◌, List, [], All, length, slice_index, is_some, Option, None, Some, Result, Ok, Err}
 use Rattle.cm_algo_names.specs.declared.algorithm.Algorithm.{Algorithm}
 use Rattle.cm_io.specs.Passes.{Told, HasKeyCause, IsToldFault}
+use Rattle.cm_io.specs.declared.key_pass.KeyFault.{KeyFault}
 use Rattle.cm_spec.specs.Rule.{Rule}
 use Rattle.cm_spec.specs.Built.{first_seed, AllCored}
 use Rattle.cm_witness.specs.Cores.{edges_left, pairs_left}
-use Rattle.cm_witness.specs.Gathers.{IsOther, has_third}
+use Rattle.cm_witness.specs.Gathers.{HasPassed, IsOther, has_third}
 use Rattle.cm_witness.specs.declared.certificate.Certificate.{Certificate}
 use Rattle.cm_witness.specs.declared.certificate.GatherFault.{GatherFault}
 use Rattle.cm_witness.specs.declared.certificate.GatherFault.TheVariants as gather_fault
@@ -34,6 +35,17 @@ HasNumbers place NoKeys = place ≡ 0
 HasNumbers place (Cored made) = Unit {0}
 HasNumbers place (Key fault) = Unit {0}
 HasNumbers place (Changed first now) = (1 ≤ first) × IsOther first now place
+
+-- `Key` has the fault that the pass failed with last
+abbrev pub HasBuildFailure : Option KeyFault → BuildFault → Type 0
+HasBuildFailure failure (Key fault) = failure ≡ Some fault
+HasBuildFailure failure fault = Unit {0}
+
+-- whatever the keys are: without keys the pass came to its end, and the first number of `Changed` is how many keys a pass had that did
+abbrev pub HasCounted : {P : Type 0} → (P → Type 0) → (P → ℕ) → P → BuildFault → Type 0
+HasCounted at_end place keys NoKeys = at_end keys
+HasCounted at_end place keys (Changed first now) = HasPassed at_end place first
+HasCounted at_end place keys fault = Unit {0}
 
 -- the certificate shows the 2-core of the keys' graph under a seed: its edges with their lines, and which of its keys are equal
 pub record ShowsCore (r : Rule) (keys : List (ℕ × List ℕ)) (c seed : ℕ) (made : Certificate) : Type 0 where

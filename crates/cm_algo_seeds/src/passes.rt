@@ -5,7 +5,7 @@ ghost use Rattle.cm_io.specs.Passes.{HasKeyCause, GivesFour};
 ghost use Rattle.cm_spec.specs.Built.{edge_of, tag_of};
 ghost use Rattle.cm_spec.specs.Lookup2.{words as words_of};
 ghost use Rattle.cm_spec.specs.Rule.{IsSize};
-ghost use Rattle.cm_witness.specs.Gathers.{FailsGather, HasGatherCause, HasOther};
+ghost use Rattle.cm_witness.specs.Gathers.{FailsGather, HasFailure, HasGatherCause, HasOther};
 ghost use Rattle.cm_witness.specs.declared.certificate.GatherFault.TheVariants as gather_fault;
 ghost use Rattle.cm_io.specs.Passes.{IsToldFault};
 ghost use Rattle.cm_algo_seeds.specs.Hashed.{GivesWords};
@@ -21,8 +21,11 @@ use cm_witness::{GatherFault, expect_end};
 pub fn count_all<P: KeyPass>(keys: &mut P, key: &mut KeyBuf) -> Result<u32, KeyFault>
     ensures told { P.told keys.new ≡ P.told keys.old }
     ensures cause { HasKeyCause (P.faults keys.old) (P.faults keys.new) result }
+    ensures failed { IfErr result (λ fault. P.failure keys.new ≡ Some fault) }
     ensures few { IfOk result (λ n. n ≤ 16777216) }
     ensures given { IfOk result (λ n. P.place keys.new ≡ n) }
+    ensures at_end { OnOk result (P.at_end keys.new) }
+    ensures gave { IfOk result (λ n. (passed : List (ℕ × List ℕ)) × P.gave keys.new passed × (length passed ≡ n)) }
     ensures all { IfOk result (λ n. ForSome (P.told keys.old) (λ told. (length told.keys ≡ n) × (told.fault ≡ None))) }
     ensures fault { IfErr result (λ e. ForSome (P.told keys.old) (λ told. IsToldFault told e)) }
 {
@@ -50,6 +53,7 @@ fn read_words<P: KeyPass>(
     ensures told { P.told keys.new ≡ P.told keys.old }
     ensures gives { ForSome (P.told keys.old) (λ told. GivesWords told (P.place keys.old) (P.place keys.new) seed result) }
     ensures cause { HasKeyCause (P.faults keys.old) (P.faults keys.new) result }
+    ensures failed { IfErr result (λ fault. P.failure keys.new ≡ Some fault) }
     ensures counts { IfOk result (λ o. IfSome o (λ _. P.place keys.new ≡ P.place keys.old + 1)) }
     ensures ended { IfOk result (λ o. IfNone o (P.place keys.new ≡ P.place keys.old)) }
     ensures usable { OnOk result (P.usable keys.new ≡ true) }
@@ -203,6 +207,9 @@ pub(crate) fn hash_all<S: Scheme<K>, P: KeyPass, const K: usize>(
     requires none { (edges.old.edges ≡ []) × (tags.old.items ≡ []) }
     ensures told { P.told keys.new ≡ P.told keys.old }
     ensures cause { HasGatherCause (P.faults keys.old) (P.faults keys.new) result }
+    ensures failed { IfErr result (HasFailure (P.failure keys.new)) }
+    ensures given { OnOk result (P.place keys.new ≡ m) }
+    ensures at_end { OnOk result (P.at_end keys.new) }
     ensures vertices { edges.new.vertices ≡ edges.old.vertices }
     ensures long { OnOk result (length edges.new.edges ≡ m) }
     ensures tags_long { OnOk result (S.KEEPS_TAGS ≡ true → length tags.new.items ≡ m) }

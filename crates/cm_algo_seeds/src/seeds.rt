@@ -6,9 +6,9 @@ ghost use Rattle.cm_spec.specs.Cells.{is_busy};
 ghost use Rattle.cm_spec.specs.Rounds.{rest_of};
 ghost use Rattle.cm_spec.specs.Rule.{IsCount, IsRatio};
 ghost use Rattle.cm_witness.specs.Cores.{EqualKeysMeet};
-ghost use Rattle.cm_witness.specs.Gathers.{FailsGather, HasGatherCause, HasOther};
+ghost use Rattle.cm_witness.specs.Gathers.{FailsGather, HasFailure, HasGatherCause, HasOther, HasPassed};
 ghost use Rattle.cm_algo_seeds.specs.Builds.{IsGiven, IsBuilt, IsLeft, IsMade, IsSolution};
-ghost use Rattle.cm_algo_seeds.specs.Fails.{FailsBuild, HasBuildCause, HasForm, HasNumbers, ShowsCore};
+ghost use Rattle.cm_algo_seeds.specs.Fails.{FailsBuild, HasBuildCause, HasBuildFailure, HasCounted, HasForm, HasNumbers, ShowsCore};
 ghost use Rattle.cm_algo_seeds.specs.declared.fault.BuildFault.TheVariants as build_fault;
 
 use crate::fault::BuildFault;
@@ -69,6 +69,8 @@ fn attempt<S: Scheme<K>, I: Incidence<K> + Drop, P: KeyPass, const K: usize, L: 
     requires ratio { IsRatio c }
     ensures told { P.told keys.new ≡ P.told keys.old }
     ensures cause { HasGatherCause (P.faults keys.old) (P.faults keys.new) result }
+    ensures failed { IfErr result (HasFailure (P.failure keys.new)) }
+    ensures passed { OnOk result (HasPassed P.at_end P.place m) }
     ensures bound { IfOk result (λ o. IfOk o (λ t. (S.Table.bound_of t ≡ (S.rule scheme.now).bound m) × (length (S.Table.cells t) ≡ (S.rule scheme.now).size m c))) }
     ensures busy { IfOk result (λ o. IfOk o (λ t. (S.rule scheme.now).modulus m ≤ (S.rule scheme.now).idle → count_by (is_busy (S.rule scheme.now).idle) (S.Table.cells t) ≡ m)) }
     ensures made { IfOk result (λ o. IfOk o (λ t. ForSome (P.told keys.old) (λ told. (m ≡ length told.keys) × IsGiven (S.rule scheme.now) told.keys c seed (S.Table.cells t)))) }
@@ -104,6 +106,7 @@ pub fn certify<S: Scheme<K>, P: KeyPass, const K: usize>(
     requires equal_keys { ForSome (P.told keys.old) (λ told. EqualKeysMeet told.keys left.now.edges.edges) }
     ensures told { P.told keys.new ≡ P.told keys.old }
     ensures cause { HasGatherCause (P.faults keys.old) (P.faults keys.new) result }
+    ensures failed { IfErr result (HasFailure (P.failure keys.new)) }
     ensures form { IfOk result (λ made. HasForm (S.algorithm_of scheme.now) seed (build_fault.Cored made)) }
     ensures end { OnOk result (ForSome (P.told keys.old) (λ told. (length told.keys ≡ length left.now.edges.edges) × (told.fault ≡ None))) }
     ensures shows { IfOk result (λ made. ForSome (P.told keys.old) (λ told. (c : ℕ) → left.now.edges.edges ≡ graph_of (S.rule scheme.now) told.keys c seed → ShowsCore (S.rule scheme.now) told.keys c seed made)) }
@@ -138,6 +141,7 @@ pub fn build_with<S: Scheme<K>, I: Incidence<K> + Drop, P: KeyPass, const K: usi
     requires some { 0 < length seeds.now }
     ensures told { P.told keys.new ≡ P.told keys.old }
     ensures cause { HasBuildCause (P.faults keys.old) (P.faults keys.new) result }
+    ensures failed { IfErr result (HasBuildFailure (P.failure keys.new)) }
     ensures many { IfOk result (λ b. (1 ≤ b.m) × (b.m ≤ 16777216) × (b.c ≡ c)) }
     ensures cells { IfOk result (λ b. (S.Table.bound_of b.cells ≡ (S.rule scheme.now).bound b.m) × (length (S.Table.cells b.cells) ≡ (S.rule scheme.now).size b.m c)) }
     ensures busy { IfOk result (λ b. (S.rule scheme.now).modulus b.m ≤ (S.rule scheme.now).idle → count_by (is_busy (S.rule scheme.now).idle) (S.Table.cells b.cells) ≡ b.m) }
@@ -145,6 +149,7 @@ pub fn build_with<S: Scheme<K>, I: Incidence<K> + Drop, P: KeyPass, const K: usi
     ensures first { IfOk result (λ b. ForSome (P.told keys.old) (λ told. (told.fault ≡ None) × IsBuilt (S.rule scheme.now) told.keys c seeds.now b.m b.seed (S.Table.cells b.cells) K steps.old steps.new)) }
     ensures fault { IfErr result (λ e. ForSome (P.told keys.old) (λ told. FailsBuild (S.rule scheme.now) told c seeds.now e)) }
     ensures numbers { IfErr result (HasNumbers (P.place keys.new)) }
+    ensures counted { IfErr result (HasCounted P.at_end P.place keys.new) }
     ensures certificate { IfErr result (HasForm (S.algorithm_of scheme.now) (slice_index seeds.now 0)) }
     ensures steps { ForSome (P.told keys.old) (λ told. steps.new ≤ steps.old + 8 * (K * length told.keys) * length seeds.now) }
 {
@@ -180,13 +185,16 @@ pub fn build_first<S: Scheme<K>, I: Incidence<K> + Drop, P: KeyPass, const K: us
     requires some { 0 < length seeds.now }
     ensures told { P.told keys.new ≡ P.told keys.old }
     ensures cause { HasBuildCause (P.faults keys.old) (P.faults keys.new) result }
+    ensures failed { IfErr result (HasBuildFailure (P.failure keys.new)) }
     ensures made { IfOk result (λ o. IfOk o (λ b. IsMade (S.rule scheme.now) c seeds.now b.m b.c b.seed (S.Table.bound_of b.cells) (S.Table.cells b.cells))) }
     ensures first { IfOk result (λ o. IfOk o (λ b. ForSome (P.told keys.old) (λ told. (told.fault ≡ None) × IsBuilt (S.rule scheme.now) told.keys c seeds.now b.m b.seed (S.Table.cells b.cells) K steps.old steps.new))) }
     ensures peeled { IfOk result (λ o. IfErr o (λ left. left.peeled.rest ≡ rest_of left.edges.edges)) }
     ensures long { IfOk result (λ o. IfErr o (λ left. (1 ≤ length left.edges.edges) × (length left.edges.edges ≤ 16777216))) }
+    ensures passed { IfOk result (λ o. IfErr o (λ left. HasPassed P.at_end P.place (length left.edges.edges))) }
     ensures left { IfOk result (λ o. IfErr o (λ left. ForSome (P.told keys.old) (λ told. IsLeft (S.rule scheme.now) told c (slice_index seeds.now 0) left.edges.edges))) }
     ensures fault { IfErr result (λ e. ForSome (P.told keys.old) (λ told. FailsBuild (S.rule scheme.now) told c seeds.now e)) }
     ensures numbers { IfErr result (HasNumbers (P.place keys.new)) }
+    ensures counted { IfErr result (HasCounted P.at_end P.place keys.new) }
     ensures certificate { IfErr result (HasForm (S.algorithm_of scheme.now) (slice_index seeds.now 0)) }
     ensures steps { ForSome (P.told keys.old) (λ told. steps.new ≤ steps.old + 8 * (K * length told.keys)) }
 {
@@ -219,6 +227,7 @@ pub fn build_later<S: Scheme<K>, I: Incidence<K> + Drop, P: KeyPass, const K: us
     requires left { ForSome (P.told keys.old) (λ told. rest_of (graph_of (S.rule scheme.now) told.keys c (slice_index seeds.now 0)) ≢ []) }
     ensures told { P.told keys.new ≡ P.told keys.old }
     ensures cause { HasGatherCause (P.faults keys.old) (P.faults keys.new) result }
+    ensures failed { IfErr result (HasFailure (P.failure keys.new)) }
     ensures made { IfOk result (λ o. IfSome o (λ b. IsMade (S.rule scheme.now) c seeds.now b.m b.c b.seed (S.Table.bound_of b.cells) (S.Table.cells b.cells))) }
     ensures first { (before : ℕ) → steps.old ≤ before + 8 * (K * m) →
         IfOk result (λ o. IfSome o (λ b. ForSome (P.told keys.old) (λ told. IsBuilt (S.rule scheme.now) told.keys c seeds.now b.m b.seed (S.Table.cells b.cells) K before steps.new))) }

@@ -12,6 +12,6 @@ mod parts;
 pub use crate::brz::Brz;
 pub use crate::buckets::{bucket_of_hashed, flip};
 pub use crate::laws::answers_apart;
-pub use crate::limits::{MAX_BUCKET, MAX_WIDTH, MIN_WIDTH};
+pub use crate::limits::{MAX_BUCKET, MAX_WIDTH, MIN_WIDTH, ranges};
 pub use crate::parts::BrzParts;
 pub use cm_bdz::PartsFault;

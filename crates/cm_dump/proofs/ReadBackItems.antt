@@ -178,7 +178,7 @@ front_is bytes number b keys ratio seed fits begun which parameter first second 
 pub record ReadsKind (bytes : List ℕ) (k : Kind) : Type 0 where
   pub begun : Stands bytes 0 8 magic
   pub number : Stands bytes 8 1 (number_of k.algorithm ∷ [])
-  pub b : ReadsByte bytes 9 (least_b k.algorithm) (most_b version_1 k.algorithm) k.b
+  pub b : ReadsByte bytes 9 (least_b version_1 k.algorithm) (most_b version_1 k.algorithm) k.b
   pub first : Stands bytes 10 1 (0 ∷ [])
   pub second : Stands bytes 11 1 (0 ∷ [])
 
@@ -201,13 +201,13 @@ kind_read bytes k is =
     let begun = step (magic_at version_1 bytes) _ k is in
     let a = step (algorithm_at bytes) _ k begun.next in
     let before = step (zeros_at bytes 9 0) _ k a.next in
-    let b = step (field_at w8 bytes 9 (least_b a.value) (most_b version_1 a.value)) _ k before.next in
+    let b = step (field_at w8 bytes 9 (least_b version_1 a.value) (most_b version_1 a.value)) _ k before.next in
     let after = step (zeros_at bytes 10 2) _ k b.next in
     let zeros = two_zeros bytes 10 after.value after.was in
     let made : ReadsKind bytes (record { algorithm = a.value; b = b.value }) = record {
       begun = magic_read bytes begun.value begun.was;
       number = algorithm_read bytes a.value a.was;
-      b = byte_read bytes 9 (least_b a.value) (most_b version_1 a.value) b.value b.was;
+      b = byte_read bytes 9 (least_b version_1 a.value) (most_b version_1 a.value) b.value b.was;
       first = zeros.0;
       second = zeros.1;
     } in

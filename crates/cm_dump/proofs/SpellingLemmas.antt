@@ -75,7 +75,7 @@ heading_there a number b keys ratio seed rest kind range some many least most fi
     let front = magic ++ (number ∷ (to_le_bytes w8 b ++ 0 ∷ 0 ∷ [])) in
     let begun = item_there bytes [] magic ((number ∷ (to_le_bytes w8 b ++ 0 ∷ 0 ∷ [])) ++ (k ++ (r ++ (s ++ rest)))) 0 8 refl refl refl in
     let which = item_there bytes magic (number ∷ []) ((to_le_bytes w8 b ++ 0 ∷ 0 ∷ []) ++ (k ++ (r ++ (s ++ rest)))) 8 1 refl refl refl in
-    let parameter = byte_there bytes 9 (least_b a) (most_b version_1 a) b (item_there bytes (magic ++ (number ∷ [])) (to_le_bytes w8 b) ((0 ∷ 0 ∷ []) ++ (k ++ (r ++ (s ++ rest)))) 9 1 refl refl refl) (parameter_fits a b range.1) range.0 range.1 in
+    let parameter = byte_there bytes 9 (least_b version_1 a) (most_b version_1 a) b (item_there bytes (magic ++ (number ∷ [])) (to_le_bytes w8 b) ((0 ∷ 0 ∷ []) ++ (k ++ (r ++ (s ++ rest)))) 9 1 refl refl refl) (parameter_fits a b range.1) range.0 range.1 in
     let first = byte_there bytes 10 0 0 0 (item_there bytes (magic ++ (number ∷ to_le_bytes w8 b)) (0 ∷ []) ((0 ∷ []) ++ (k ++ (r ++ (s ++ rest)))) 10 1 refl refl refl) (lit< tt) (omega arith) (omega arith) in
     let second = byte_there bytes 11 0 0 0 (item_there bytes (magic ++ (number ∷ (to_le_bytes w8 b ++ 0 ∷ []))) (0 ∷ []) (k ++ (r ++ (s ++ rest))) 11 1 refl refl refl) (lit< tt) (omega arith) (omega arith) in
     let keys_there = number_there bytes 12 1 MAX_KEYS keys (item_there bytes front k (r ++ (s ++ rest)) 12 4 refl refl refl) (omega (arith, many)) some many in

@@ -2,8 +2,6 @@
 use Rattle.std.specs.Prelude.{ℕ, ◌+◌, ◌-◌, ◌≤◌, List, Result, Ok, Err, ◌==◌, nat_eq, slice_index, if◌then◌else◌}
 use Rattle.std.specs.Cmp.Lexicographic.{pointwise}
 use Rattle.std.specs.Int.{byte_len, w32}
-use Rattle.cm_brz_func.specs.declared.limits.TheConstants.{MIN_WIDTH}
-use Rattle.cm_io.specs.declared.key_pass.TheConstants.{MAX_KEYS}
 use Rattle.cm_dump.specs.declared.fault.LoadFault.{LoadFault}
 use Rattle.cm_dump.specs.declared.fault.LoadFault.TheVariants as faults
 use Rattle.cm_dump.specs.declared.front.Algorithm.{Algorithm}
@@ -32,11 +30,11 @@ algorithm_at bytes = do
 
 -- the least and the greatest parameter b of an algorithm: BDZ has how far apart its ranks are as a power of 2, BRZ how many keys
 -- a bucket has on average, and the others have none
-abbrev pub least_b : Algorithm → ℕ
-least_b algorithm.Chm = 0
-least_b algorithm.Bdz = 3
-least_b algorithm.BdzPh = 0
-least_b algorithm.Brz = MIN_WIDTH
+abbrev pub least_b : Form → Algorithm → ℕ
+least_b v algorithm.Chm = 0
+least_b v algorithm.Bdz = 3
+least_b v algorithm.BdzPh = 0
+least_b v algorithm.Brz = v.least_width
 
 abbrev pub most_b : Form → Algorithm → ℕ
 most_b v algorithm.Chm = 0
@@ -46,7 +44,7 @@ most_b v algorithm.Brz = v.most_width
 
 -- the parameter is in the range of its algorithm
 abbrev pub IsParameter : Form → Algorithm → ℕ → Type 0
-IsParameter v a b = (least_b a ≤ b) × (b ≤ most_b v a)
+IsParameter v a b = (least_b v a ≤ b) × (b ≤ most_b v a)
 
 -- the magic, the algorithm's number, and its parameter b between zeros
 unfoldable pub kind_at : Form → List ℕ → Result Kind LoadFault
@@ -54,7 +52,7 @@ kind_at v bytes = do
   begun ← magic_at v bytes
   a ← algorithm_at bytes
   before ← zeros_at bytes 9 (v.b_at - 9)
-  b ← field_at v.b bytes v.b_at (least_b a) (most_b v a)
+  b ← field_at v.b bytes v.b_at (least_b v a) (most_b v a)
   after ← zeros_at bytes (v.b_at + byte_len v.b) (12 - (v.b_at + byte_len v.b))
   Ok (record { algorithm = a; b = b })
 
@@ -62,7 +60,7 @@ kind_at v bytes = do
 unfoldable pub heading_at : Form → List ℕ → Result Header LoadFault
 heading_at v bytes = do
   kind ← kind_at v bytes
-  keys ← field_at w32 bytes 12 1 MAX_KEYS
+  keys ← field_at w32 bytes 12 1 v.most_keys
   ratio ← field_at w32 bytes 16 1000000 10000000
   seed ← field_at w32 bytes 20 0 4294967295
   Ok (record { algorithm = kind.algorithm; b = kind.b; keys = keys; ratio = ratio; seed = seed })

@@ -97,7 +97,7 @@ fn read_algorithm<S: Source>(source: &mut S) -> Result<Algorithm, LoadFault>
 
 /// The least and the greatest parameter of an algorithm.
 fn parameters(algorithm: Algorithm) -> (u8, u8)
-    ensures least { result.0 ≡ least_b algorithm }
+    ensures least { result.0 ≡ least_b version_1 algorithm }
     ensures most { result.1 ≡ most_b version_1 algorithm }
 {
     match algorithm {

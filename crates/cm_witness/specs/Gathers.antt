@@ -70,3 +70,7 @@ abbrev pub HasOther : ℕ → ℕ → GatherFault → Type 0
 HasOther m place Memory = Unit {0}
 HasOther m place (Key fault) = Unit {0}
 HasOther m place (Changed first now) = (first ≡ m) × IsOther first now place
+
+-- a pass over the keys came to its end after this many
+abbrev pub HasPassed : {P : Type 0} → (P → Type 0) → (P → ℕ) → ℕ → Type 0
+HasPassed {P} at_end place count = (keys : P) × at_end keys × (place keys ≡ count)
