@@ -9,14 +9,12 @@ Each case runs in a folder of its own, as nobody where this runs as root. The la
 import os
 import resource
 import shutil
-import signal
 import subprocess
 import sys
 import tempfile
 
-HERE = os.path.dirname(os.path.abspath(__file__))
-NOBODY = 65534
-AS_ROOT = os.geteuid() == 0
+from room import CASES, HERE, Skipped, Wrong, case, closed, ends, limited, lines, made_shim, run_case, said, same
+
 HELP = b"""usage: cmph [-v] [-h] [-V] [-k nkeys] [-f hash] [-g [-c c] [-s seed] [-r seeds]] [-a algorithm] [-M MB] [-b b] [-d dir] [-m file.mph] keysfile
        cmph -T nkeys [-s seed] [-r seeds] [-M MB] [-d dir]
 algorithms: chm bdz bdz_ph brz
@@ -31,99 +29,6 @@ BRZ_TWO = bytes.fromhex("434d5048444d5031" "04800000" "02000000" "b0c41200" "000
 TWO = b"\na\n"
 TWO_EQUAL = b"core chm seed 0 edges 2\nedge 1 4 1\nedge 2 4 1\nequal 1 2\n"
 TWO_ANSWERS = b" -> 0\na -> 1\n"
-
-CASES = []
-
-
-def case(name):
-    """Lists a function as a case."""
-    return lambda body: CASES.append((name, body)) or body
-
-
-class Left:
-    """What a run left: its status, and what it wrote to both outputs."""
-
-    def __init__(self, status, out, err):
-        self.status, self.out, self.err = status, out, err
-
-
-class Room:
-    """A folder of its own, in which the program runs."""
-
-    def __init__(self, folder, program, shim):
-        self.folder, self.program, self.shim = folder, program, shim
-
-    def path(self, name):
-        return os.path.join(self.folder, name)
-
-    def put(self, name, content, mode=0o644):
-        with open(self.path(name), "wb") as file:
-            file.write(content)
-        os.chmod(self.path(name), mode)
-        if AS_ROOT:
-            os.chown(self.path(name), NOBODY, NOBODY)
-
-    def get(self, name):
-        with open(self.path(name), "rb") as file:
-            return file.read()
-
-    def has(self, name):
-        return os.path.lexists(self.path(name))
-
-    def run(self, *words, out=subprocess.PIPE, err=subprocess.PIPE, before=None, bend=None):
-        """Runs the program. `before` is called in its process first; `bend` is the environment of the shim."""
-        env = {"PATH": os.environ.get("PATH", "")}
-        if bend is not None:
-            env.update(bend, LD_PRELOAD=self.shim, EDGE_COUNTS=self.path("counts"))
-        who = {"user": NOBODY, "group": NOBODY, "extra_groups": []} if AS_ROOT else {}
-        ended = subprocess.run([self.program, *words], cwd=self.folder, env=env, stdin=subprocess.DEVNULL,
-                               stdout=out, stderr=err, preexec_fn=before, timeout=60, **who)
-        return Left(ended.returncode, ended.stdout or b"", ended.stderr or b"")
-
-    def counts(self):
-        """The reads, writes, seeks and opens of the last run under the shim, and whether a call was bent."""
-        return [int(word) for word in self.get("counts").split()]
-
-
-class Wrong(Exception):
-    """What a case found."""
-
-
-def same(what, found, wanted):
-    if found != wanted:
-        raise Wrong(f"{what} is {shown(found)}, and must be {shown(wanted)}")
-
-
-def shown(value):
-    text = repr(value)
-    return text if len(text) < 200 else f"{text[:90]} .. {text[-90:]} ({len(value)} bytes)"
-
-
-def ends(left, status, out=b"", err=b""):
-    same("the status", left.status, status)
-    same("standard output", left.out, out)
-    same("standard error", left.err, err)
-
-
-def said(text):
-    return f"cmph: {text}\n".encode()
-
-
-def closed(number):
-    """Closes a descriptor before the program starts."""
-    return lambda: os.close(number)
-
-
-def limited(what, most):
-    def set_limit():
-        resource.setrlimit(what, (most, most))
-        signal.signal(signal.SIGXFSZ, signal.SIG_IGN)
-    return set_limit
-
-
-def lines(count):
-    """Numbered keys, one a line."""
-    return b"".join(b"key number %d\n" % number for number in range(count))
 
 
 def answered(count):
@@ -300,7 +205,8 @@ def _(room):
 @case("status 7: a keys file that grows between two passes")
 def _(room):
     room.put("keys", TWO)
-    ends(room.run("-g", "keys", bend={"EDGE_GROW": "keys"}), 7, b"", said("keys: keys changed: 2, then 3"))
+    room.put("pass-2", TWO + b"one more\n")
+    ends(room.run("-g", "keys", bend={}), 7, b"", said("keys: keys changed: 2, then 3"))
     same("the function file", room.has("keys.mph"), False)
 
 
@@ -438,20 +344,6 @@ def _(room):
 # Calls of the system that are bent, one after another
 
 
-def bent_runs(room, words, call, how, on=None):
-    """Runs with the n-th such call bent, for n from 1 until no call is; gives n and what each run left."""
-    number = 0
-    while True:
-        number += 1
-        bend = {"EDGE_CALL": call, "EDGE_NUMBER": str(number), "EDGE_DO": how}
-        if on:
-            bend["EDGE_FD"] = on
-        left = room.run(*words, bend=bend)
-        if not room.counts()[4]:
-            return
-        yield number, left
-
-
 @case("reads and writes that come short or are interrupted change nothing")
 def _(room):
     room.put("keys", lines(12000))
@@ -459,10 +351,10 @@ def _(room):
     whole = room.get("keys.mph")
     for call in ["read", "write"]:
         for how in ["short", "interrupt"]:
-            for number, left in bent_runs(room, ["-g", "-s", "3", "keys"], call, how):
+            for number, left in room.bent_runs(["-g", "-s", "3", "keys"], call, how):
                 ends(left, 0)
                 same(f"the function file after {call} {number} {how}", room.get("keys.mph"), whole)
-            for number, left in bent_runs(room, ["keys"], call, how):
+            for number, left in room.bent_runs(["keys"], call, how):
                 ends(left, 0, answered(12000))
 
 
@@ -470,7 +362,7 @@ def _(room):
 def _(room):
     room.put("keys", lines(12000))
     room.put("keys.mph", b"older")
-    for number, left in bent_runs(room, ["-g", "-s", "3", "keys"], "read", "fail"):
+    for number, left in room.bent_runs(["-g", "-s", "3", "keys"], "read", "fail"):
         ends(left, 4, b"", said("keys: cannot read"))
         same("the function file", room.get("keys.mph"), b"older")
 
@@ -480,7 +372,7 @@ def _(room):
     room.put("keys", lines(60000))
     ends(room.run("-g", "-s", "0", "keys"), 0)
     whole, before = room.get("keys.mph"), -1
-    for number, left in bent_runs(room, ["-g", "-s", "0", "keys"], "write", "fail", "file"):
+    for number, left in room.bent_runs(["-g", "-s", "0", "keys"], "write", "fail", "file"):
         ends(left, 5, b"", said("keys.mph: cannot write"))
         found = room.get("keys.mph")
         same(f"the function file after write {number} failed", found, whole[:len(found)])
@@ -505,7 +397,7 @@ def _(room):
     ends(room.run("-g", "keys"), 0)
     room.put("function", room.get("keys.mph"))
     first = None
-    for number, left in bent_runs(room, ["-m", "function", "keys"], "read", "fail"):
+    for number, left in room.bent_runs(["-m", "function", "keys"], "read", "fail"):
         same("the status", left.status, 4)
         if left.err == said("function: cannot read"):
             same("standard output", left.out, b"")
@@ -521,7 +413,7 @@ def _(room):
     room.put("keys", lines(12000))
     ends(room.run("-g", "keys"), 0)
     text = answered(12000)
-    for number, left in bent_runs(room, ["keys"], "write", "fail", "1"):
+    for number, left in room.bent_runs(["keys"], "write", "fail", "1"):
         same("the status", left.status, 5)
         same("standard error", left.err, said("cannot write standard output"))
         same("what out begins with", left.out, text[:len(left.out)])
@@ -531,7 +423,7 @@ def _(room):
 def _(room):
     room.put("keys", b"\n\n")
     room.put("keys.mph", BDZ_ONE)
-    for number, left in bent_runs(room, ["keys"], "write", "fail", "2"):
+    for number, left in room.bent_runs(["keys"], "write", "fail", "2"):
         same("the status", left.status, 1)
         same("standard output", left.out, b" -> 0\n -> 0\n")
 
@@ -555,34 +447,26 @@ def _(room):
         raise Wrong(f"a query of {len(keys)} bytes: {reads} reads, {writes} writes, {seeks} seeks, {opens} opens")
 
 
-def made_shim(folder):
-    """Compiles the shim, where there is a compiler."""
-    to = os.path.join(folder, "shim.so")
-    for compiler in ["cc", "gcc", "clang"]:
-        if shutil.which(compiler):
-            subprocess.run([compiler, "-shared", "-fPIC", "-O1", "-o", to, os.path.join(HERE, "shim.c"), "-ldl"], check=True)
-            os.chmod(to, 0o755)
-            return to
-    return None
+@case("status 6: memory that runs out anywhere while the command line is read")
+def _(room):
+    for words, message in [(["-f", "md5", "keys"], "bad value of -f"), ([b"\xff"], "bad arguments; cmph -h shows the usage")]:
+        for number, left in room.bent_runs(words, "alloc", "fail"):
+            ends(left, 6, b"", said("out of memory"))
+        ends(room.run(*words), 2, b"", said(message))
 
 
-def needs_shim(body):
-    return any(name in body.__code__.co_names for name in ["bent_runs", "counts"]) or "EDGE_GROW" in str(body.__code__.co_consts)
+@case("the function file is synced after its last byte, and each file is closed once")
+def _(room):
+    room.put("keys", lines(12000))
+    for name in ["chm", "bdz", "bdz_ph", "brz"]:
+        ends(room.run("-g", "-a", name, "keys", bend={}), 0)
+        calls = room.calls()
+        mine = [call for call, path in calls if path == "keys.mph"]
+        same("the calls on the function file", mine, ["open", *["write"] * (len(mine) - 3), "fsync", "close"])
+        same("the files that are closed", sorted(path for call, path in calls if call == "close"), sorted(path for call, path in calls if call == "open"))
 
 
-def run_case(name, body, top, number, program, shim):
-    folder = os.path.join(top, str(number))
-    os.mkdir(folder)
-    if AS_ROOT:
-        os.chown(folder, NOBODY, NOBODY)
-    try:
-        body(Room(folder, program, shim))
-        return True
-    except (Wrong, OSError, subprocess.SubprocessError) as wrong:
-        print(f"FAILED {name}: {wrong}")
-        return False
-    finally:
-        shutil.rmtree(folder, ignore_errors=True)
+import spilling  # noqa: E402, F401  its cases come last
 
 
 def main():
@@ -599,13 +483,16 @@ def main():
         os.chmod(program, 0o755)
         shim = made_shim(top)
         for number, (name, body) in enumerate(CASES):
-            if shim is None and needs_shim(body):
+            try:
+                wrong = run_case(body, os.path.join(top, str(number)), program, shim)
+            except Skipped:
                 print(f"skipped, there is no C compiler: {name}")
                 continue
-            if run_case(name, body, top, number, program, shim):
+            if wrong is None:
                 passed += 1
             else:
                 failed += 1
+                print(f"FAILED {name}: {wrong}")
     print(f"{passed} passed, {failed} failed")
     return 1 if failed or not passed else 0
 
