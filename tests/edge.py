@@ -331,7 +331,7 @@ def _(room):
 
 @case("a limit of file size at ten places of a dump leaves a prefix of it")
 def _(room):
-    room.put("keys", lines(60000))
+    room.put("keys", lines(24000))
     ends(room.run("-g", "-s", "0", "keys"), 0)
     whole = room.get("keys.mph")
     for place in range(10):
@@ -369,7 +369,7 @@ def _(room):
 
 @case("a write of a function file that fails: status 5, and a prefix of the dump")
 def _(room):
-    room.put("keys", lines(60000))
+    room.put("keys", lines(24000))
     ends(room.run("-g", "-s", "0", "keys"), 0)
     whole, before = room.get("keys.mph"), -1
     for number, left in room.bent_runs(["-g", "-s", "0", "keys"], "write", "fail", "file"):
@@ -382,7 +382,7 @@ def _(room):
 
 @case("a short write and then a failing one leave a prefix of the dump")
 def _(room):
-    room.put("keys", lines(60000))
+    room.put("keys", lines(24000))
     ends(room.run("-g", "-s", "0", "keys"), 0)
     whole = room.get("keys.mph")
     most = 20000

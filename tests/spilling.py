@@ -11,7 +11,7 @@ import time
 from room import HERE, case, ends, finished, limited, lines, said, same
 
 sys.path.append(os.path.join(HERE, "..", "docs"))
-from draw import words  # noqa: E402  the hash lookup2
+from draw import words as lookup2  # noqa: E402
 
 BUILD = ["-g", "-a", "brz", "keys"]
 NO_SEED = "bucket 0 has no seed with an empty core"
@@ -34,6 +34,7 @@ def opened(room):
 
 
 def spill_of(process):
+    """The name of the spill file of the process with this number."""
     return f"cmph-{process}.spill"
 
 
@@ -44,19 +45,13 @@ def built(room, content):
     return room.get("keys.mph")
 
 
-def records(spilled):
-    """The bucket of each record of a spill file, in their order."""
+def runs_in(spilled):
+    """How many sorted runs the bytes of a spill file are, each of which has records of all buckets."""
     at, buckets = 0, []
     while at < len(spilled):
         buckets.append(int.from_bytes(spilled[at:at + 4], "little"))
         at += 10 + int.from_bytes(spilled[at + 8:at + 10], "little")
     same("the end of the last record", at, len(spilled))
-    return buckets
-
-
-def runs_in(spilled):
-    """How many sorted runs a spill file has, each of all buckets."""
-    buckets = records(spilled)
     return 1 + sum(bucket < before for before, bucket in zip(buckets, buckets[1:]))
 
 
@@ -119,7 +114,7 @@ def _(room):
         os.chmod(room.path("closed"), 0o755)
         ends(left, 5, b"", said(f"closed: {NO_SPILL}"))
         same("the file that it leads to", room.get("precious"), b"precious")
-        same("what the folder holds", spill_of(left.number) in spills(room, "closed"), True)
+        same("whether the name is there", spill_of(left.number) in spills(room, "closed"), True)
     same("the function file", room.has("keys.mph"), False)
 
 
@@ -134,7 +129,7 @@ def _(room):
     equal = b"core brz split 1 bucket 0 seed 1 edges 2\nedge 1 1 5 7\nedge 2 1 5 7\nequal 1 2\n"
     overfull = b"overfull brz seed 1 bucket %d keys 256\n" % bucket_of(b"a", 1, 2)
     overfull += b"".join(b"equal 1 %d\n" % line for line in range(2, 257))
-    for content, words_more, end in [
+    for content, more, end in [
         (lines(300), [], (0,)),
         (b"a\na\n", [], (1, equal, said(NO_SEED))),
         (b"a\n" * 256, ["-b", "175"], (1, overfull, said(NO_SPLIT))),
@@ -144,7 +139,7 @@ def _(room):
         (b"\n" * 16777217, [], (8, b"", said("keys: more than 16777216 keys"))),
     ]:
         room.put("keys", content)
-        ends(room.run(*BUILD, *words_more, bend={}), *end)
+        ends(room.run(*BUILD, *more, bend={}), *end)
         gone(room, f"after {end}")
     room.put("keys", lines(3000))
     ends(room.run(*BUILD, before=limited(resource.RLIMIT_FSIZE, 20000), bend={}), 5, b"", said(f".: {NO_SPILL}"))
@@ -210,7 +205,7 @@ def _(room):
             gone(room, f"after {call} {number} {how}")
 
 
-@case("-d names the folder of the spill file, in a build and in a test")
+@case("the spill file lies in the folder that -d names, in a build and in a test")
 def _(room):
     room.put("keys", lines(300))
     room.put_folder("there")
@@ -223,7 +218,7 @@ def _(room):
             same("the spill files that are left", spills(room, folder), [])
 
 
-@case("-M says how many runs the spill file has, in a build and in a test")
+@case("the spill file has as many runs as keys need by -M, in a build and in a test")
 def _(room):
     keys = [b"%01000d" % number for number in range(2200)]
     room.put("keys", b"\n".join(keys) + b"\n")
@@ -261,7 +256,7 @@ def _(room):
 
 def bucket_of(key, seed, count):
     """The bucket of a key under a seed of the split."""
-    return words(key, seed ^ 0xFFFFFFFF)[2] % count
+    return lookup2(key, seed ^ 0xFFFFFFFF)[2] % count
 
 
 def places(buckets, first=0):
@@ -308,12 +303,15 @@ def changes(room, arguments, keys, at, later, first, now):
 SPLIT = {(0, 0): 87, (0, 1): 87, (0, 2): 86, (1, 0): 10, (2, 1): 20, (1, 2): 10}
 
 
-@case("status 7: more or fewer keys in the pass of the first split seed and of the second")
+@case("status 7: more or fewer keys in the pass of the first seed of a split and of the second")
 def _(room):
     keys = chosen(3, SPLIT)
     for at in [2, 3]:
         for later, now in [(keys[:293], 293), ([], 0), (keys + keys[:1], 301), (keys + keys[:5], 301)]:
             changes(room, ["-b", "100"], keys, at, later, 300, now)
+    for counted, now in [(keys[:290], 291), (keys + keys[:10], 300)]:
+        room.put("pass-1", text_of(counted))
+        changes(room, ["-b", "100"], keys, 2, keys, len(counted), now)
 
 
 @case("status 7: more, fewer or other keys in the pass that puts them into the spill file")
