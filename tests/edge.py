@@ -4,7 +4,7 @@
     tests/edge.py [PROGRAM]        PROGRAM is crates/cmph/out/cmph if it is left out
     tests/edge.py --list           lists the cases, as docs/reliability.md has them
 
-Each case runs in a folder of its own, as nobody where this runs as root. The last line is 'N passed, M failed'.
+Each case runs in a folder of its own, as nobody if this runs as root. The last line is 'N passed, M failed'.
 """
 import os
 import resource

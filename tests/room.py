@@ -22,7 +22,7 @@ class Wrong(Exception):
 
 
 class Skipped(Exception):
-    """A case that needs the shim, where there is no C compiler."""
+    """A case needs the shim, and there is no C compiler."""
 
 
 class Left:
@@ -97,7 +97,7 @@ class Room:
         return [tuple(os.fsdecode(line).split(" ", 1)) for line in self.get("calls").split(b"\n")[1:-1]]
 
     def bent_runs(self, words, call, how, on=None):
-        """Runs with the n-th such call bent, for n from 1 until no call is; gives n and what each run left."""
+        """Runs with the n-th such call bent, for n from 1 until no call is; yields n and what each run left."""
         number = 0
         while True:
             number += 1
@@ -149,7 +149,7 @@ def lines(count):
 
 
 def made_shim(folder):
-    """Compiles the shim, where there is a compiler."""
+    """Compiles the shim, if there is a compiler."""
     to = os.path.join(folder, "shim.so")
     for compiler in ["cc", "gcc", "clang"]:
         if shutil.which(compiler):
@@ -160,7 +160,7 @@ def made_shim(folder):
 
 
 def run_case(body, folder, program, shim):
-    """Runs a case in a new folder, and gives what it found wrong, if anything."""
+    """Runs a case in a new folder, and returns what it found wrong, if anything."""
     os.mkdir(folder)
     room = Room(folder, program, shim)
     room.own("")

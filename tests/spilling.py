@@ -65,7 +65,7 @@ def runs_of(keys, megabytes):
 
 
 def tested(room):
-    """What a test of 300 keys prints, of which three algorithms give all numbers below 300."""
+    """What a test of 300 keys prints. By all algorithms but bdz_ph the numbers are those below 300."""
     left = room.run("-T", "300")
     rows = [row.split() for row in left.out.decode().splitlines()]
     same("the algorithms", [row[0] for row in rows], ["chm", "bdz", "bdz_ph", "brz"])
@@ -205,14 +205,14 @@ def _(room):
             gone(room, f"after {call} {number} {how}")
 
 
-@case("the spill file lies in the folder that -d names, in a build and in a test")
+@case("the spill file lies in the directory that -d names, in a build and in a test")
 def _(room):
     room.put("keys", lines(300))
     room.put_folder("there")
-    for words, out in [(BUILD, b""), (["-T", "300"], tested(room))]:
-        ends(room.run(*words, "-d", "none"), 5, out[:out.find(b"brz")], said(f"none: {NO_SPILL}"))
+    for arguments, out in [(BUILD, b""), (["-T", "300"], tested(room))]:
+        ends(room.run(*arguments, "-d", "none"), 5, out[:out.find(b"brz")], said(f"none: {NO_SPILL}"))
         for more, folder in [([], "."), (["-d", "there"], "there")]:
-            left = room.run(*words, *more, bend={})
+            left = room.run(*arguments, *more, bend={})
             ends(left, 0, out)
             same("the spill files", opened(room), [os.path.normpath(f"{folder}/{spill_of(left.number)}")])
             same("the spill files that are left", spills(room, folder), [])
@@ -223,14 +223,14 @@ def _(room):
     keys = [b"%01000d" % number for number in range(2200)]
     room.put("keys", b"\n".join(keys) + b"\n")
     generated = [b"key-0000000000"] * 60000
-    for words, spilled in [(BUILD, keys), (["-T", "60000"], generated)]:
+    for arguments, spilled in [(BUILD, keys), (["-T", "60000"], generated)]:
         for megabytes in [1, 2, 3]:
-            same("the status", room.run(*words, "-M", str(megabytes), bend={}).status, 0)
+            same("the status", room.run(*arguments, "-M", str(megabytes), bend={}).status, 0)
             same(f"the runs by -M {megabytes}", runs_in(room.get("spilled")), runs_of(spilled, megabytes))
-        same("the runs that are fewer", runs_of(spilled, 1) > runs_of(spilled, 3), True)
+        same("whether -M changes the runs", runs_of(spilled, 1) > runs_of(spilled, 3), True)
 
 
-@case("three builds by brz side by side, with their spill files in one folder, give the functions that each gives alone")
+@case("three builds by brz side by side, with their spill files in one directory, write what each writes alone")
 def _(room):
     names, alone = ["one", "two", "three"], []
     for number, name in enumerate(names):
@@ -288,7 +288,7 @@ def text_of(keys):
 
 
 def changes(room, arguments, keys, at, later, first, now):
-    """A build over keys that are other ones from a pass on, counted from 1: status 7, with these numbers."""
+    """A build whose keys are others from a pass on, counted from 1: status 7, with these numbers."""
     room.put("keys", text_of(keys))
     room.put("keys.mph", b"older")
     room.put(f"pass-{at}", text_of(later))
