@@ -13,7 +13,7 @@ import subprocess
 import sys
 import tempfile
 
-from room import CASES, HERE, Skipped, Wrong, case, closed, ends, limited, lines, made_shim, run_case, said, same
+from room import CASES, HERE, Skipped, Wrong, case, closed, closed_once, ends, limited, lines, made_shim, run_case, said, same
 
 HELP = b"""usage: cmph [-v] [-h] [-V] [-k nkeys] [-f hash] [-g [-c c] [-s seed] [-r seeds]] [-a algorithm] [-M MB] [-b b] [-d dir] [-m file.mph] keysfile
        cmph -T nkeys [-s seed] [-r seeds] [-M MB] [-d dir]
@@ -460,10 +460,9 @@ def _(room):
     room.put("keys", lines(12000))
     for name in ["chm", "bdz", "bdz_ph", "brz"]:
         ends(room.run("-g", "-a", name, "keys", bend={}), 0)
-        calls = room.calls()
-        mine = [call for call, path in calls if path == "keys.mph"]
+        mine = [call for call, path in room.calls() if path == "keys.mph"]
         same("the calls on the function file", mine, ["open", *["write"] * (len(mine) - 3), "fsync", "close"])
-        same("the files that are closed", sorted(path for call, path in calls if call == "close"), sorted(path for call, path in calls if call == "open"))
+        closed_once(room)
 
 
 import spilling  # noqa: E402, F401  its cases come last

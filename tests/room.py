@@ -127,6 +127,12 @@ def ends(left, status, out=b"", err=b""):
     same("standard error", left.err, err)
 
 
+def closed_once(room):
+    """Whether the last run under the shim closed each file that it opened, and none again."""
+    calls = room.calls()
+    same("the files that were closed", *(sorted(path for call, path in calls if call == which) for which in ["close", "open"]))
+
+
 def said(text):
     return f"cmph: {text}\n".encode()
 

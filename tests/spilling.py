@@ -8,7 +8,7 @@ import stat
 import sys
 import time
 
-from room import HERE, case, ends, finished, limited, lines, said, same
+from room import HERE, case, closed_once, ends, finished, limited, lines, said, same
 
 sys.path.append(os.path.join(HERE, "..", "docs"))
 from draw import words as lookup2  # noqa: E402
@@ -187,6 +187,8 @@ def _(room):
         for number, left in room.bent_runs(BUILD, call, "fail", on):
             ends(left, *wanted[min(number, len(wanted)) - 1])
             same(f"the function file after {call} {number} failed", room.get("keys.mph"), file)
+            if call == "close":
+                closed_once(room)
             if call == "unlink":
                 for name in spills(room):
                     os.remove(room.path(name))
@@ -203,6 +205,8 @@ def _(room):
             ends(left, 0)
             same(f"the function file after {call} {number} {how}", room.get("keys.mph"), whole)
             gone(room, f"after {call} {number} {how}")
+            if call == "close":
+                closed_once(room)
 
 
 @case("the spill file lies in the directory that -d names, in a build and in a test")
@@ -288,12 +292,14 @@ def text_of(keys):
 
 
 def changes(room, arguments, keys, at, later, first, now):
-    """A build whose keys are others from a pass on, counted from 1: status 7, with these numbers."""
+    """A build whose keys are others in one pass, counted from 1: status 7, with these numbers."""
     room.put("keys", text_of(keys))
     room.put("keys.mph", b"older")
     room.put(f"pass-{at}", text_of(later))
+    room.put(f"pass-{at + 1}", text_of(keys))
     left = room.run(*BUILD, *arguments, bend={})
     os.remove(room.path(f"pass-{at}"))
+    os.remove(room.path(f"pass-{at + 1}"))
     ends(left, 7, b"", said(f"keys: keys changed: {first}, then {now}"))
     gone(room, f"after pass {at}")
     same("the function file", room.get("keys.mph"), b"older")
