@@ -1,8 +1,9 @@
 #!/usr/bin/env python3
-"""Writes the measured tables of README.md and docs/ from the files in bench/results.
+"""Writes the measured tables of README.md and docs/ from the files in bench/results, and those of crates from crates.txt.
 
-    bench/tables.py                            writes every block, and the bars in docs/bench.svg
-    bench/tables.py --check                    writes nothing, and fails if a block or the bars are not what it would write
+    bench/tables.py                            writes every block, and the drawings docs/bench.svg and docs/crates.svg
+    bench/tables.py --check                    writes nothing, and fails if a block or a drawing is not what it would write, or if
+                                               docs/proofs.md has no row of a crate
     bench/tables.py --record NAME COMMAND ..   runs COMMAND, and first leaves what it prints in bench/results/NAME.md, with
                                                the machine, the date and the command
 
@@ -10,8 +11,10 @@ A block stands in a page between `<!-- begin: WHAT -->` and `<!-- end -->`. WHAT
 
     bench NAME          all of bench/results/NAME.md
     choice NAME KEYS    which algorithm to take, with the figures of NAME.csv for that many generated keys
+    crates              each crate with what it may use and what it promises, by crates.txt
+    families            each family of crates with what it is for and what it promises, by crates.txt
 
-The bars are drawn from bench/results/latest.csv.
+The bars in docs/bench.svg are drawn from bench/results/latest.csv, and docs/crates.svg from crates.txt (bench/house.py).
 """
 
 import csv
@@ -26,10 +29,12 @@ from pathlib import Path
 
 import bars
 import compare
+import house
 
 TOP = Path(__file__).resolve().parent.parent
 RESULTS = TOP / "bench" / "results"
 BARS = TOP / "docs" / "bench.svg"
+CRATES = TOP / "docs" / "crates.svg"
 BLOCK = re.compile(r"^<!-- begin: ([^\n]*) -->\n(.*?)^<!-- end -->$", re.MULTILINE | re.DOTALL)
 MARKER = re.compile(r"^<!-- (begin: .*|end) -->$", re.MULTILINE)
 NEEDS = {
@@ -96,6 +101,10 @@ def content(what: str) -> str:
             return (RESULTS / f"{name}.md").read_text()
         case ["choice", name, keys]:
             return choice(name, keys)
+        case ["crates"]:
+            return house.crates()
+        case ["families"]:
+            return house.families()
     raise Refused(f"there is no block '{what}'")
 
 
@@ -115,14 +124,26 @@ def drawn() -> str:
 
 
 def wanted() -> dict[Path, str]:
-    """Each page, and the bars, as they should be."""
+    """Each page, and the drawings, as they should be."""
     pages = {}
     for path in [TOP / "README.md", *sorted((TOP / "docs").glob("*.md"))]:
         try:
             pages[path] = page(path.read_text())
-        except (Refused, OSError) as fault:
+        except (Refused, house.Refused, OSError) as fault:
             sys.exit(f"{path.relative_to(TOP)}: {fault}")
+    try:
+        pages[CRATES] = house.drawn()
+    except house.Refused as fault:
+        sys.exit(f"{CRATES.relative_to(TOP)}: {fault}")
     return {**pages, BARS: drawn()} if beside_c("latest") else pages
+
+
+def not_in_proofs() -> list[str]:
+    """The crates of the program that have no row in docs/proofs.md."""
+    rows = re.findall(r"^\| (`[^|]*`) \|", (TOP / "docs" / "proofs.md").read_text(), re.MULTILINE)
+    named = {name for row in rows for name in re.findall(r"`(\w+)`", row)}
+    crates = [crate.name for family in house.read() for crate in family.crates]
+    return [name for name in crates if name not in named and not name.startswith(("test_", "bench_"))]
 
 
 def record(name: str, command: list[str]) -> None:
@@ -143,14 +164,17 @@ def main() -> int:
     elif asked not in ([], ["--check"]):
         print(__doc__)
         return 2
-    old = [path for path, text in wanted().items() if path.read_text() != text]
-    for path in old:
+    old = {path: text for path, text in wanted().items() if not path.exists() or path.read_text() != text}
+    for path, text in old.items():
         if asked == ["--check"]:
-            print(f"{path.relative_to(TOP)} differs from bench/results: run bench/tables.py", file=sys.stderr)
+            print(f"{path.relative_to(TOP)} differs from bench/results or crates.txt: run bench/tables.py", file=sys.stderr)
         else:
-            path.write_text(wanted()[path])
+            path.write_text(text)
             print(f"{path.relative_to(TOP)}: written")
-    return 1 if old and asked == ["--check"] else 0
+    missing = not_in_proofs()
+    for name in missing:
+        print(f"docs/proofs.md has no row of {name}", file=sys.stderr)
+    return 1 if missing or (old and asked == ["--check"]) else 0
 
 
 if __name__ == "__main__":
