@@ -2,8 +2,8 @@
 """Writes the measured tables of README.md and docs/ from the files in bench/results, and those of crates from crates.txt.
 
     bench/tables.py                            writes every block, and the drawings docs/bench.svg and docs/crates.svg
-    bench/tables.py --check                    writes nothing, and fails if a block or a drawing is not what it would write, or if
-                                               docs/proofs.md has no row of a crate
+    bench/tables.py --check                    writes nothing, and fails if a block or a drawing is not what it would write, if
+                                               docs/proofs.md has no row of a crate, or if a link leads nowhere
     bench/tables.py --record NAME COMMAND ..   runs COMMAND, and first leaves what it prints in bench/results/NAME.md, with
                                                the machine, the date and the command
 
@@ -30,6 +30,7 @@ from pathlib import Path
 import bars
 import compare
 import house
+import links
 
 TOP = Path(__file__).resolve().parent.parent
 RESULTS = TOP / "bench" / "results"
@@ -171,10 +172,10 @@ def main() -> int:
         else:
             path.write_text(text)
             print(f"{path.relative_to(TOP)}: written")
-    missing = not_in_proofs()
-    for name in missing:
-        print(f"docs/proofs.md has no row of {name}", file=sys.stderr)
-    return 1 if missing or (old and asked == ["--check"]) else 0
+    faults = [f"docs/proofs.md has no row of {name}" for name in not_in_proofs()] + links.broken()
+    for fault in faults:
+        print(fault, file=sys.stderr)
+    return 1 if (old or faults) and asked == ["--check"] else 0
 
 
 if __name__ == "__main__":
