@@ -84,7 +84,7 @@ def named_in(each: Family) -> None:
 # Tables
 
 
-def crates() -> str:
+def table_of_crates() -> str:
     """Each crate with what it may use and what it promises."""
     lines = ["| Crate | May use | Promises to those above |", "|---|---|---|"]
     for each in read():
@@ -94,7 +94,7 @@ def crates() -> str:
     return "\n".join(lines) + "\n"
 
 
-def families() -> str:
+def table_of_families() -> str:
     """Each family with its crates, what it is for, and what it promises."""
     lines = ["| Family | Crates | What it is for | What it promises |", "|---|---|---|---|"]
     for each in read():

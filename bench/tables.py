@@ -103,9 +103,9 @@ def content(what: str) -> str:
         case ["choice", name, keys]:
             return choice(name, keys)
         case ["crates"]:
-            return house.crates()
+            return house.table_of_crates()
         case ["families"]:
-            return house.families()
+            return house.table_of_families()
     raise Refused(f"there is no block '{what}'")
 
 
