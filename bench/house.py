@@ -52,10 +52,10 @@ def family(lines: list[str]) -> Family:
         raise Refused(f"crates.txt: the family '{name}' needs a line of its own with a promise, and each crate one")
     crates = []
     for said, line in zip(lines[1::2], lines[2::2]):
-        crate, colon, uses = line.partition(":")
+        head, colon, uses = line.partition(":")
         if line.startswith("#") or not colon:
             raise Refused(f"crates.txt: a crate has to stand after '{said}'")
-        crates.append(Crate(crate, comment(said), uses.split()))
+        crates.append(Crate(head.split()[0], comment(said), uses.split()))
     return Family(name, purpose, promise, crates)
 
 
@@ -143,6 +143,7 @@ def level(name: str, uses: Uses) -> int:
 WIDTH, EDGE, HEAD = 860, 16, 60
 LETTER, PAD, PILL, DROP = 6.7, 8, 20, 6  # of a crate: the width of a letter, left and right of the name, height, space below
 BESIDE, STOREY, LANE = 26, 34, 26  # between columns of crates, between storeys, of an arrow that passes a storey
+BESIDE_MOST = 5  # crates side by side
 TITLE = 40  # the name of a family, and what it is for
 
 
@@ -167,10 +168,10 @@ def rows_of(column: int, before: list[Box], names: list[str], uses: Uses) -> lis
 
 
 def within(each: Family) -> list[Box]:
-    """Columns of crates: each to the right of those that it uses; side by side if none uses another."""
+    """Columns of crates: each to the right of those that it uses; in lines if none uses another."""
     uses = reduced(uses_within(each))
     if not any(uses.values()):
-        return [Box(crate.name, at, 0) for at, crate in enumerate(each.crates)]
+        return [Box(crate.name, at % BESIDE_MOST, at // BESIDE_MOST) for at, crate in enumerate(each.crates)]
     boxes: list[Box] = []
     for column in range(1 + max(level(name, uses) for name in uses)):
         names = [name for name in uses if level(name, uses) == column]
