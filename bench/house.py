@@ -140,7 +140,7 @@ def level(name: str, uses: Uses) -> int:
 
 # The drawing: what stands where
 
-WIDTH, EDGE, HEAD = 860, 16, 60
+WIDTH, EDGE, HEAD, SPACE = 860, 16, 60, 12  # the least width, inside a box, above all, the least space between boxes
 LETTER, PAD, PILL, DROP = 6.7, 8, 20, 6  # of a crate: the width of a letter, left and right of the name, height, space below
 BESIDE, STOREY, LANE = 26, 34, 26  # between columns of crates, between storeys, of an arrow that passes a storey
 BESIDE_MOST = 5  # crates side by side
@@ -234,23 +234,24 @@ def steps(uses: Uses) -> tuple[dict[str, int], list[Arrow]]:
     return storeys, arrows
 
 
-def placed(families: list[Family]) -> tuple[dict[str, Placed], list[Arrow], float]:
-    """The boxes of all families and the ways of arrows, from the lowest storey to the highest; the arrows; and where all ends."""
+def placed(families: list[Family]) -> tuple[dict[str, Placed], list[Arrow], float, float]:
+    """The boxes of all families and the ways of arrows, from the lowest storey to the highest; the arrows; the width and the height."""
     by_name = {each.name: each for each in families}
     storeys, arrows = steps(reduced(uses_of_families(families)))
     boxes = {key: Placed(key, by_name.get(key)) for key in storeys}
     rows = [[box for box in boxes.values() if storeys[box.key] == at] for at in range(1 + max(storeys.values()))]
+    width = max(WIDTH, *(SPACE * (len(row) + 1) + sum(box.width for box in row) for row in rows))
     for row in rows:
-        beside(row, boxes, arrows)
+        beside(row, boxes, arrows, width)
     y = float(HEAD)
     for row in reversed(rows):
         for box in row:
             box.top, box.height = y, max(other.needs() for other in row)
         y += row[0].height + STOREY
-    return boxes, arrows, y - STOREY
+    return boxes, arrows, width, y - STOREY
 
 
-def beside(row: list[Placed], boxes: dict[str, Placed], arrows: list[Arrow]) -> None:
+def beside(row: list[Placed], boxes: dict[str, Placed], arrows: list[Arrow], width: float) -> None:
     """Places a storey above those below it: each near the middle of what it uses, and all of them with equal space between."""
 
     def under(box: Placed) -> float:
@@ -258,10 +259,7 @@ def beside(row: list[Placed], boxes: dict[str, Placed], arrows: list[Arrow]) -> 
         return sum(middles) / len(middles) if middles else 0
 
     row.sort(key=under)
-    space = (WIDTH - sum(box.width for box in row)) / (len(row) + 1)
-    if space < 8:
-        raise Refused("crates.txt: a storey is too wide for docs/crates.svg")
-    left = space
+    left = space = (width - sum(box.width for box in row)) / (len(row) + 1)
     for box in row:
         box.left = left
         left += box.width + space
@@ -355,15 +353,15 @@ def boxed(box: Placed, each: Family) -> list[str]:
 def drawn() -> str:
     """The drawing of all crates."""
     families = read()
-    boxes, arrows, foot = placed(families)
+    boxes, arrows, width, foot = placed(families)
     count, high = sum(len(each.crates) for each in families), f"{foot + 20:g}"
     legend = "An arrow goes from what uses to what is used. One that follows from others is left out."
     return "\n".join([
-        f'<svg xmlns="http://www.w3.org/2000/svg" viewBox="0 0 {WIDTH} {high}" width="{WIDTH}" height="{high}" role="img">',
+        f'<svg xmlns="http://www.w3.org/2000/svg" viewBox="0 0 {width:g} {high}" width="{width:g}" height="{high}" role="img">',
         "<title>The crates in their families, lowest below</title>",
         f"<style>{STYLE}</style>",
         MARKERS,
-        f'<rect class="card" x="0.5" y="0.5" width="{WIDTH - 1}" height="{foot + 19:g}" rx="6"/>',
+        f'<rect class="card" x="0.5" y="0.5" width="{width - 1:g}" height="{foot + 19:g}" rx="6"/>',
         f'<text class="title" x="{EDGE}" y="26">The {count} crates in their {len(families)} families</text>',
         f'<text class="soft" x="{EDGE}" y="44">{legend}</text>',
         *(mark for upper, lower in arrows for mark in arrow(boxes[upper], boxes[lower])),
