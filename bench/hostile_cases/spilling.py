@@ -128,7 +128,7 @@ TAKEN = {
 }
 
 
-@case("a build by BRZ where " + ", ".join(TAKEN) + " stands under the name of the spill file")
+@case("a build by BRZ where the name of the spill file is taken by one of these: " + "; ".join(TAKEN))
 def _(machine: Machine, row: Row) -> None:
     victim, names = numbered(7), {"keys", "g", "victim", "out", "err", FOLDER}
     contents = [numbered(300), b"a\na\n", b"\n" * 300, b""]
