@@ -1,4 +1,4 @@
-use Rattle.std.proofs.Common.{◌≡◌, ◌≤◌, true}
+use Rattle.std.proofs.Common.{◌≡◌, ◌≤◌, true, ℕ, List, length}
 use Rattle.cm_algo_seeds.proofs.passes.count_all.Given as goal
 
 abbrev pub invariant-loop-turn : goal.invariant-loop-turn
@@ -11,4 +11,5 @@ invariant-loop-turn g l =
       at : P.place l.keys ≡ l.count;
       some : l.turn ≤ l.count;
       few : l.count ≤ 16777216;
+      gave : (passed : List (ℕ × List ℕ)) × P.gave l.keys passed × (length passed ≡ l.count);
     }
