@@ -5,5 +5,6 @@ mod LeaveLemmas
 pub mod NumberingLemmas
 mod NextLemmas
 mod FourLemmas
+mod GivenLemmas
 mod MarkLemmas
 pub mod SplittingLemmas

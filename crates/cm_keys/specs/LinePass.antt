@@ -1,6 +1,6 @@
 -- A pass over the lines of a source, as contracts see it.
-use Rattle.std.specs.Prelude.{◌≡◌, ◌⊎◌, ◌<◌, ◌≤◌, ◌+◌, ℕ, List, [], Option, None, Some, Bool, true, false}
-use Rattle.std.specs.Option.{option_map}
+use Rattle.std.specs.Prelude.{◌≡◌, ◌⊎◌, ◌<◌, ◌≤◌, ◌+◌, ℕ, List, [], Option, None, Some, Bool, true, false, take}
+use Rattle.std.specs.Option.{ForSome, option_map}
 use Rattle.cm_io.specs.Passes.{Told}
 use Rattle.cm_io.specs.declared.key_pass.KeyFault.{KeyFault}
 use Rattle.cm_io.specs.declared.key_pass.KeyFault.TheVariants.{Read, TooLong, TooMany}
@@ -9,23 +9,29 @@ use Rattle.cm_keys.specs.Buffering.{HasNoEnd, TakesPart}
 use Rattle.cm_keys.specs.declared.buffered.Part.TheVariants.{Whole}
 
 -- the known bytes of the source; how many lines are read, if not all; how many keys were yielded since the last rewind; whether the
--- source has come to its end with no byte left; whether a key may be asked for; the source's count of faults; the buffered bytes
+-- source has come to its end with no byte left; whether a key may be asked for; the fault that it may not be asked for after; the
+-- source's count of faults; the buffered bytes
 pub record LinePass : Type 0 where
   pub bytes : Option (List ℕ)
   pub first : Option ℕ
   pub given : ℕ
   pub ended : Bool
   pub usable : Bool
+  pub failure : Option KeyFault
   pub faults : ℕ
   pub waiting : List ℕ
 
 -- a pass at its start
 abbrev pub new_pass : Option (List ℕ) → Option ℕ → ℕ → LinePass
-new_pass bytes first faults = record { bytes = bytes; first = first; given = 0; ended = false; usable = true; faults = faults; waiting = [] }
+new_pass bytes first faults = record { bytes = bytes; first = first; given = 0; ended = false; usable = true; failure = None; faults = faults; waiting = [] }
 
 -- the keys of a pass: those of the known bytes of its source
 abbrev pub keys_of : ℕ → ℕ → ℕ → LinePass → Option Told
 keys_of max longest end pass = option_map (lines_of max longest end pass.first) pass.bytes
+
+-- These keys were yielded since the last rewind: the first of those of the known bytes, as many as were yielded.
+abbrev pub HasGiven : ℕ → ℕ → ℕ → LinePass → List (ℕ × List ℕ) → Type 0
+HasGiven max longest end pass keys = ForSome (keys_of max longest end pass) (λ told. keys ≡ take pass.given told.keys)
 
 -- A further line is read.
 abbrev pub IsOpen : Option ℕ → ℕ → Type 0

@@ -1,11 +1,12 @@
-ghost use Rattle.std.specs.Prelude.{◌≡◌, ◌⊎◌, ◌<◌, ◌≤◌, ◌+◌, ℕ, List, length, drop, Ok, true, false, OnOk, OnErr, IfOk, IfErr, IfSome, IfNone, IsTrue, IsOkUnless, if◌then◌else◌, option_map};
+ghost use Rattle.std.specs.Prelude.{◌≡◌, ◌⊎◌, ◌<◌, ◌≤◌, ◌+◌, ◌++◌, ℕ, List, [], ◌∷◌, length, map, drop, Ok, None, true, false, OnOk, OnErr, IfOk, IfErr, IfSome, IfNone, IsTrue, IsOkUnless, if◌then◌else◌, option_map};
 ghost use Rattle.std.specs.Option.{ForSome};
-ghost use Rattle.cm_io.specs.Passes.{HasKeyCause, GivesFour, GivesKey, PassesKeys};
+ghost use Rattle.cm_io.specs.Passes.{HasKeyCause, GivesFour, GivesKey, PassesKeys, failure_of};
+ghost use Rattle.cm_spec.specs.Lookup2.{words};
 ghost use Rattle.cm_keys.specs.Buffering.{HasFewer, HasNoEnd};
 ghost use Rattle.cm_keys.specs.Lines.{lines_of};
 ghost use Rattle.cm_keys.specs.NumberingLaws.{IsWithin};
 ghost use Rattle.cm_keys.specs.declared.buffered.TheConstants.{ROOM};
-ghost use Rattle.cm_keys.specs.LinePass.{IsAtHand, IsDone, IsFull, IsNearEnd, IsNextLine, IsOpen, NoneAtHand, keys_of, new_pass};
+ghost use Rattle.cm_keys.specs.LinePass.{HasGiven, IsAtHand, IsDone, IsFull, IsNearEnd, IsNextLine, IsOpen, NoneAtHand, keys_of, new_pass};
 
 use crate::buffered::{Buffered, Line, ROOM};
 use cm_io::{Failed, KeyBuf, KeyFault, KeyPass, MAX_KEY_LEN, MAX_KEYS, Source};
@@ -21,10 +22,12 @@ pub struct Keys<S: Source> {
     bytes: Buffered<S>,
     first: Option<u32>,
     given: u32,
-    usable: bool,
+    /// The fault of the last call that failed, up to a rewind that doesn't.
+    failure: Option<KeyFault>,
 }
 
 impl<S: Source> Model for Keys<S> {
+    ghost use Rattle.std.specs.Prelude.{is_none};
     ghost use Rattle.cm_keys.specs.LinePass.{LinePass};
     ghost use Rattle.cm_keys.specs.Leaving.{IsPassing};
     ghost use Rattle.cm_keys.specs.Buffering.{ready_in};
@@ -38,12 +41,13 @@ impl<S: Source> Model for Keys<S> {
       first = k.first;
       given = k.given;
       ended = k.bytes.ended;
-      usable = k.usable;
+      usable = is_none k.failure;
+      failure = k.failure;
       faults = S.faults k.bytes.source;
       waiting = ready_in k.bytes.buf k.bytes.start k.bytes.until;
     } };
 
-    ghost invariant = { λ k. IsPassing MAX_KEYS MAX_KEY_LEN LINE_END k.first k.given k.usable (S.told k.bytes.source)
+    ghost invariant = { λ k. IsPassing MAX_KEYS MAX_KEY_LEN LINE_END k.first k.given (is_none k.failure) (S.told k.bytes.source)
         (S.place k.bytes.source) (ready_in k.bytes.buf k.bytes.start k.bytes.until) };
 }
 
@@ -58,12 +62,14 @@ impl<S: Source> Keys<S> {
         ensures last { ⟦<Keys<S> as KeyPass>⟧.last result ≡ 0 }
         ensures usable { ⟦<Keys<S> as KeyPass>⟧.usable result ≡ true }
         ensures faults { ⟦<Keys<S> as KeyPass>⟧.faults result ≡ S.faults source }
+        ensures failure { ⟦<Keys<S> as KeyPass>⟧.failure result ≡ None }
+        ensures gave { ⟦<Keys<S> as KeyPass>⟧.gave result [] }
     {
         Keys {
             bytes: Buffered::new(source),
             first,
             given: 0,
-            usable: true,
+            failure: None,
         }
     }
 
@@ -76,10 +82,19 @@ impl<S: Source> Keys<S> {
             bytes,
             first: _,
             given: _,
-            usable: _,
+            failure: _,
         } = self;
         bytes.into_source()
     }
+}
+
+/// Keeps a fault as the failure of a pass, and returns it.
+fn keep(failure: &mut Option<KeyFault>, fault: KeyFault) -> KeyFault
+    ensures failure { failure.new ≡ Some fault }
+    ensures fault { result ≡ fault }
+{
+    *failure = Some(fault);
+    fault
 }
 
 /// Whether a further line is read.
@@ -132,6 +147,12 @@ impl<S: Source> KeyPass for Keys<S> {
 
     ghost faults = { λ k. k.faults };
 
+    ghost failure = { λ k. k.failure };
+
+    ghost gave = { λ k keys. HasGiven MAX_KEYS MAX_KEY_LEN LINE_END k keys };
+
+    ghost at_end = { λ k. IsDone k };
+
     ghost stands = { λ k key. IsAtHand MAX_KEYS MAX_KEY_LEN LINE_END k key };
 
     ghost next_line = { λ k. k.given + 1 };
@@ -139,7 +160,7 @@ impl<S: Source> KeyPass for Keys<S> {
     ghost lacks_four = { λ k. IsNearEnd MAX_KEYS 4 k.first k.given ⊎ HasFewer MAX_KEY_LEN LINE_END 4 k.waiting };
 
     fn usable(&self) -> bool {
-        self.usable
+        self.failure.is_none()
     }
 
     fn next(&mut self, key: &mut KeyBuf) -> Result<bool, KeyFault>
@@ -148,6 +169,10 @@ impl<S: Source> KeyPass for Keys<S> {
         ensures gives { ForSome (keys_of MAX_KEYS MAX_KEY_LEN LINE_END self.old) (λ told.
             GivesKey told self.old.given self.new.given self.new.given key.new.items result) }
         ensures cause { HasKeyCause self.old.faults self.new.faults result }
+        ensures failure { self.new.failure ≡ failure_of result }
+        ensures gave { (keys : List (ℕ × List ℕ)) → HasGiven MAX_KEYS MAX_KEY_LEN LINE_END self.old keys →
+            IfOk result (λ more. HasGiven MAX_KEYS MAX_KEY_LEN LINE_END self.new
+            (keys ++ (if more then (self.new.given, key.new.items) ∷ [] else []))) }
         ensures counts { IfOk result (λ more. self.new.given ≡ self.old.given + (if more then 1 else 0)) }
         ensures few { self.new.given ≤ MAX_KEYS }
         ensures rises { IfOk result (λ more. more ≡ true → self.old.given < self.new.given) }
@@ -161,7 +186,7 @@ impl<S: Source> KeyPass for Keys<S> {
         ensures first { self.new.first ≡ self.old.first }
 
         // Returns false exactly if there is no further line, and then until a rewind.
-        ensures over { IfOk result (λ more. more ≡ false → IsDone self.new) }
+        ensures at_end { IfOk result (λ more. more ≡ false → IsDone self.new) }
         ensures done { IsDone self.old → result ≡ Ok false }
 
         // A line at fault is the next one.
@@ -170,31 +195,24 @@ impl<S: Source> KeyPass for Keys<S> {
         if !is_open(self.first, self.given) {
             return Ok(false);
         }
-        self.usable = false;
         if self.given == MAX_KEYS {
             return match self.bytes.has_more() {
-                Ok(true) => Err(KeyFault::TooMany),
-                Ok(false) => {
-                    self.usable = true;
-                    Ok(false)
-                }
-                Err(Failed) => Err(KeyFault::Read),
+                Ok(true) => Err(keep(&mut self.failure, KeyFault::TooMany)),
+                Ok(false) => Ok(false),
+                Err(Failed) => Err(keep(&mut self.failure, KeyFault::Read)),
             };
         }
         match self.bytes.read_line(LINE_END, key) {
             Ok(Line::Key) => {
                 self.given += 1;
-                self.usable = true;
                 Ok(true)
             }
-            Ok(Line::End) => {
-                self.usable = true;
-                Ok(false)
+            Ok(Line::End) => Ok(false),
+            Ok(Line::TooLong) => {
+                let line = self.given + 1;
+                Err(keep(&mut self.failure, KeyFault::TooLong { line }))
             }
-            Ok(Line::TooLong) => Err(KeyFault::TooLong {
-                line: self.given + 1,
-            }),
-            Err(Failed) => Err(KeyFault::Read),
+            Err(Failed) => Err(keep(&mut self.failure, KeyFault::Read)),
         }
     }
 
@@ -225,6 +243,9 @@ impl<S: Source> KeyPass for Keys<S> {
         ensures told { keys_of MAX_KEYS MAX_KEY_LEN LINE_END self.new ≡ keys_of MAX_KEYS MAX_KEY_LEN LINE_END self.old }
         ensures gives { (key : List ℕ) → IsAtHand MAX_KEYS MAX_KEY_LEN LINE_END self.old key → length key ≡ len → ForSome (keys_of MAX_KEYS MAX_KEY_LEN LINE_END self.old) (λ told.
             GivesKey told self.old.given self.new.given self.new.given key (Ok true)) }
+        ensures gave { (keys : List (ℕ × List ℕ)) (key : List ℕ) → HasGiven MAX_KEYS MAX_KEY_LEN LINE_END self.old keys →
+            IsAtHand MAX_KEYS MAX_KEY_LEN LINE_END self.old key → length key ≡ len →
+            HasGiven MAX_KEYS MAX_KEY_LEN LINE_END self.new (keys ++ (self.new.given, key) ∷ []) }
         ensures cause { self.new.faults ≡ self.old.faults }
         ensures counts { self.new.given ≡ self.old.given + 1 }
         ensures few { self.new.given ≤ MAX_KEYS }
@@ -246,6 +267,9 @@ impl<S: Source> KeyPass for Keys<S> {
         ensures told { keys_of MAX_KEYS MAX_KEY_LEN LINE_END self.new ≡ keys_of MAX_KEYS MAX_KEY_LEN LINE_END self.old }
         ensures gives { IfSome result (λ four. ForSome (keys_of MAX_KEYS MAX_KEY_LEN LINE_END self.old) (λ told.
             GivesFour told self.old.given seed four)) }
+        ensures gave { IfSome result (λ four. (keys : List (ℕ × List ℕ)) → HasGiven MAX_KEYS MAX_KEY_LEN LINE_END self.old keys →
+            (more : List (ℕ × List ℕ)) × (four ≡ map (λ key. words key.1 seed) more)
+            × HasGiven MAX_KEYS MAX_KEY_LEN LINE_END self.new (keys ++ more)) }
         ensures cause { self.new.faults ≡ self.old.faults }
         ensures counts { IfSome result (λ _. self.new.given ≡ self.old.given + 4) }
         ensures few { IfSome result (λ _. self.new.given ≤ MAX_KEYS) }
@@ -284,6 +308,8 @@ impl<S: Source> KeyPass for Keys<S> {
         requires usable { IsTrue self.old.usable }
         ensures told { keys_of MAX_KEYS MAX_KEY_LEN LINE_END self.new ≡ keys_of MAX_KEYS MAX_KEY_LEN LINE_END self.old }
         ensures gives { 0 < result → ForSome (keys_of MAX_KEYS MAX_KEY_LEN LINE_END self.old) (λ told. PassesKeys told self.new.given self.new.given) }
+        ensures gave { (keys : List (ℕ × List ℕ)) → HasGiven MAX_KEYS MAX_KEY_LEN LINE_END self.old keys →
+            (more : List (ℕ × List ℕ)) × (length more ≡ result) × HasGiven MAX_KEYS MAX_KEY_LEN LINE_END self.new (keys ++ more) }
         ensures cause { self.new.faults ≡ self.old.faults }
         ensures counts { self.new.given ≡ self.old.given + result }
         ensures few { 0 < result → self.new.given ≤ MAX_KEYS }
@@ -311,8 +337,10 @@ impl<S: Source> KeyPass for Keys<S> {
     fn rewind(&mut self) -> Result<(), KeyFault>
         ensures told { keys_of MAX_KEYS MAX_KEY_LEN LINE_END self.new ≡ keys_of MAX_KEYS MAX_KEY_LEN LINE_END self.old }
         ensures start { OnOk result (self.new.given ≡ 0) }
+        ensures gave { OnOk result (HasGiven MAX_KEYS MAX_KEY_LEN LINE_END self.new []) }
         ensures read { IsOkUnless result KeyFault.Read }
         ensures cause { HasKeyCause self.old.faults self.new.faults result }
+        ensures failure { self.new.failure ≡ failure_of result }
         ensures refused { OnErr result (self.new.given ≡ self.old.given) }
         ensures usable { OnOk result (self.new.usable ≡ true) }
         ensures unusable { OnErr result (self.new.usable ≡ false) }
@@ -322,14 +350,13 @@ impl<S: Source> KeyPass for Keys<S> {
         ensures bytes { self.new.bytes ≡ self.old.bytes }
         ensures first { self.new.first ≡ self.old.first }
     {
-        self.usable = false;
         match self.bytes.rewind() {
             Ok(()) => {
                 self.given = 0;
-                self.usable = true;
+                self.failure = None;
                 Ok(())
             }
-            Err(Failed) => Err(KeyFault::Read),
+            Err(Failed) => Err(keep(&mut self.failure, KeyFault::Read)),
         }
     }
 
