@@ -1,11 +1,12 @@
 //! Real files. The contents of the disk are not known here. If those of a file are, a read returns what comes next in it. An
 //! interrupted call is repeated.
-ghost use Rattle.std.specs.Prelude.{◌≡◌, ◌<◌, ◌≤◌, [], None, Some, Err, IfOk, IfSome, length, take, nat_lt, string_bytes};
-ghost use Rattle.std.specs.Io.KnownBytes.{Consumes, IsAtEnd};
+ghost use Rattle.std.specs.Prelude.{◌≡◌, ◌<◌, ◌≤◌, [], None, Some, Err, IfOk, IfSome, OnOk, is_err, length, take, nat_lt, string_bytes};
+ghost use Rattle.std.specs.Io.KnownBytes.{Appends, Consumes, IsAtEnd, append_known};
 ghost use Rattle.std.specs.Io.Seek.{MovesTo};
 ghost use Rattle.std.specs.Option.{ForSome};
-ghost use Rattle.cm_io.specs.Causes.{HasCause, HasDiskCause, Collects};
+ghost use Rattle.cm_io.specs.Causes.{HasCause, HasCloseCause, HasDiskCause, Collects};
 ghost use Rattle.cm_io.specs.Counts.{counted, counted_if};
+ghost use Rattle.cm_io.specs.Files.{Closes};
 ghost use Rattle.cm_real.specs.Spills.{spill_path_of};
 
 use crate::{FileSpill, StdSink};
@@ -189,16 +190,24 @@ impl<'a, R: Files> Disk for FileDisk<'a, R> {
         }
     }
 
-    fn close(&mut self, _path: &str, writer: StdSink<R::File>) -> Result<(), Failed> {
-        let mut writer = writer;
-        // After a failed write nothing more is written: a part of the buffered bytes may be in the file already.
-        let sent = writer.faults() == 0 && writer.write(&[]).is_ok();
-        let (file, _) = writer.into_parts();
-        if sent && is_synced(&file) {
-            Ok(())
-        } else {
-            self.write_faults = self.write_faults.saturating_add(1);
-            Err(Failed)
+    fn close(&mut self, _path: &str, writer: StdSink<R::File>) -> Result<(), Failed>
+        ensures files { Closes _path.now None None None result }
+        ensures read_faults { self.new.read_faults ≡ self.old.read_faults }
+        ensures cause { HasCloseCause writer.faults self.old.write_faults self.new.write_faults result }
+
+        // The file has all bytes that the writer had buffered, after those that were there, and no write has failed.
+        ensures sent { OnOk result ((file : R.File) × Appends (append_known (R.File.contents writer.writer) writer.waiting.items) (R.File.contents file) []) }
+        ensures fine { OnOk result (writer.faults ≡ 0) }
+
+        // A failure counts once, and nothing else does.
+        ensures count { self.new.write_faults ≡ counted_if (is_err result) self.old.write_faults }
+    {
+        match writer.finish() {
+            Some(file) if is_synced(&file) => Ok(()),
+            _ => {
+                self.write_faults = self.write_faults.saturating_add(1);
+                Err(Failed)
+            }
         }
     }
 

@@ -1,6 +1,6 @@
 //! A sink over one of std's writers. Its bytes are not known here. If those of the writer are, each piece that is taken is there in
 //! order.
-ghost use Rattle.std.specs.Prelude.{◌≡◌, ◌≢◌, ◌≤◌, ◌+◌, ◌++◌, [], None, true, length, IsOk, OnOk};
+ghost use Rattle.std.specs.Prelude.{◌≡◌, ◌≢◌, ◌≤◌, ◌+◌, ◌++◌, [], None, true, length, IfSome, IsOk, OnOk};
 ghost use Rattle.std.specs.Io.KnownBytes.{Appends, append_known};
 ghost use Rattle.cm_io.specs.Causes.{HasCause};
 ghost use Rattle.cm_io.specs.Writing.{Writes};
@@ -49,6 +49,7 @@ impl<W: Write> StdSink<W> {
 
     /// The writer, and how often writing to it has failed.
     pub fn into_parts(self) -> (W, u64)
+        ensures writer { result.0 ≡ self.writer }
         ensures faults { result.1 ≡ ⟦<StdSink<W> as Sink>⟧.faults self }
     {
         let StdSink {
@@ -104,6 +105,22 @@ impl<W: Write> StdSink<W> {
             return self.send_on() && self.writer.flush().is_ok();
         }
         true
+    }
+}
+
+impl<W: Write + Drop> StdSink<W> {
+    /// The writer, after all buffered bytes were written to it. None if that fails, or if a write has failed before: a part of the
+    /// buffered bytes may have been written already then.
+    pub(crate) fn finish(self) -> Option<W>
+        ensures sent { IfSome result (λ writer. Appends (append_known (W.contents self.writer) self.waiting.items) (W.contents writer) []) }
+        ensures fine { IfSome result (λ _. self.faults ≡ 0) }
+    {
+        let mut sink = self;
+        if sink.faults > 0 || sink.write(&[]).is_err() {
+            return None;
+        }
+        let (writer, _) = sink.into_parts();
+        Some(writer)
     }
 }
 
