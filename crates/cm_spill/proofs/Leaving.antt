@@ -10,7 +10,6 @@ use Rattle.byteorder.specs.Endian.{little_number}
 use Rattle.cm_spill.specs.Records.{Record, EndsAt, IsRecords, IsShort, encoded}
 use Rattle.cm_spill.specs.Reading.{AreLeft, IsAhead, IsHeaderAt, IsBelow, IsHeaderOf, IsHeaderRead, IsNextOf, IsPassed, IsWithin, Finds, Peeks, Position, RunLeft}
 use Rattle.cm_spill.specs.Reads.{ArePassed, FindsRun}
-use Rattle.cm_spill.specs.Stores.{IsOfChecks, IsOfEnd}
 use Rattle.cm_spill.specs.declared.fault.SpillError.{SpillError}
 use Rattle.cm_spill.specs.declared.fault.SpillError.TheVariants as faults
 use Rattle.cm_spill.specs.declared.header.Header.{Header}
@@ -121,12 +120,6 @@ left_after x run r rs next ahead left moved is at =
       place = omega (arith, long, left.place, ap length (flat_map-append encoded left.before (r ∷ [])), length-append (flat_map encoded left.before) (flat_map encoded (r ∷ [])), ap length (append-nil (encoded r)));
     }
 
--- a fault of the end of a record is one of the checks
-pub end_checked : (bucket least : ℕ) (fault : SpillError) → IsOfEnd fault → IsOfChecks bucket least fault
-end_checked bucket least faults.Memory of = tt
-end_checked bucket least faults.Failed of = tt
-end_checked bucket least (faults.Damaged offset expected found) of = inr (inr of)
-
 -- where the next record ends
 pub next_ends : (x : List ℕ) (run : RunLeft) (r : Record) (rs : List Record) (b line end : ℕ) (key : List ℕ) → AreLeft x run (r ∷ rs) → r.bucket ≡ b → line ≡ r.line → key ≡ r.key → end ≡ run.next + (10 + length key)
     → EndsAt x (record { bucket = b; line = line; key = key }) end
@@ -154,7 +147,7 @@ reserved_left x run room records left = left_with x run run.header (record { at 
   go (Some h) is = is
 
 -- a fault of a run is one of what was looked for
-pub finds_run_fault : (bucket least from at : ℕ) (left : List (List Record)) (fault : SpillError) → from ≤ at → at < length left → ArePassed bucket from at left → ((d : List Record) → Finds bucket least (get_or left at d) (Err fault)) → FindsRun bucket least from left (Err fault)
+pub finds_run_fault : (bucket least from at : ℕ) (left : List (List Record)) (fault : SpillError) → from ≤ at → at < length left → ArePassed bucket from at left → ((d : List Record) → Finds bucket least (get_or left at d) (Err fault)) → FindsRun bucket least from left at (Err fault)
 finds_run_fault bucket least from at left faults.Memory low inside passed finds = finds []
 finds_run_fault bucket least from at left faults.Failed low inside passed finds = tt
-finds_run_fault bucket least from at left (faults.Damaged offset expected found) low inside passed finds = (at, low, inside, passed, finds)
+finds_run_fault bucket least from at left (faults.Damaged offset expected found) low inside passed finds = (low, inside, passed, finds)

@@ -13,3 +13,4 @@ mod Zipping
 mod Storing
 mod Buckets
 mod Giving
+mod Standing

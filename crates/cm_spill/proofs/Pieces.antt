@@ -1,5 +1,5 @@
 -- Bytes that are read ahead of a place.
-use Rattle.std.proofs.Common.{◌≡◌, ◌∙◌, ℕ, ◌+◌, ◌-◌, ◌<◌, ◌≤◌, List, [], ◌++◌, length, take, drop, ap, sym, arith, append_assoc, append-nil, length-append, length-drop}
+use Rattle.std.proofs.Common.{◌≡◌, ◌∙◌, ℕ, ◌+◌, ◌-◌, ◌<◌, ◌≤◌, List, [], ◌∷◌, ◌++◌, length, take, drop, ap, sym, arith, append_assoc, append-nil, length-append, length-drop}
 use Rattle.std.specs.Prelude.{Result, Ok, Err, OnOk, false, is_err}
 use Rattle.std.proofs.lemmas.Bool.{false≢true}
 use Rattle.std.proofs.lemmas.List.{drop-append-le, drop-drop, take-append-drop, length-take, length-take-le, take_all, take-take, drop-take}
@@ -78,3 +78,12 @@ header_read bytes buf h is read = header_more bytes buf (drop 10 bytes) h is (sy
 -- no whole header is there
 pub header_cut : (bytes buf : List ℕ) → buf ≡ take 10 bytes → length buf < 10 → length bytes < 10
 header_cut bytes buf read short = omega (arith, ap length read, length-take 10 bytes, short)
+
+-- the bytes that were ready and those read since, after more were read where none was ready
+pub order_more : (old more buf ready now : List ℕ) → old ++ more ≡ buf ++ ready → (0 < length ready → now ≡ ready) → (all : List ℕ) × (old ++ all ≡ buf ++ now)
+order_more old more buf [] now is kept = (more ++ now, sym (append_assoc old more now) ∙ ap (λ (b : List ℕ). b ++ now) (is ∙ append-nil buf))
+order_more old more buf (x ∷ xs) now is kept = (more, is ∙ ap (λ (b : List ℕ). buf ++ b) (sym (kept (omega arith))))
+
+-- after some of them were taken
+pub order_taken : (whole buf ready : List ℕ) (n : ℕ) → whole ≡ buf ++ ready → whole ≡ (buf ++ take n ready) ++ drop n ready
+order_taken whole buf ready n is = is ∙ ap (λ (b : List ℕ). buf ++ b) (sym (take-append-drop n ready)) ∙ sym (append_assoc buf (take n ready) (drop n ready))

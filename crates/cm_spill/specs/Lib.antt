@@ -5,3 +5,4 @@ pub mod Laid
 pub mod Segments
 pub mod Reading
 pub mod Reads
+pub mod Damage

@@ -1,5 +1,5 @@
 -- Bytes of a spill that are read ahead, and a run that is read.
-use Rattle.std.specs.Prelude.{◌≡◌, ◌⊎◌, ◌<◌, ◌≤◌, ◌+◌, ◌++◌, ◌∷◌, [], ℕ, List, length, drop, All, Option, None, Some, Result, Ok, Err, Bool, true, false}
+use Rattle.std.specs.Prelude.{◌≡◌, ◌⊎◌, ◌<◌, ◌≤◌, ◌+◌, ◌++◌, ◌∷◌, [], ℕ, List, length, drop, All, Option, None, Some, Result, Ok, Err, Bool, true, false, slice_index_or}
 use Rattle.std.specs.List.{flat_map}
 use Rattle.byteorder.specs.Endian.{little_number}
 use Rattle.cm_spill.specs.Records.{Record, IsRecords, IsShort, encoded}
@@ -23,6 +23,32 @@ pub record RunLeft : Type 0 where
   pub next : ℕ
   pub header : Option Header
   pub ahead : Position
+
+-- a run between two offsets of which nothing was read, and for which no bytes can be read ahead yet
+abbrev pub new_run : ℕ → ℕ → RunLeft
+new_run start until = record { until = until; next = start; header = None; ahead = record { at = start; ready = []; room = 0 } }
+
+-- the end of the last of some runs, where the first begins at an offset
+abbrev pub end_from : ℕ → List RunLeft → ℕ
+end_from start [] = start
+end_from start (run ∷ runs) = end_from run.until runs
+
+-- A run ends where it did.
+abbrev pub HasSameEnd : RunLeft → RunLeft → Type 0
+HasSameEnd now before = now.until ≡ before.until
+
+-- A run ends where it did, and its next record begins where it did.
+abbrev pub IsStill : RunLeft → RunLeft → Type 0
+IsStill now before = (now.until ≡ before.until) × (now.next ≡ before.next)
+
+-- No record is left of a run, or the header of the next one, which was read, is of a higher bucket.
+abbrev pub HasPassed : ℕ → RunLeft → Option Header → Type 0
+HasPassed bucket run None = run.next ≡ run.until
+HasPassed bucket run (Some h) = bucket < h.bucket
+
+-- This holds of the runs before a place.
+abbrev pub HavePassed : ℕ → ℕ → List RunLeft → Type 0
+HavePassed bucket at runs = (i : ℕ) (d : RunLeft) → i < at → HasPassed bucket (slice_index_or runs i d) (slice_index_or runs i d).header
 
 -- The header is the one that begins these bytes.
 abbrev pub IsHeaderAt : List ℕ → Header → Type 0

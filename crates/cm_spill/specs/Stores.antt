@@ -1,16 +1,18 @@
 -- A store of records over a spill, as contracts see it.
 use Rattle.std.specs.Prelude.{◌≡◌, ◌≢◌, ◌⊎◌, ◌<◌, ◌≤◌, ◌+◌, ◌++◌, ◌∷◌, [], ℕ, List, Option, None, Some, Result, Ok, Err, Bool, true, false, eqb, if◌then◌else◌, All, filter, drop, map}
 use Rattle.std.specs.Option.{ForSome}
-use Rattle.std.specs.List.{sum_by}
+use Rattle.std.specs.List.{AllZip, sum_by}
 use Rattle.std.specs.List.Sorted.{IsPermutation, IsStrictlyIncreasing}
 use Rattle.cm_io.specs.Causes.{Rose}
 use Rattle.cm_spill.specs.Records.{Record, IsRecords, is_of, size}
+use Rattle.cm_spill.specs.Reading.{IsStill, RunLeft, end_from, new_run}
 use Rattle.cm_spill.specs.declared.fault.SpillError.{SpillError}
 use Rattle.cm_spill.specs.declared.fault.SpillError.TheVariants as faults
 
 -- what the spill holds, where known, and its count of faults; how many bytes may wait; the records that wait, those of each bucket in the
 -- order in which they were put; the line put last, or 0; whether no call has failed; whether all was put; the bucket asked last, or 0; how many of its
--- records were given; the line of the last of them, or 0; whether it was found to have no more; the offset after that record, or 0
+-- records were given; the line of the last of them, or 0; whether it was found to have no more; the offset after that record, or 0; how far
+-- the runs in the spill were read; and at which of them the store stands
 pub record Store : Type 0 where
   pub known : Option (List ℕ)
   pub faults : ℕ
@@ -24,14 +26,25 @@ pub record Store : Type 0 where
   pub given_last : ℕ
   pub ended : Bool
   pub read_end : ℕ
+  pub runs : List RunLeft
+  pub at : ℕ
 
 -- a store in which nothing was put
 abbrev pub new_store : Option (List ℕ) → ℕ → ℕ → Store
-new_store known faults bytes = record { known = known; faults = faults; bytes = bytes; waiting = []; last = 0; usable = true; sealed = false; bucket = 0; given = 0; given_last = 0; ended = false; read_end = 0 }
+new_store known faults bytes = record { known = known; faults = faults; bytes = bytes; waiting = []; last = 0; usable = true; sealed = false; bucket = 0; given = 0; given_last = 0; ended = false; read_end = 0; runs = []; at = 0 }
 
 -- the bytes of the records that wait
 abbrev pub held_by : Store → ℕ
 held_by store = sum_by size store.waiting
+
+-- the runs of a store and one more, which begins where the last one ends and has the bytes of the records that wait; nothing was read of it
+abbrev pub runs_and_next : Store → List RunLeft
+runs_and_next store = let start = end_from 0 store.runs in store.runs ++ new_run start (start + held_by store) ∷ []
+
+-- What waited before was written as a run more, and it is known where this run ends.
+pub record IsRunWritten (before now : Store) : Type 0 where
+  pub none : now.waiting ≡ []
+  pub runs : AllZip IsStill now.runs (runs_and_next before)
 
 -- The records put, in the order of their lines, are those in the spill's bytes and those that wait, each once. Of each bucket, they stand
 -- there in that order too.
@@ -89,15 +102,3 @@ abbrev pub IsOfReading : SpillError → Type 0
 IsOfReading faults.Memory = ⊥
 IsOfReading faults.Failed = Unit {0}
 IsOfReading (faults.Damaged offset expected found) = (expected ≢ found)
-
--- If the spill is said to be damaged, a record at the offset doesn't end by the end of its run, which was expected: the end of the
--- record was found, or that of the spill.
-abbrev pub IsOfEnd : SpillError → Type 0
-IsOfEnd (faults.Damaged offset expected found) = (offset ≤ expected) × (offset ≤ found) × (found ≤ offset + 65545)
-IsOfEnd e = Unit {0}
-
--- If the spill is said to be damaged, a record is of a bucket below the one asked for; or of a line below the least that may come; or
--- it doesn't end by the end of its run.
-abbrev pub IsOfChecks : ℕ → ℕ → SpillError → Type 0
-IsOfChecks bucket least (faults.Damaged offset expected found) = ((expected ≡ bucket) × (found < bucket)) ⊎ (((expected ≡ least) × (found < least)) ⊎ IsOfEnd (faults.Damaged offset expected found))
-IsOfChecks bucket least e = Unit {0}

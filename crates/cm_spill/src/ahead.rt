@@ -1,5 +1,5 @@
 //! Bytes of a spill that are read ahead.
-ghost use Rattle.std.specs.Prelude.{◌≡◌, ◌<◌, ◌≤◌, ◌^◌, ◌+◌, [], Option, length, take, drop, IfOk, IfSome, IfNone, OnOk, true, false};
+ghost use Rattle.std.specs.Prelude.{◌≡◌, ◌<◌, ◌≤◌, ◌^◌, ◌+◌, ◌++◌, [], ℕ, List, Option, length, take, drop, IfOk, IfSome, IfNone, OnOk, true, false};
 ghost use Rattle.std.specs.Option.{ForSome};
 ghost use Rattle.cm_io.specs.Causes.{HasCause};
 ghost use Rattle.cm_spill.specs.Reading.{IsAhead, IsHeaderAt};
@@ -64,8 +64,10 @@ impl Ahead {
         ensures told { P.told spill.new ≡ P.told spill.old }
         ensures at { self.new.at ≡ self.old.at }
         ensures room { self.new.room ≡ self.old.room }
+        ensures kept { 0 < length self.old.ready → self.new ≡ self.old }
         ensures ahead { OnOk result (ForSome (P.told spill.old) (λ bytes. IsAhead bytes self.old → IsAhead bytes self.new)) }
         ensures some { IfOk result (λ more. more ≡ true → 0 < length self.new.ready) }
+        ensures end { IfOk result (λ more. more ≡ false → self.new.ready ≡ []) }
         ensures none { IfOk result (λ more. more ≡ false → ForSome (P.told spill.old) (λ bytes. drop self.old.at bytes ≡ [])) }
         ensures cause { HasCause (P.faults spill.old) (P.faults spill.new) result }
     {
@@ -93,6 +95,8 @@ impl Ahead {
         ensures room { self.new.room ≡ self.old.room }
         ensures at { self.new.at ≡ self.old.at + length buf.new.items }
         ensures few { length buf.new.items ≤ len }
+        ensures order { OnOk result ((more : List ℕ) × (self.old.ready ++ more ≡ buf.new.items ++ self.new.ready)) }
+        ensures end { OnOk result (length buf.new.items < len → self.new.ready ≡ []) }
         ensures ahead { OnOk result (ForSome (P.told spill.old) (λ bytes. IsAhead bytes self.old → IsAhead bytes self.new)) }
         ensures bytes { OnOk result (ForSome (P.told spill.old) (λ bytes. IsAhead bytes self.old → buf.new.items ≡ take len (drop self.old.at bytes))) }
         ensures cause { HasCause (P.faults spill.old) (P.faults spill.new) result }
@@ -120,8 +124,9 @@ impl Ahead {
         ensures told { P.told spill.new ≡ P.told spill.old }
         ensures room { self.new.room ≡ self.old.room }
         ensures at { IfOk result (λ header. IfSome header (λ _. self.new.at ≡ self.old.at + 10)) }
-        ensures end { IfOk result (λ header. IfNone header ((self.old.at ≤ self.new.at) × (self.new.at < self.old.at + 10))) }
+        ensures end { IfOk result (λ header. IfNone header ((self.new.ready ≡ []) × (self.old.at ≤ self.new.at) × (self.new.at < self.old.at + 10))) }
         ensures ahead { OnOk result (ForSome (P.told spill.old) (λ bytes. IsAhead bytes self.old → IsAhead bytes self.new)) }
+        ensures first { IfOk result (λ header. IfSome header (λ h. (more : List ℕ) × IsHeaderAt (self.old.ready ++ more) h)) }
         ensures header { IfOk result (λ header. IfSome header (λ h. ForSome (P.told spill.old) (λ bytes. IsAhead bytes self.old → IsHeaderAt (drop self.old.at bytes) h))) }
         ensures none { IfOk result (λ header. IfNone header (ForSome (P.told spill.old) (λ bytes. IsAhead bytes self.old → length (drop self.old.at bytes) < 10))) }
         ensures cause { HasCause (P.faults spill.old) (P.faults spill.new) result }

@@ -6,6 +6,7 @@ mod ahead;
 mod fault;
 mod header;
 pub mod laws;
+mod lookup;
 mod run;
 mod runs;
 mod segments;

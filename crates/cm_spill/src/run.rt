@@ -1,10 +1,11 @@
 //! A run in a spill, read record by record.
-ghost use Rattle.std.specs.Prelude.{◌≡◌, ◌<◌, ◌≤◌, ◌^◌, ◌+◌, ◌∷◌, [], List, IfOk, IfErr, OnOk, IsSome, Option, None, Some, MatchResult, true, false, length};
+ghost use Rattle.std.specs.Prelude.{◌≡◌, ◌<◌, ◌≤◌, ◌^◌, ◌+◌, ◌++◌, ◌∷◌, [], ℕ, List, IfOk, IfErr, IfSome, IfNone, OnOk, OnErr, IsSome, Option, None, Some, MatchResult, true, false, length};
 ghost use Rattle.std.specs.Option.{ForSome};
 ghost use Rattle.cm_spill.specs.Records.{Record};
-ghost use Rattle.cm_spill.specs.Reading.{AreLeft, Finds, HasHeader, IsLineOf, IsWithin, Peeks, RunLeft, Takes};
+ghost use Rattle.cm_spill.specs.Reading.{AreLeft, Finds, HasHeader, HasPassed, IsLineOf, IsHeaderAt, IsStill, IsWithin, Peeks, RunLeft, Takes, new_run};
 ghost use Rattle.cm_spill.specs.declared.fault.SpillError.{SpillError};
-ghost use Rattle.cm_spill.specs.Stores.{HasSpillCause, IsOfChecks, IsOfEnd, IsOfReading};
+ghost use Rattle.cm_spill.specs.Stores.{HasSpillCause, IsOfReading};
+ghost use Rattle.cm_spill.specs.Damage.{IsHeaderDamage, IsKeyDamage, IsPlaceDamage};
 
 use crate::SpillError;
 use crate::ahead::Ahead;
@@ -38,7 +39,7 @@ impl Run {
     pub(crate) fn new(alloc: Global, start: u64, end: u64) -> Run
         requires order { start ≤ end }
         requires small { end < 2 ^ 63 }
-        ensures state { result ≡ record { until = end; next = start; header = None; ahead = record { at = start; ready = []; room = 0 } } }
+        ensures state { result ≡ new_run start end }
     {
         Run {
             end,
@@ -52,6 +53,7 @@ impl Run {
     pub(crate) fn reserve(&mut self, size: usize) -> Result<(), AllocError>
         requires none { self.old.ahead.room ≡ 0 }
         ensures state { OnOk result (self.new ≡ record self.old { ahead = record { at = self.old.ahead.at; ready = []; room = size } }) }
+        ensures still { IsStill self.new self.old }
     {
         self.ahead.reserve(size)
     }
@@ -66,16 +68,18 @@ impl Run {
     /// Reads the header of the next record, which is to end within the run.
     fn read_header<P: Spill>(&mut self, spill: &mut P) -> Result<Header, SpillError>
         requires room { 0 < self.old.ahead.room }
+        requires some { self.old.next < self.old.until }
         requires unread { self.old.header ≡ None }
         requires within { self.old.ahead.at ≡ self.old.next }
         ensures told { P.told spill.new ≡ P.told spill.old }
         ensures room { self.new.ahead.room ≡ self.old.ahead.room }
-        ensures same { (self.new.until ≡ self.old.until) × (self.new.next ≡ self.old.next) }
+        ensures still { IsStill self.new self.old }
         ensures header { IfOk result (λ header. self.new.header ≡ Some header) }
+        ensures first { IfSome self.new.header (λ h. (more : List ℕ) × IsHeaderAt (self.old.ahead.ready ++ more) h) }
         ensures within { OnOk result (IsWithin self.new self.new.header) }
         ensures left { ForSome (P.told spill.old) (λ bytes. (r : Record) (rs : List Record) → AreLeft bytes self.old (r ∷ rs) → MatchResult result (λ _. AreLeft bytes self.new (r ∷ rs)) (λ e. e ≡ SpillError.Failed)) }
         ensures fault { IfErr result IsOfReading }
-        ensures checks { IfErr result IsOfEnd }
+        ensures damage { IfErr result (IsHeaderDamage self.new) }
         ensures cause { HasSpillCause (P.faults spill.old) (P.faults spill.new) result }
     {
         if self.end - self.next < HEADER as u64 {
@@ -95,6 +99,7 @@ impl Run {
                 });
             }
         };
+        self.header = Some(header);
         let end = self.next + HEADER as u64 + header.len as u64;
         if end > self.end {
             return Err(SpillError::Damaged {
@@ -103,7 +108,6 @@ impl Run {
                 found: end,
             });
         }
-        self.header = Some(header);
         Ok(header)
     }
 
@@ -114,12 +118,14 @@ impl Run {
         requires within { IsWithin self.old self.old.header }
         ensures told { P.told spill.new ≡ P.told spill.old }
         ensures room { self.new.ahead.room ≡ self.old.ahead.room }
+        ensures still { IsStill self.new self.old }
         ensures header { IfOk result (λ header. header ≡ self.new.header) }
+        ensures end { IfOk result (λ header. IfNone header (self.new.next ≡ self.new.until)) }
         ensures within { OnOk result (IsWithin self.new self.new.header) }
         ensures left { OnOk result (ForSome (P.told spill.old) (λ bytes. (records : List Record) → AreLeft bytes self.old records → AreLeft bytes self.new records)) }
         ensures peeks { ForSome (P.told spill.old) (λ bytes. (records : List Record) → AreLeft bytes self.old records → Peeks records result) }
         ensures fault { IfErr result IsOfReading }
-        ensures checks { IfErr result IsOfEnd }
+        ensures damage { IfErr result (IsHeaderDamage self.new) }
         ensures cause { HasSpillCause (P.faults spill.old) (P.faults spill.new) result }
     {
         if let Some(header) = self.header {
@@ -147,12 +153,14 @@ impl Run {
         requires within { IsWithin self.old self.old.header }
         ensures told { P.told spill.new ≡ P.told spill.old }
         ensures room { self.new.ahead.room ≡ self.old.ahead.room }
+        ensures still { IsStill self.new self.old }
         ensures header { IfOk result (λ more. more ≡ true → HasHeader bucket least self.new.header) }
+        ensures passed { IfOk result (λ more. more ≡ false → HasPassed bucket self.new self.new.header) }
         ensures within { OnOk result (IsWithin self.new self.new.header) }
         ensures left { OnOk result (ForSome (P.told spill.old) (λ bytes. (records : List Record) → AreLeft bytes self.old records → AreLeft bytes self.new records)) }
         ensures finds { ForSome (P.told spill.old) (λ bytes. (records : List Record) → AreLeft bytes self.old records → Finds bucket least records result) }
         ensures fault { IfErr result IsOfReading }
-        ensures checks { IfErr result (IsOfChecks bucket least) }
+        ensures damage { IfErr result (IsPlaceDamage self.new bucket least) }
         ensures cause { HasSpillCause (P.faults spill.old) (P.faults spill.new) result }
     {
         let header = match self.peek(spill) {
@@ -163,16 +171,17 @@ impl Run {
         if header.bucket > bucket {
             return Ok(false);
         }
+        let offset = self.next;
         if header.bucket < bucket {
             return Err(SpillError::Damaged {
-                offset: self.next,
+                offset,
                 expected: bucket as u64,
                 found: header.bucket as u64,
             });
         }
         if (header.line as u64) < least {
             return Err(SpillError::Damaged {
-                offset: self.next,
+                offset,
                 expected: least,
                 found: header.line as u64,
             });
@@ -193,12 +202,14 @@ impl Run {
         ensures room { self.new.ahead.room ≡ self.old.ahead.room }
         ensures line { IfOk result (λ line. IsLineOf line self.old.header) }
         ensures small { IfOk result (λ line. line < 2 ^ 32) }
+        ensures until { self.new.until ≡ self.old.until }
+        ensures kept { OnErr result ((self.new.next ≡ self.old.next) × (self.new.header ≡ self.old.header)) }
         ensures next { OnOk result (self.new.next ≡ self.old.next + (10 + length key.new.items)) }
         ensures within { OnOk result (IsWithin self.new self.new.header) }
         ensures takes { ForSome (P.told spill.old) (λ bytes. (r : Record) (rs : List Record) → AreLeft bytes self.old (r ∷ rs) → Takes (r ∷ rs) rs key.new.items result) }
         ensures left { OnOk result (ForSome (P.told spill.old) (λ bytes. (r : Record) (rs : List Record) → AreLeft bytes self.old (r ∷ rs) → AreLeft bytes self.new rs)) }
         ensures fault { IfErr result IsOfReading }
-        ensures checks { IfErr result IsOfEnd }
+        ensures damage { IfErr result (IsKeyDamage self.new) }
         ensures cause { HasSpillCause (P.faults spill.old) (P.faults spill.new) result }
     {
         let header = match self.header {

@@ -10,11 +10,12 @@ use cm_spill::{Runs, SpillError};
 use std::alloc::{AllocError, Global};
 use std::test::Fail;
 
-/// A spill of which one byte is read as another. Its contents aren't known.
+/// A spill of which one byte is read as another, and the bytes from `end` on aren't read. Its contents aren't known.
 struct Damaged {
     spill: MemSpill,
     offset: u64,
     byte: u8,
+    end: u64,
 }
 
 impl Spill for Damaged {
@@ -27,7 +28,12 @@ impl Spill for Damaged {
     }
 
     fn read_at(&mut self, offset: u64, buf: &mut [u8]) -> Result<usize, Failed> {
-        let n = self.spill.read_at(offset, buf)?;
+        let left = if offset < self.end {
+            self.end - offset
+        } else {
+            0
+        };
+        let n = self.spill.read_at(offset, buf)?.min(left as usize);
         if offset <= self.offset && self.offset - offset < n as u64 {
             buf[(self.offset - offset) as usize] = self.byte;
         }
@@ -100,20 +106,20 @@ fn note_buckets<P: Spill>(
     Ok(())
 }
 
-/// Puts `x` into bucket 1 and `y` into bucket 0, and seals.
-fn put_two<P: Spill>(runs: &mut Runs<P>) -> Result<(), SpillError>
+/// Puts `x` into a bucket and `y` into bucket 0, and seals.
+fn put_two<P: Spill>(runs: &mut Runs<P>, bucket: u32) -> Result<(), SpillError>
     requires usable { runs.old.usable ≡ true }
     requires open { runs.old.sealed ≡ false }
     requires new { runs.old.last ≡ 0 }
     ensures ready { OnOk result ((runs.new.usable ≡ true) × (runs.new.sealed ≡ true) × (runs.new.bucket ≡ 0)) }
 {
-    runs.put(1, 1, b"x")?;
+    runs.put(bucket, 1, b"x")?;
     runs.put(0, 2, b"y")?;
     runs.seal()
 }
 
-/// What a store over a spill returns after two records were put, and the spill.
-fn give_two<P: Spill>(alloc: Global, text: &mut String, spill: P) -> P
+/// What a store over a spill returns after two records were put, the first into a bucket, and the spill.
+fn give_two<P: Spill>(alloc: Global, text: &mut String, spill: P, bucket: u32) -> P
     requires empty { ForSome (P.told spill) (λ known. known ≡ []) }
 {
     let mut key = KeyBuf::new();
@@ -121,7 +127,7 @@ fn give_two<P: Spill>(alloc: Global, text: &mut String, spill: P) -> P
         Ok(runs) => runs,
         Err(spill) => return spill,
     };
-    if put_two(&mut runs).is_ok() {
+    if put_two(&mut runs, bucket).is_ok() {
         let _ = note_buckets(alloc, text, &mut runs, &mut key);
     }
     runs.into_spill()
@@ -131,7 +137,7 @@ fn give_two<P: Spill>(alloc: Global, text: &mut String, spill: P) -> P
 fn two_records(rt: HostRuntime) -> Result<(), Fail> {
     let alloc = rt.alloc();
     let mut text = String::new(alloc);
-    let mut spill = give_two(alloc, &mut text, new_spill(alloc)?);
+    let mut spill = give_two(alloc, &mut text, new_spill(alloc)?, 1);
     expect_text(&rt, text.as_str(), "2 y 11;none;1 x 22;none;");
     let mut bytes = [0; 24];
     let n = spill.read_at(0, &mut bytes);
@@ -144,24 +150,33 @@ fn two_records(rt: HostRuntime) -> Result<(), Fail> {
     Ok(())
 }
 
-/// What a store returns of the two records if a byte of the spill is read as another.
-fn give_damaged(alloc: Global, offset: u64, byte: u8) -> Result<String, AllocError> {
+/// What a store returns of the two records, the first in a bucket, if a byte of the spill is read as another, and those from `end` on aren't
+/// read.
+fn give_damaged(
+    alloc: Global,
+    bucket: u32,
+    offset: u64,
+    byte: u8,
+    end: u64,
+) -> Result<String, AllocError> {
     let mut text = String::new(alloc);
     let spill = Damaged {
         spill: new_spill(alloc)?,
         offset,
         byte,
+        end,
     };
     let Damaged {
         spill: _,
         offset: _,
         byte: _,
-    } = give_two(alloc, &mut text, spill);
+        end: _,
+    } = give_two(alloc, &mut text, spill, bucket);
     Ok(text)
 }
 
 /// The place of a wrong byte, the byte, and what is read.
-const DAMAGES: [(u64, u8, &str); 4] = [
+const DAMAGES: [(u64, u8, &str); 5] = [
     (
         19,
         2,
@@ -178,14 +193,52 @@ const DAMAGES: [(u64, u8, &str); 4] = [
         2,
         "2 y 12;the spill is damaged at 12: 30742 in place of 22;",
     ),
+    (8, 3, "2 y 13;the spill is damaged at 13: 23 in place of 22;"),
 ];
 
-/// A key that is too long for its run, line 0, a line below the one before, and a first key that is too long.
+/// A key that is too long for its run, line 0, a line below the one before, a first key that is too long, and one that leaves no room
+/// for a further header.
 #[test]
 fn damaged_records(rt: HostRuntime) -> Result<(), Fail> {
     let alloc = rt.alloc();
     for (offset, byte, text) in &DAMAGES {
-        expect_text(&rt, give_damaged(alloc, *offset, *byte)?.as_str(), *text);
+        let damaged = give_damaged(alloc, 1, *offset, *byte, 22)?;
+        expect_text(&rt, damaged.as_str(), *text);
+    }
+    Ok(())
+}
+
+/// Both records are of bucket 0. The first is read as of bucket 1, and the second is below it then.
+#[test]
+fn lower_bucket(rt: HostRuntime) -> Result<(), Fail> {
+    let damaged = give_damaged(rt.alloc(), 0, 0, 1, 22)?;
+    expect_text(
+        &rt,
+        damaged.as_str(),
+        "none;1 x 11;the spill is damaged at 11: 0 in place of 1;",
+    );
+    Ok(())
+}
+
+/// Where the spill ends, and what is read.
+const ENDS: [(u64, &str); 5] = [
+    (0, "the spill is damaged at 0: 0 in place of 22;"),
+    (10, "the spill is damaged at 0: 10 in place of 22;"),
+    (11, "2 y 11;the spill is damaged at 11: 11 in place of 22;"),
+    (15, "2 y 11;the spill is damaged at 11: 15 in place of 22;"),
+    (
+        21,
+        "2 y 11;none;the spill is damaged at 11: 21 in place of 22;",
+    ),
+];
+
+/// The spill ends before a header or a key does.
+#[test]
+fn cut_spills(rt: HostRuntime) -> Result<(), Fail> {
+    let alloc = rt.alloc();
+    for (end, text) in &ENDS {
+        let cut = give_damaged(alloc, 1, 22, 0, *end)?;
+        expect_text(&rt, cut.as_str(), *text);
     }
     Ok(())
 }

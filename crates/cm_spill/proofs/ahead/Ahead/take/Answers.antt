@@ -1,6 +1,6 @@
 use Rattle.std.proofs.Common.{◌≡◌, ◌∙◌, ◌+◌, ◌-◌, ◌≤◌, ◌++◌, ap, arith, subst, sym, drop, take, length, length-append, length-take-le, List, ℕ}
 use Rattle.cm_spill.specs.Reading.{IsAhead, Position}
-use Rattle.cm_spill.proofs.Pieces.{ahead_moved, first_ready, from_ok, length-ready, rest_ready, taken_more}
+use Rattle.cm_spill.proofs.Pieces.{ahead_moved, first_ready, from_ok, length-ready, order_more, order_taken, rest_ready, taken_more}
 use Rattle.cm_spill.proofs.ahead.Ahead.take.Goals as goal
 
 pub pieces-preserved : goal.pieces-preserved
@@ -21,6 +21,13 @@ pieces-preserved g c =
       room = ap (λ (p : Position). p.room) c.self.view_is ∙ refilled.room ∙ before.room;
       at = omega (arith, ap (λ (p : Position). p.at) c.self.view_is, refilled.at, before.at, long);
       few = omega (arith, c.pieces-test.true, c.min-n.ensures, long, c.len-in-pieces.ensures.value);
+      order =
+          let all = order_more c.args.self.now.ready before.order.0 c.pieces.buf.items c.pieces.self.ready ready before.order.1 (λ some. ap (λ (p : Position). p.ready) (c.self.view_is ∙ refilled.kept some)) in (
+            all.0,
+            order_taken _ c.pieces.buf.items ready n all.1
+            ∙ ap (λ (b : List ℕ). b ++ drop n ready) (sym part)
+            ∙ ap (λ (b : List ℕ). c.try_extend_from_slice.new.self.items ++ b) (sym (rest_ready piece self.from self.until n inside)),
+          );
       bytes = λ x told ahead.
           let was = before.bytes x told ahead in
           let first = refilled.ahead x (before.same ∙ told) was.0 in

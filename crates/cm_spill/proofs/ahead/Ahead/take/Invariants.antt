@@ -1,4 +1,4 @@
-use Rattle.std.proofs.Common.{◌≡◌, ◌≤◌, ◌+◌, ◌-◌, ◌++◌, length, drop}
+use Rattle.std.proofs.Common.{◌≡◌, ◌≤◌, ◌+◌, ◌-◌, ◌++◌, ℕ, List, length, drop}
 use Rattle.std.specs.Option.{ForSome}
 use Rattle.cm_spill.specs.Reading.{IsAhead}
 use Rattle.cm_spill.proofs.ahead.Ahead.take.Given as goal
@@ -14,6 +14,7 @@ invariant-pieces g l =
       room : new.room ≡ old.room;
       at : new.at ≡ old.at + length l.buf.items;
       few : length l.buf.items ≤ l.len;
+      order : (more : List ℕ) × (old.ready ++ more ≡ l.buf.items ++ new.ready);
       bytes : ForSome (told l.fn.spill) (λ bytes. IsAhead bytes old → IsAhead bytes new × (drop old.at bytes ≡ l.buf.items ++ drop new.at bytes));
     }
 

@@ -2,16 +2,13 @@ use Rattle.std.proofs.Common.{subst, sym, List, Option, Ok}
 use Rattle.cm_spill.specs.Records.{Record}
 use Rattle.cm_spill.specs.Reading.{IsPassed, Peeks}
 use Rattle.cm_spill.specs.declared.header.Header.{Header}
-use Rattle.cm_spill.proofs.Leaving.{below_bucket, below_line, end_checked, finds_fault, next_by, passed_by}
+use Rattle.cm_spill.proofs.Leaving.{below_bucket, below_line, finds_fault, next_by, passed_by}
 use Rattle.cm_spill.proofs.run.Run.is_at.Goals as goal
 
 pub returns-in-Ok-None-clause-finds : goal.returns-in-Ok-None-clause-finds
 returns-in-Ok-None-clause-finds g c = λ x told records left.
     let none = subst (λ (o : Option Header). Peeks records (Ok o)) c.in-Ok-None.field-0-is (c.in-Ok-None.ensures.peeks x told records left) in
     subst (λ (l : List Record). IsPassed c.args.bucket l) (sym none) tt
-
-pub returns-in-Err-clause-checks : goal.returns-in-Err-clause-checks
-returns-in-Err-clause-checks g c = end_checked c.args.bucket c.args.least c.in-Err.fault c.in-Err.ensures.checks
 
 pub returns-in-Err-clause-finds : goal.returns-in-Err-clause-finds
 returns-in-Err-clause-finds g c = λ x told records left. finds_fault c.args.bucket c.args.least records c.in-Err.fault (c.in-Err.ensures.peeks x told records left)
