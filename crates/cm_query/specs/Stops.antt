@@ -3,6 +3,7 @@ use Rattle.std.specs.Prelude.{◌≡◌, ◌<◌, ◌≤◌, ◌-◌, ◌++◌, 
 use Rattle.cm_io.specs.Causes.{Rose}
 use Rattle.cm_io.specs.Passes.{Told, Ends, HasKeyCause}
 use Rattle.cm_io.specs.Writing.{then_bytes}
+use Rattle.cm_io.specs.declared.key_pass.KeyFault.{KeyFault}
 use Rattle.cm_io.specs.declared.key_pass.KeyFault.TheVariants.{Read, TooLong, TooMany}
 use Rattle.cm_query.specs.Texts.{text_of}
 use Rattle.cm_query.specs.declared.fault.QueryFault.{QueryFault}
@@ -14,6 +15,11 @@ HasQueryCause keys keys' out out' (Ok x) = (keys' ≡ keys) × (out' ≡ out)
 HasQueryCause keys keys' out out' (Err Memory) = (keys' ≡ keys) × (out' ≡ out)
 HasQueryCause keys keys' out out' (Err (Key fault)) = HasKeyCause {T = Unit {0}} keys keys' (Err fault) × (out' ≡ out)
 HasQueryCause keys keys' out out' (Err Write) = (keys' ≡ keys) × (out ≤ out') × Rose out out'
+
+-- `Key` has the fault that the pass failed with last
+abbrev pub HasQueryFailure : Option KeyFault → QueryFault → Type 0
+HasQueryFailure failure (Key fault) = failure ≡ Some fault
+HasQueryFailure failure fault = Unit {0}
 
 -- whether the pass is usable after a query: unless it was the pass that failed
 abbrev pub is_usable_after : {T : Type 0} → Result T QueryFault → Bool

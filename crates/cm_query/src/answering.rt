@@ -4,7 +4,7 @@ ghost use Rattle.std.specs.Option.{ForSome};
 ghost use Rattle.cm_io.specs.Causes.{IsSent};
 ghost use Rattle.cm_io.specs.Noting.{Noted};
 ghost use Rattle.cm_io.specs.Writing.{then_bytes};
-ghost use Rattle.cm_query.specs.Stops.{HasQueryCause, IsReached, is_usable_after, StopsAt, TextAfter, noted_keys};
+ghost use Rattle.cm_query.specs.Stops.{HasQueryCause, HasQueryFailure, IsReached, is_usable_after, StopsAt, TextAfter, noted_keys};
 ghost use Rattle.cm_query.specs.Tallies.{tally_of};
 ghost use Rattle.cm_query.specs.Texts.{text_of, notes_of};
 
@@ -38,6 +38,7 @@ pub fn query<A: Answers, P: KeyPass, O: Sink, E: Sink>(
     ensures told { P.told keys.new ≡ P.told keys.old }
     ensures usable { P.usable keys.new ≡ is_usable_after result }
     ensures cause { HasQueryCause (P.faults keys.old) (P.faults keys.new) (O.faults out.old) (O.faults out.new) result }
+    ensures failed { IfErr result (HasQueryFailure (P.failure keys.new)) }
     ensures lines { IfOk result (λ tally. tally.lines ≡ P.place keys.new) }
     ensures within { IfOk result (λ tally. tally.repeated + tally.unknown ≤ tally.lines) }
     ensures appends { (text : List ℕ) × (O.written out.new ≡ then_bytes (O.written out.old) text) }

@@ -1,5 +1,5 @@
 //! Keys that wait for their lines.
-ghost use Rattle.std.specs.Prelude.{◌≡◌, ◌<◌, ◌≤◌, ℕ, List, [], length, drop, slice_index_or, Option, Ok, true, false, IsTrue, ◌↔◌, OnOk, OnErr};
+ghost use Rattle.std.specs.Prelude.{◌≡◌, ◌<◌, ◌≤◌, ℕ, List, [], length, drop, slice_index_or, Option, Ok, true, false, IsTrue, ◌↔◌, OnOk, OnErr, Some, IfErr};
 ghost use Rattle.std.specs.Option.{ForSome};
 ghost use Rattle.cm_io.specs.Passes.{HasKeyCause};
 ghost use Rattle.cm_query.specs.Waiting.{AreAnswers, Refills, RefillsBy, WaitingKeys};
@@ -63,6 +63,7 @@ impl Batch {
         requires answers { AreAnswers (A.answer_of function.now) (A.span_of function.now) self.old }
         ensures told { P.told keys.new ≡ P.told keys.old }
         ensures cause { HasKeyCause (P.faults keys.old) (P.faults keys.new) result }
+        ensures failed { IfErr result (λ fault. P.failure keys.new ≡ Some fault) }
         ensures usable { OnOk result (P.usable keys.new ≡ true) }
         ensures unusable { OnErr result (P.usable keys.new ≡ false) }
         ensures few { P.place keys.new ≤ MAX_KEYS }
@@ -89,6 +90,7 @@ impl Batch {
         requires none { self.old.keys ≡ [] }
         ensures told { P.told keys.new ≡ P.told keys.old }
         ensures cause { HasKeyCause (P.faults keys.old) (P.faults keys.new) result }
+        ensures failed { IfErr result (λ fault. P.failure keys.new ≡ Some fault) }
         ensures usable { OnOk result (P.usable keys.new ≡ true) }
         ensures unusable { OnErr result (P.usable keys.new ≡ false) }
         ensures few { P.place keys.new ≤ MAX_KEYS }

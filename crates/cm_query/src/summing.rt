@@ -1,5 +1,5 @@
 //! The sum of the answers of a function to the keys of a pass.
-ghost use Rattle.std.specs.Prelude.{◌≡◌, IfOk, IfErr, IsTrue};
+ghost use Rattle.std.specs.Prelude.{◌≡◌, IfOk, IfErr, IsTrue, Some};
 ghost use Rattle.std.specs.Option.{ForSome};
 ghost use Rattle.cm_io.specs.Passes.{HasKeyCause};
 ghost use Rattle.cm_query.specs.Stops.{StopsAt};
@@ -17,6 +17,7 @@ pub fn sum_answers<A: Answers, P: KeyPass>(function: &A, keys: &mut P) -> Result
     requires start { P.place keys.old ≡ 0 }
     ensures told { P.told keys.new ≡ P.told keys.old }
     ensures cause { HasKeyCause (P.faults keys.old) (P.faults keys.new) result }
+    ensures failed { IfErr result (λ fault. P.failure keys.new ≡ Some fault) }
     ensures sum { IfOk result (λ sum. ForSome (P.told keys.old) (λ told. sum ≡ answer_sum (A.answer_of function.now) told.keys)) }
     ensures fault { IfErr result (λ fault. ForSome (P.told keys.old) (λ told. StopsAt told (P.place keys.new) (Key fault))) }
 {

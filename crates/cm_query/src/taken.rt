@@ -1,5 +1,5 @@
 //! Keys that are taken together, each with its line.
-ghost use Rattle.std.specs.Prelude.{◌≡◌, ◌⊎◌, ◌<◌, ◌≤◌, ◌+◌, ◌++◌, ℕ, List, [], ◌∷◌, length, map, slice_index_or, All, Option, IfSome, Ok, IfOk, OnOk, OnErr, true, false, IsTrue};
+ghost use Rattle.std.specs.Prelude.{◌≡◌, ◌⊎◌, ◌<◌, ◌≤◌, ◌+◌, ◌++◌, ℕ, List, [], ◌∷◌, length, map, slice_index_or, All, Option, IfSome, Ok, IfOk, OnOk, OnErr, true, false, IsTrue, Some, IfErr};
 ghost use Rattle.std.specs.Option.{ForSome};
 ghost use Rattle.cm_io.specs.Passes.{HasKeyCause};
 ghost use Rattle.cm_query.specs.Waiting.{Refills, RefillsBy, Takes};
@@ -128,6 +128,7 @@ impl Taken {
         requires room { self.old.bytes ≡ 0 }
         ensures told { P.told keys.new ≡ P.told keys.old }
         ensures cause { HasKeyCause (P.faults keys.old) (P.faults keys.new) result }
+        ensures failed { IfErr result (λ fault. P.failure keys.new ≡ Some fault) }
         ensures usable { OnOk result (P.usable keys.new ≡ true) }
         ensures unusable { OnErr result (P.usable keys.new ≡ false) }
         ensures few { P.place keys.new ≤ MAX_KEYS }
