@@ -3,10 +3,12 @@ use Rattle.std.proofs.Common.{◌≡◌, ◌∙◌, ℕ, ◌+◌, ◌≤◌, Boo
 use mir.Val.{bool_byte}
 use Rattle.std.specs.Prelude.{filter}
 use Rattle.std.proofs.lemmas.List.{append-nil}
+use Rattle.std.proofs.lemmas.List.Elements.{filter-append}
 use Rattle.cm_brz_func.specs.Functions.{bucket_of}
 use Rattle.cm_witness.specs.Noted.{AreNoted}
 use Rattle.cm_witness.specs.Pairs.{pairs}
 use Rattle.cm_witness.specs.declared.certificate.Pair.{Pair}
+use Rattle.cm_brz_split.specs.Given.{GaveCount, GaveEqual}
 use Rattle.cm_brz_split.specs.Passes.{NotesNext}
 use Rattle.cm_brz_func.specs.Splitting.{keys_of_bucket}
 use Rattle.cm_brz_split.specs.Split.{size_of_bucket}
@@ -55,3 +57,42 @@ pairs_noted n noted left all found found' k s j h e is = is h.earlier h.are ∙ 
 
 pub size_noted : (n : ℕ) (noted left all : List (ℕ × List ℕ)) (found : List Pair) (k s j : ℕ) → AreNotedBut n noted found left all k s j → left ≡ [] → n ≡ size_of_bucket all k s j
 size_noted n noted left all found k s j h e = h.many ∙ ap length (all_noted n noted left all found k s j h e)
+
+-- a pass gave some keys, of which n are of the bucket and were noted
+pub record GaveNoted (Gave : List (ℕ × List ℕ) → Type 0) (n : ℕ) (noted : List (ℕ × List ℕ)) (found : List Pair) (k s j : ℕ) : Type 0 where
+  pub keys : List (ℕ × List ℕ)
+  pub given : Gave keys
+  pub are : AreNotedBut n noted found [] keys k s j
+
+pub gave_none_noted : (Gave : List (ℕ × List ℕ) → Type 0) (noted : List (ℕ × List ℕ)) (found : List Pair) (k s j : ℕ) → Gave [] → AreNoted [] noted found → GaveNoted Gave 0 noted found k s j
+gave_none_noted Gave noted found k s j given h = record { keys = []; given = given; are = none_noted noted [] found k s j h }
+
+pub gave_one_noted : (Gave Now : List (ℕ × List ℕ) → Type 0) (n n' : ℕ) (noted noted' : List (ℕ × List ℕ)) (found found' : List Pair) (k s j : ℕ) (here : Bool) → GaveNoted Gave n noted found k s j
+    → ((before : List (ℕ × List ℕ)) → Gave before → (next : ℕ × List ℕ) × Now (before ++ next ∷ []) × NotesNext (next ∷ []) [] k s j here noted found noted' found') → n' ≡ n + cond here 1 0 → GaveNoted Now n' noted' found' k s j
+gave_one_noted Gave Now n n' noted noted' found found' k s j here before gives more =
+    let next = gives before.keys before.given in
+    let key : ℕ × List ℕ = next.0 in
+    let p : ℕ × List ℕ → Bool = λ x. eqb (bucket_of x.1 s k) j in
+    let was = before.are in
+    let ahead : AreNotedBut n noted found (key ∷ []) (before.keys ++ key ∷ []) k s j = record {
+      earlier = was.earlier;
+      are = was.are;
+      many = was.many;
+      all_is = ap (λ (xs : List (ℕ × List ℕ)). xs ++ keys_of_bucket (key ∷ []) k s j) (sym (append-nil was.earlier) ∙ was.all_is) ∙ sym (filter-append p before.keys (key ∷ []));
+    } in
+    record {
+      keys = before.keys ++ key ∷ [];
+      given = next.1;
+      are = noted_more n n' noted noted' (key ∷ []) [] (before.keys ++ key ∷ []) found found' k s j here ahead next.2 more;
+    }
+
+pub gave_found : (Gave : List (ℕ × List ℕ) → Type 0) (n : ℕ) (noted : List (ℕ × List ℕ)) (found : List Pair) (k s j : ℕ) → GaveNoted Gave n noted found k s j → GaveCount Gave k s j n
+gave_found Gave n noted found k s j h = record { keys = h.keys; given = h.given; count_is = size_noted n noted [] h.keys found k s j h.are refl }
+
+pub gave_equal : (Gave : List (ℕ × List ℕ) → Type 0) (n count : ℕ) (noted : List (ℕ × List ℕ)) (found found' : List Pair) (k s j : ℕ) → GaveNoted Gave n noted found k s j → n ≡ count → ((earlier : List (ℕ × List ℕ)) → AreNoted earlier noted found → found' ≡ pairs earlier) → GaveEqual Gave k s j count found'
+gave_equal Gave n count noted found found' k s j h same is = record {
+  keys = h.keys;
+  given = h.given;
+  count_is = sym same ∙ size_noted n noted [] h.keys found k s j h.are refl;
+  equal_are = pairs_noted n noted [] h.keys found found' k s j h.are refl is;
+}

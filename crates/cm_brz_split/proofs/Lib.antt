@@ -1,5 +1,6 @@
 mod BytesLemmas
 mod Equal
+mod GivenLemmas
 mod PassLemmas
 mod PutLemmas
 mod WordsLemmas

@@ -1,9 +1,9 @@
 -- The keys of a bucket in memory: one key more, and the lines of a pass over them.
-use Rattle.std.proofs.Common.{◌≡◌, ◌∙◌, ℕ, suc, zero, ◌+◌, ◌-◌, ◌<◌, ◌≤◌, List, [], ◌∷◌, ◌++◌, length, map, take, drop, get_or, refl, ap, sym, subst, arith, add-one, length-append, ⊎_elim, None}
+use Rattle.std.proofs.Common.{◌≡◌, ◌∙◌, ℕ, suc, zero, ◌+◌, ◌-◌, ◌<◌, ◌≤◌, List, [], ◌∷◌, ◌++◌, length, map, take, drop, get_or, refl, ap, sym, subst, arith, add-one, length-append, length-drop, ⊎_elim, None}
 use Rattle.std.specs.Prelude.{All}
 use Rattle.std.proofs.Math.Nat.{eq-or-lt_of_le}
-use Rattle.std.proofs.Math.Seq.{get_or-append_seam}
-use Rattle.std.proofs.lemmas.List.{get_or_append_left, get_or-map, map-append}
+use Rattle.std.proofs.Math.Seq.{drop-cons, get_or-append_seam}
+use Rattle.std.proofs.lemmas.List.{get_or_append_left, get_or-map, map-append, take-append-drop, take_all, take_more}
 use Rattle.std.proofs.lemmas.List.Elements.{All-head, All-push, All-same, All-tail}
 use Rattle.cm_brz_split.proofs.BytesLemmas.{behind, bytes_kept, first_ahead}
 use Rattle.cm_brz_split.specs.BucketPass.{BucketPass, IsBucketPass, IsKeyIn, LinesRise, keyed_in, last_line, line_before}
@@ -102,3 +102,25 @@ pub line_there : (bytes : List ℕ) (spots : List Spot) (i : ℕ) (d : Spot) →
 line_there bytes spots i d inside =
     ap (λ (n : ℕ). line_before (map (keyed_in bytes) spots) n) (add-one i)
     ∙ ap (λ (k : ℕ × List ℕ). k.0) (get_or-map (keyed_in bytes) spots i d no_key inside)
+
+-- the keys before a place, and the one there
+pub taken_next : (keys : List (ℕ × List ℕ)) (before now : ℕ) (k : ℕ × List ℕ) → now ≡ before + 1 → drop before keys ≡ k ∷ drop now keys → take before keys ++ k ∷ [] ≡ take now keys
+taken_next keys before now k is e =
+    let inside : before < length keys = omega (arith, length-drop before keys, ap length e) in
+    let ahead = drop-cons keys before no_key inside in
+    let here : get_or keys before no_key ≡ k = cc (ahead, e) in
+    ap (λ (x : ℕ × List ℕ). take before keys ++ x ∷ []) (sym here) ∙ (sym (take_more keys before no_key inside) ∙ ap (λ (n : ℕ). take n keys) (sym is))
+
+-- the keys before a place, and all others
+pub taken_rest : (all keys given : List (ℕ × List ℕ)) (i place n : ℕ) → all ≡ keys → i ≡ place → n ≡ length all → i ≤ n → given ≡ take place keys → (more : List (ℕ × List ℕ)) × (length more ≡ n - i) × (given ++ more ≡ take (i + (n - i)) all)
+taken_rest all keys given i place n same at long inside is =
+    let before : given ≡ take i all = is ∙ (ap (λ (j : ℕ). take j keys) (sym at) ∙ ap (λ (l : List (ℕ × List ℕ)). take i l) (sym same)) in (
+      drop i all,
+      omega (arith, length-drop i all),
+      ap (λ (l : List (ℕ × List ℕ)). l ++ drop i all) before ∙ (take-append-drop i all ∙ sym (take_all (i + (n - i)) all (omega arith))),
+    )
+
+-- the keys before a place, and one more
+pub taken_one : (all keys given : List (ℕ × List ℕ)) (i place : ℕ) (k : ℕ × List ℕ) → all ≡ keys → i ≡ place → drop place keys ≡ k ∷ drop (i + 1) keys → given ≡ take place keys → given ++ k ∷ [] ≡ take (i + 1) all
+taken_one all keys given i place k same at ahead is =
+    ap (λ (l : List (ℕ × List ℕ)). l ++ k ∷ []) is ∙ (taken_next keys place (i + 1) k (omega arith) ahead ∙ ap (λ (l : List (ℕ × List ℕ)). take (i + 1) l) (sym same))

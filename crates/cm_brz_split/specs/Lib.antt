@@ -1,5 +1,7 @@
 pub mod BucketPass
 pub mod Faults
+pub mod FaultsLaws
+pub mod Given
 pub mod Passes
 pub mod Puts
 pub mod PutsLaws

@@ -1,5 +1,5 @@
 -- How the passes end after the one that counted the keys.
-use Rattle.std.specs.Prelude.{◌≡◌, ◌≢◌, ℕ, ◌==◌, Bool, List, [], ◌∷◌, ◌++◌, if◌then◌else◌, length, None}
+use Rattle.std.specs.Prelude.{◌≡◌, ℕ, ◌==◌, Bool, List, [], ◌∷◌, ◌++◌, if◌then◌else◌, length, None}
 use Rattle.cm_io.specs.Passes.{IsToldFault}
 use Rattle.cm_brz_func.specs.Functions.{bucket_of}
 use Rattle.cm_io.specs.Passes.{Told}
@@ -19,11 +19,11 @@ FailsAgain told Memory = Unit {0}
 FailsAgain told (Key fault) = IsToldFault told fault
 FailsAgain told (Changed first now) = ⊥
 
--- what a failure has, whatever the keys are: two numbers that differ
-abbrev pub HasTwo : GatherFault → Type 0
-HasTwo Memory = Unit {0}
-HasTwo (Key fault) = Unit {0}
-HasTwo (Changed first now) = first ≢ now
+-- a fact of the two numbers of `Changed`
+abbrev pub IfChanged : GatherFault → (ℕ → ℕ → Type 0) → Type 0
+IfChanged Memory P = Unit {0}
+IfChanged (Key fault) P = Unit {0}
+IfChanged (Changed first now) P = P first now
 
 -- the next of the keys that were left is passed, and noted if it is here, in this bucket
 pub record NotesNext (left rest : List (ℕ × List ℕ)) (k split bucket : ℕ) (here : Bool) (noted : List (ℕ × List ℕ)) (found : List Pair) (noted' : List (ℕ × List ℕ)) (found' : List Pair) : Type 0 where

@@ -1,5 +1,5 @@
 -- Keys that go into a store.
-use Rattle.std.specs.Prelude.{◌≡◌, ◌≢◌, ℕ, ◌<◌, List, [], ◌∷◌, ◌++◌, drop, length, map, slice_index, Option, Result, Ok, Err}
+use Rattle.std.specs.Prelude.{◌≡◌, ◌≢◌, ℕ, ◌+◌, ◌<◌, ◌≤◌, List, [], ◌∷◌, ◌++◌, drop, length, map, slice_index, Option, Result, Ok, Err}
 use Rattle.std.specs.Option.{ForSome}
 use Rattle.cm_io.specs.Passes.{IsToldFault}
 use Rattle.cm_brz_split.specs.Records.{Record, records_of}
@@ -69,8 +69,8 @@ HasTwoNumbers spill_error.Memory = Unit {0}
 HasTwoNumbers spill_error.Failed = Unit {0}
 HasTwoNumbers (spill_error.Damaged offset expected found) = expected ≢ found
 
--- a bucket of which this many records were put returned another number of them; the last one read ends at this offset
+-- a bucket of which this many records were put returned another number of them, fewer or one more; the last one read ends at this offset
 abbrev pub IsMiscount : ℕ → ℕ → ℕ → SpillError → Type 0
 IsMiscount put given end spill_error.Memory = Unit {0}
 IsMiscount put given end spill_error.Failed = ⊥
-IsMiscount put given end (spill_error.Damaged offset expected found) = (offset ≡ end) × (expected ≡ put) × (found ≡ given) × (found ≢ put)
+IsMiscount put given end (spill_error.Damaged offset expected found) = (offset ≡ end) × (expected ≡ put) × (found ≡ given) × (found ≢ put) × (found ≤ put + 1)

@@ -55,7 +55,7 @@ words_more sizes now all i k b n d h inside is l m j low =
     let one : get_or (set now b n) j 0 + 0 ≡ get_or now j 0 + cond (eqb b j) 1 0 = counted_one now j b n 0 (get_or now j 0 + cond (eqb b j) 1 0) l m (omega arith) in
     omega (arith, h j low, more, here, one)
 
-size_by_map : (keys : List (ℕ × List ℕ)) (k s j : ℕ) → size_by_words (map (λ (key : ℕ × List ℕ). words key.1 (flipped s)) keys) k j ≡ size_of_bucket keys k s j
+pub size_by_map : (keys : List (ℕ × List ℕ)) (k s j : ℕ) → size_by_words (map (λ (key : ℕ × List ℕ). words key.1 (flipped s)) keys) k j ≡ size_of_bucket keys k s j
 size_by_map keys k s j =
     let hash : ℕ × List ℕ → List ℕ = λ key. words key.1 (flipped s) in
     let test : List ℕ → ℕ = λ hashed. cond (eqb (bucket_by hashed k) j) 1 0 in

@@ -112,7 +112,7 @@ impl BucketKeys {
 }
 
 impl KeyPass for BucketKeys {
-    ghost use Rattle.std.specs.Prelude.{◌≡◌, ◌<◌, ◌+◌, [], length, true, None, Some, slice_index_or};
+    ghost use Rattle.std.specs.Prelude.{◌≡◌, ◌<◌, ◌+◌, [], length, take, true, None, Some, slice_index_or};
     ghost use Rattle.cm_brz_split.specs.BucketPass.{line_before};
 
     ghost told = { λ b. Some (record { keys = b.keys; fault = None }) };
@@ -124,6 +124,12 @@ impl KeyPass for BucketKeys {
     ghost usable = { λ _. true };
 
     ghost faults = { λ _. 0 };
+
+    ghost failure = { λ _. None };
+
+    ghost gave = { λ b keys. keys ≡ take b.given b.keys };
+
+    ghost at_end = { λ b. b.given ≡ length b.keys };
 
     ghost stands = { λ b key. (b.given < length b.keys) × (key ≡ (slice_index_or b.keys b.given (0, [])).1) };
 

@@ -1,11 +1,12 @@
 //! The equal keys of an overfull bucket.
-ghost use Rattle.std.specs.Prelude.{◌≡◌, ◌+◌, ◌≤◌, drop, IfOk, IfErr, IfSome, IfNone, IsTrue, OnOk, None, true};
+ghost use Rattle.std.specs.Prelude.{◌≡◌, ◌≢◌, ◌⊎◌, ℕ, ◌+◌, ◌≤◌, List, [], ◌∷◌, ◌++◌, drop, IfOk, IfErr, IfSome, IfNone, IsTrue, OnOk, None, true};
 ghost use Rattle.std.specs.Option.{ForSome};
 ghost use Rattle.cm_io.specs.Passes.{Ends};
 ghost use Rattle.cm_io.specs.declared.key_pass.TheConstants.{MAX_KEYS};
-ghost use Rattle.cm_witness.specs.Gathers.{HasGatherCause};
+ghost use Rattle.cm_witness.specs.Gathers.{HasFailure, HasGatherCause, IsOther};
 ghost use Rattle.cm_witness.specs.Pairs.{pairs};
-ghost use Rattle.cm_brz_split.specs.Passes.{AreCounted, FailsAgain, HasTwo, NotesNext};
+ghost use Rattle.cm_brz_split.specs.Given.{GaveCount, GaveEqual};
+ghost use Rattle.cm_brz_split.specs.Passes.{AreCounted, FailsAgain, IfChanged, NotesNext};
 ghost use Rattle.cm_brz_func.specs.Splitting.{keys_of_bucket};
 ghost use Rattle.cm_brz_split.specs.Split.{size_of_bucket};
 
@@ -31,7 +32,11 @@ fn note_next<P: KeyPass>(
     ensures usable { OnOk result (P.usable keys.new ≡ true) }
     ensures notes { IfOk result (λ o. IfSome o (λ here. ForSome (P.told keys.old) (λ told. NotesNext (drop (P.place keys.old) told.keys) (drop (P.place keys.new) told.keys) split.now.buckets split.now.seed bucket here equal.old.firsts equal.old.pairs.items equal.new.firsts equal.new.pairs.items))) }
     ensures ends { IfOk result (λ o. IfNone o (ForSome (P.told keys.old) (λ told. Ends told (P.place keys.old) None))) }
-    ensures differs { IfErr result HasTwo }
+    ensures ended { IfOk result (λ o. IfNone o (P.place keys.new ≡ P.place keys.old)) }
+    ensures gave { (before : List (ℕ × List ℕ)) → P.gave keys.old before → IfOk result (λ o. IfSome o (λ here. (next : ℕ × List ℕ) × P.gave keys.new (before ++ next ∷ [])
+        × NotesNext (next ∷ []) [] split.now.buckets split.now.seed bucket here equal.old.firsts equal.old.pairs.items equal.new.firsts equal.new.pairs.items)) }
+    ensures unchanged { IfErr result (λ e. IfChanged e (λ _ _. ⊥)) }
+    ensures failed { IfErr result (HasFailure (P.failure keys.new)) }
     ensures fault { IfErr result (λ e. ForSome (P.told keys.old) (λ told. FailsAgain told e)) }
 {
     if !keys.next(key)? {
@@ -60,7 +65,13 @@ pub fn gather_equal<P: KeyPass>(
     ensures told { P.told keys.new ≡ P.told keys.old }
     ensures cause { HasGatherCause (P.faults keys.old) (P.faults keys.new) result }
     ensures equal { IfOk result (λ equal. ForSome (P.told keys.old) (λ told. equal.items ≡ pairs (keys_of_bucket told.keys split.now.buckets split.now.seed over.bucket))) }
-    ensures differs { IfErr result HasTwo }
+    ensures ended { OnOk result (P.at_end keys.new) }
+    ensures gave { IfOk result (λ equal. GaveEqual (P.gave keys.new) split.now.buckets split.now.seed over.bucket over.count equal.items) }
+
+    // There are fewer keys, or one more; or the bucket has another number of them.
+    ensures changed { IfErr result (λ e. IfChanged e (λ first now. ((first ≡ m) × IsOther first now (P.place keys.new))
+        ⊎ ((first ≡ over.count) × (first ≢ now) × GaveCount (P.gave keys.new) split.now.buckets split.now.seed over.bucket now))) }
+    ensures failed { IfErr result (HasFailure (P.failure keys.new)) }
     ensures fault { IfErr result (λ e. ForSome (P.told keys.old) (λ told. FailsAgain told e)) }
 {
     let mut equal = EqualKeys::new(alloc, over.count as usize)?;

@@ -1,9 +1,11 @@
 //! Keys that are put into a store by their buckets.
-ghost use Rattle.std.specs.Prelude.{◌≡◌, ◌≢◌, ℕ, ◌+◌, ◌*◌, ◌<◌, ◌≤◌, List, [], length, slice_index, IfOk, IfErr, IfSome, IfNone, IsTrue, OnOk, None, Some, Ok, Err, true, false};
+ghost use Rattle.std.specs.Prelude.{◌≡◌, ◌≢◌, ◌⊎◌, ℕ, ◌+◌, ◌*◌, ◌<◌, ◌≤◌, List, [], length, slice_index, IfOk, IfErr, IfSome, IfNone, IsTrue, OnOk, None, Some, Ok, Err, true, false};
 ghost use Rattle.std.specs.Option.{ForSome};
 ghost use Rattle.cm_io.specs.Passes.{Ends};
 ghost use Rattle.cm_io.specs.declared.key_pass.TheConstants.{MAX_KEYS};
-ghost use Rattle.cm_brz_split.specs.Faults.{FailsPassing, HasKeysCause, HasPassingForm, HasSpillCause};
+ghost use Rattle.cm_witness.specs.Gathers.{IsOther};
+ghost use Rattle.cm_brz_split.specs.Faults.{FailsPassing, HasFailure, HasKeysCause, HasPutFailure, HasSpillCause, IfChanged, IsOfPassing};
+ghost use Rattle.cm_brz_split.specs.Given.{GaveNext, GaveOther, GaveSizes};
 ghost use Rattle.cm_brz_split.specs.Passes.{AreCounted};
 ghost use Rattle.cm_brz_split.specs.Puts.{AreAllPut, FailsPut, HasPutCause, IsPutFault, PutsOne};
 ghost use Rattle.cm_brz_split.specs.Records.{Record};
@@ -42,6 +44,9 @@ fn put_next<P: KeyPass, B: Store>(
     ensures puts { (records : List Record) → B.holds store.old records → IfOk result (λ o. IfSome o (λ j. PutsOne (B.holds store.new) (P.told keys.old) (P.place keys.old) (P.place keys.new) split.now.buckets split.now.seed j records)) }
     ensures kept { (records : List Record) → B.holds store.old records → IfOk result (λ o. IfNone o (B.holds store.new records)) }
     ensures ends { IfOk result (λ o. IfNone o (ForSome (P.told keys.old) (λ told. Ends told (P.place keys.old) None))) }
+    ensures ended { IfOk result (λ o. IfNone o (P.place keys.new ≡ P.place keys.old)) }
+    ensures gave { (before : List (ℕ × List ℕ)) → P.gave keys.old before → IfOk result (λ o. IfSome o (GaveNext (P.gave keys.new) before split.now.buckets split.now.seed)) }
+    ensures failed { IfErr result (HasPutFailure (P.failure keys.new)) }
     ensures undamaged { IfErr result IsPutFault }
     ensures fault { IfErr result (λ e. ForSome (P.told keys.old) (λ told. FailsPut told e)) }
 {
@@ -105,8 +110,14 @@ fn put_each<P: KeyPass, B: Store>(
     ensures open { OnOk result (B.sealed store.new ≡ false) }
     ensures sizes { OnOk result (ForSome (P.told keys.old) (λ told. AreSizes put.new told.keys split.now.buckets split.now.seed)) }
     ensures put { B.holds store.old [] → OnOk result (AreAllPut (B.holds store.new) (P.told keys.old) put.new split.now.buckets split.now.seed) }
+    ensures given { OnOk result (P.place keys.new ≡ m) }
+    ensures ended { OnOk result (P.at_end keys.new) }
+    ensures gave { OnOk result (GaveSizes (P.gave keys.new) put.new split.now.buckets split.now.seed) }
     ensures fault { IfErr result (λ e. ForSome (P.told keys.old) (λ told. FailsPassing told e)) }
-    ensures form { IfErr result HasPassingForm }
+    ensures changed { IfErr result (λ e. IfChanged e (λ first now. ((first ≡ m) × IsOther first now (P.place keys.new))
+        ⊎ GaveOther (P.gave keys.new) sizes.now split.now.buckets split.now.seed first now)) }
+    ensures failed { IfErr result (HasFailure (P.failure keys.new)) }
+    ensures form { IfErr result IsOfPassing }
 {
     keys.rewind()?;
     put.fill(0);
@@ -160,8 +171,14 @@ pub fn put_all<P: KeyPass, B: Store>(
     ensures asks { OnOk result (B.may_ask store.new 0) }
     ensures none { OnOk result ((j : ℕ) → (B.given store.new j ≡ 0) × (B.given_last store.new j ≡ 0)) }
     ensures put { B.holds store.old [] → OnOk result (AreAllPut (B.holds store.new) (P.told keys.old) splitting.now.sizes.items splitting.now.split.buckets splitting.now.split.seed) }
+    ensures given { OnOk result (P.place keys.new ≡ m) }
+    ensures ended { OnOk result (P.at_end keys.new) }
+    ensures gave { OnOk result (GaveSizes (P.gave keys.new) splitting.now.sizes.items splitting.now.split.buckets splitting.now.split.seed) }
     ensures fault { IfErr result (λ e. ForSome (P.told keys.old) (λ told. FailsPassing told e)) }
-    ensures form { IfErr result HasPassingForm }
+    ensures changed { IfErr result (λ e. IfChanged e (λ first now. ((first ≡ m) × IsOther first now (P.place keys.new))
+        ⊎ GaveOther (P.gave keys.new) splitting.now.sizes.items splitting.now.split.buckets splitting.now.split.seed first now)) }
+    ensures failed { IfErr result (HasFailure (P.failure keys.new)) }
+    ensures form { IfErr result IsOfPassing }
 {
     let sizes: &[u8] = &splitting.sizes;
     let mut table = vec![in alloc; 0; sizes.len()]?;

@@ -1,6 +1,7 @@
 //! Keys that wait for their buckets in a spill.
 ghost use Rattle.std.specs.Prelude.{is_some};
 ghost use Rattle.cm_brz_split.specs.Spilled.{HoldsKnown};
+ghost use Rattle.cm_spill.specs.Damage.{IsDamageOf};
 ghost use Rattle.cm_spill.specs.Stores.{IsNextBucket, given_last_of, given_of};
 
 use crate::store::Store;
@@ -27,6 +28,8 @@ impl<P: Spill> Store for Runs<P> {
     ghost given_last = { given_last_of };
 
     ghost end = { λ s. s.read_end };
+
+    ghost damages = { IsDamageOf };
 
     fn put(&mut self, bucket: u32, line: u32, key: &[u8]) -> Result<(), SpillError> {
         Runs::put(self, bucket, line, key)

@@ -1,12 +1,13 @@
 //! How keys are split into buckets.
-ghost use Rattle.std.specs.Prelude.{◌≡◌, ◌≢◌, ◌⊎◌, ℕ, ◌+◌, ◌<◌, ◌≤◌, length, drop, slice_index, sum, true, false, IfOk, IfErr, IfSome, IfNone, IsTrue, OnOk, Contains, None, Some, Ok, Err};
+ghost use Rattle.std.specs.Prelude.{◌≡◌, ◌≢◌, ◌⊎◌, ℕ, ◌+◌, ◌<◌, ◌≤◌, List, length, drop, slice_index, sum, true, false, IfOk, IfErr, IfSome, IfNone, IsTrue, OnOk, Contains, None, Some, Ok, Err};
 ghost use Rattle.std.specs.Option.{ForSome};
 ghost use Rattle.cm_io.specs.Passes.{HasKeyCause};
-ghost use Rattle.cm_witness.specs.Gathers.{HasGatherCause, HasOther};
+ghost use Rattle.cm_witness.specs.Gathers.{HasFailure, HasGatherCause, HasOther};
 ghost use Rattle.cm_witness.specs.declared.certificate.GatherFault.TheVariants as gather_fault;
 ghost use Rattle.cm_brz_func.specs.Functions.{bucket_of as bucket_of_key};
 ghost use Rattle.cm_io.specs.declared.key_pass.TheConstants.{MAX_KEYS};
 ghost use Rattle.cm_brz_func.specs.declared.limits.TheConstants.{MAX_BUCKET};
+ghost use Rattle.cm_brz_split.specs.Given.{CountedOver, GaveMore, GaveNext, GaveOver, GaveSizes};
 ghost use Rattle.cm_brz_split.specs.Passes.{AreCounted, FailsAgain};
 ghost use Rattle.cm_brz_split.specs.Split.{AreSizes, CountsPassed, GivesBucket, IsFirstOver, IsLowestOver, is_split, size_by_words, split_of};
 
@@ -57,6 +58,8 @@ fn next_bucket<P: KeyPass>(
     ensures below { IfOk result (λ o. IfSome o (λ j. j < split.now.buckets)) }
     ensures ended { IfOk result (λ o. IfNone o (P.place keys.new ≡ P.place keys.old)) }
     ensures usable { OnOk result (P.usable keys.new ≡ true) }
+    ensures failed { IfErr result (λ fault. P.failure keys.new ≡ Some fault) }
+    ensures gave { (before : List (ℕ × List ℕ)) → P.gave keys.old before → IfOk result (λ o. IfSome o (GaveNext (P.gave keys.new) before split.now.buckets split.now.seed)) }
 {
     let (bucket, len) = match keys.peek() {
         Some((_, next)) => (split.bucket_of(next), next.len()),
@@ -99,6 +102,7 @@ fn count_four<P: KeyPass>(keys: &mut P, left: u32, split: &Split, sizes: &mut [u
     ensures counts { result ≡ true → P.place keys.new ≡ P.place keys.old + 4 }
     ensures all { result ≡ true → sum sizes.new ≡ sum sizes.old + 4 }
     ensures each { result ≡ true → ForSome (P.told keys.old) (λ told. CountsPassed sizes.old sizes.new (drop (P.place keys.old) told.keys) (drop (P.place keys.new) told.keys) split.now.buckets split.now.seed) }
+    ensures gave { result ≡ true → (before : List (ℕ × List ℕ)) → P.gave keys.old before → GaveMore (P.gave keys.new) before sizes.old sizes.new split.now.buckets split.now.seed }
 {
     if left < 4 {
         return false;
@@ -150,8 +154,11 @@ fn count_buckets<P: KeyPass>(
     ensures cause { HasGatherCause (P.faults keys.old) (P.faults keys.new) result }
     ensures all { OnOk result (sum sizes.new ≡ m) }
     ensures sizes { OnOk result (ForSome (P.told keys.old) (λ told. AreSizes sizes.new told.keys split.now.buckets split.now.seed)) }
+    ensures ended { OnOk result (P.at_end keys.new) }
+    ensures gave { OnOk result (GaveSizes (P.gave keys.new) sizes.new split.now.buckets split.now.seed) }
     ensures memory { result ≢ Err gather_fault.Memory }
     ensures changed { IfErr result (HasOther m (P.place keys.new)) }
+    ensures failed { IfErr result (HasFailure (P.failure keys.new)) }
     ensures fault { IfErr result (λ e. ForSome (P.told keys.old) (λ told. FailsAgain told e)) }
 {
     keys.rewind()?;
@@ -195,12 +202,16 @@ fn try_seed<P: KeyPass>(
     ensures cause { HasGatherCause (P.faults keys.old) (P.faults keys.new) result }
     ensures all { OnOk result (sum sizes.new ≡ m) }
     ensures sizes { OnOk result (ForSome (P.told keys.old) (λ told. AreSizes sizes.new told.keys split.now.buckets split.now.seed)) }
+    ensures ended { OnOk result (P.at_end keys.new) }
+    ensures gave { OnOk result (GaveSizes (P.gave keys.new) sizes.new split.now.buckets split.now.seed) }
     ensures small { IfOk result (λ o. IfNone o ((j : ℕ) → j < length sizes.new → slice_index sizes.new j ≤ MAX_BUCKET)) }
     ensures splits { IfOk result (λ o. IfNone o (ForSome (P.told keys.old) (λ told. is_split told.keys split.now.buckets split.now.seed ≡ true))) }
     ensures over { IfOk result (λ o. IfSome o (λ over. (MAX_BUCKET < over.count) × (over.bucket < split.now.buckets))) }
+    ensures gave_over { IfOk result (λ o. IfSome o (λ over. GaveOver (P.gave keys.new) split.now.buckets split.now.seed over.bucket over.count)) }
     ensures lowest { IfOk result (λ o. IfSome o (λ over. ForSome (P.told keys.old) (λ told. IsLowestOver told.keys split.now.buckets split.now.seed over.bucket over.count))) }
     ensures memory { result ≢ Err gather_fault.Memory }
     ensures changed { IfErr result (HasOther m (P.place keys.new)) }
+    ensures failed { IfErr result (HasFailure (P.failure keys.new)) }
     ensures fault { IfErr result (λ e. ForSome (P.told keys.old) (λ told. FailsAgain told e)) }
 {
     count_buckets(keys, key, m, split, sizes)?;
@@ -232,11 +243,15 @@ pub fn choose_split<P: KeyPass>(
     ensures all { IfOk result (λ o. IfOk o (λ _. sum sizes.new ≡ m)) }
     ensures small { IfOk result (λ o. IfOk o (λ _. (j : ℕ) → j < length sizes.new → slice_index sizes.new j ≤ MAX_BUCKET)) }
     ensures sizes { IfOk result (λ o. IfOk o (λ split. ForSome (P.told keys.old) (λ told. AreSizes sizes.new told.keys buckets split.seed))) }
+    ensures ended { IfOk result (λ o. IfOk o (λ _. P.at_end keys.new)) }
+    ensures gave { IfOk result (λ o. IfOk o (λ split. GaveSizes (P.gave keys.new) sizes.new buckets split.seed)) }
     ensures first { IfOk result (λ o. IfOk o (λ split. ForSome (P.told keys.old) (λ told. split_of told.keys buckets seeds.now ≡ Some split.seed))) }
     ensures over { IfOk result (λ o. IfErr o (λ over. (MAX_BUCKET < over.count) × (over.bucket < buckets))) }
+    ensures counted { IfOk result (λ o. IfErr o (λ over. CountedOver P.at_end P.gave buckets (slice_index seeds.now 0) over.bucket over.count)) }
     ensures none { IfOk result (λ o. IfErr o (λ over. ForSome (P.told keys.old) (λ told. (split_of told.keys buckets seeds.now ≡ None) × IsLowestOver told.keys buckets (slice_index seeds.now 0) over.bucket over.count))) }
     ensures memory { result ≢ Err gather_fault.Memory }
     ensures changed { IfErr result (HasOther m (P.place keys.new)) }
+    ensures failed { IfErr result (HasFailure (P.failure keys.new)) }
     ensures fault { IfErr result (λ e. ForSome (P.told keys.old) (λ told. FailsAgain told e)) }
 {
     let split = Split {

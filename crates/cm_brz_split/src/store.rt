@@ -8,6 +8,8 @@ use cm_spill::SpillError;
 
 /// Keys that are put by rising lines, and then read bucket by bucket, those of a bucket by rising lines.
 pub trait Store {
+    ghost use Rattle.cm_spill.specs.declared.fault.SpillError.{SpillError};
+
     /// These records were put, in this order, and the contents of what keeps them are known.
     ghost holds: { Self → List Record → Type 0 };
 
@@ -37,6 +39,9 @@ pub trait Store {
 
     /// The offset after the record that was read last of the bucket read last, and 0 before the first.
     ghost end: { Self → ℕ };
+
+    /// What the last call, which failed, may say of the bucket that it read: where and how its records are damaged.
+    ghost damages: { Self → ℕ → SpillError → Type 0 };
 
     /// Puts a key with its bucket and its line, which is above those put before. After a failure nothing may be put or read.
     fn put(&mut self, bucket: u32, line: u32, key: &[u8]) -> Result<(), SpillError>
@@ -94,7 +99,8 @@ pub trait Store {
         ensures usable { OnOk result (usable self.new ≡ true) }
         ensures unusable { OnErr result (usable self.new ≡ false) }
         ensures cause { HasStoreCause (faults self.old) (faults self.new) result }
-        ensures fault { IfErr result IsOfReading };
+        ensures fault { IfErr result IsOfReading }
+        ensures damage { IfErr result (damages self.new bucket) };
 
     /// The offset in bytes after the record that was read last of the bucket read last, and 0 before the first.
     fn read_end(&self) -> u64

@@ -1,5 +1,5 @@
 use Rattle.std.proofs.Common.{arith, rules, ◌∙◌, ℕ, ◌+◌, ap, sym}
-use Rattle.cm_brz_split.proofs.Equal.{byte_is, byte_most, noted_more, pairs_noted, size_noted}
+use Rattle.cm_brz_split.proofs.Equal.{GaveNoted, byte_is, byte_most, gave_equal, gave_one_noted, noted_more, pairs_noted, size_noted}
 use Rattle.cm_brz_split.proofs.overfull.gather_equal.Goals as goal
 
 pub returns-in-None-clause-fault : goal.returns-in-None-clause-fault
@@ -13,13 +13,15 @@ loop-count-preserved g c =
     let before = c.loop-count.invariant in
     let notes = rw c.in-Some.is at c.in_ok-here.ensures.notes in
     let counts = rw c.in-Some.is at c.in_ok-here.ensures.counts in
+    let more = ap (λ (n : ℕ). c.loop-count.found + n) (byte_is c.in-Some.here) in
     record {
       ready = search rules;
       same = search rules;
       quiet = search rules;
       at = omega (arith, counts, before.at);
       few = omega (arith, byte_most c.in-Some.here, before.few);
-      noted = λ told is. noted_more c.loop-count.found _ _ _ _ _ told.keys _ _ _ _ _ c.in-Some.here (before.noted told is) (notes told (before.same ∙ is)) (ap (λ (n : ℕ). c.loop-count.found + n) (byte_is c.in-Some.here));
+      gave = gave_one_noted (g.P.KeyPass.gave c.loop-count.keys) (g.P.KeyPass.gave c.note_next.new.keys) c.loop-count.found _ _ _ _ _ _ _ _ c.in-Some.here before.gave (λ earlier given. rw c.in-Some.is at (c.in_ok-here.ensures.gave earlier given)) more;
+      noted = λ told is. noted_more c.loop-count.found _ _ _ _ _ told.keys _ _ _ _ _ c.in-Some.here (before.noted told is) (notes told (before.same ∙ is)) more;
     }
 
 pub returns-then-found-over-clause-fault : goal.returns-then-found-over-clause-fault
@@ -31,3 +33,9 @@ pub returns-clause-equal : goal.returns-clause-equal
 returns-clause-equal g c = λ told is.
     let before = c.loop-count.invariant in
     pairs_noted c.loop-count.found _ _ told.keys _ _ _ _ _ (before.noted told is) (c.in_ok-expect_end.ensures.end told (before.same ∙ is)).none_left c.into_pairs.ensures
+
+pub returns-clause-gave : goal.returns-clause-gave
+returns-clause-gave g c =
+    let before = c.loop-count.invariant.gave in
+    let now : GaveNoted (g.P.KeyPass.gave c.expect_end.new.keys) c.loop-count.found c.loop-count.equal.firsts c.loop-count.equal.pairs.items c.args.split.now.buckets c.args.split.now.seed c.args.over.bucket = record { keys = before.keys; given = c.in_ok-expect_end.ensures.gave before.keys before.given; are = before.are } in
+    gave_equal (g.P.KeyPass.gave c.expect_end.new.keys) c.loop-count.found c.args.over.count _ _ _ _ _ _ now c.if-found-over.false c.into_pairs.ensures

@@ -1,4 +1,5 @@
 use Rattle.std.proofs.Common.{arith, rules, ◌∙◌, ◌<◌, length, refl}
+use Rattle.cm_brz_split.proofs.GivenLemmas.{gave_next}
 use Rattle.cm_brz_split.proofs.PutLemmas.{put_more}
 use Rattle.cm_brz_split.specs.SizesLaws.{all_counted, count_more, counted_less, sum_one_more}
 use Rattle.cm_brz_split.proofs.putting.put_each.Goals as goal
@@ -33,6 +34,7 @@ loop-count-preserved g c =
       counts = λ told is.
           (let given = gives told (before.same ∙ is) in
           count_more c.loop-count.put given.0 _ _ told.keys c.args.split.now.buckets c.args.split.now.seed c.in-Some.bucket _ (before.counts told is) given.1 given.2 low refl);
+      gave = gave_next (P.gave c.loop-count.keys) (P.gave c.put_next.new.keys) c.loop-count.put c.args.split.now.buckets c.args.split.now.seed c.in-Some.bucket _ before.gave (λ earlier given. rw c.in-Some.is at (c.in_ok-bucket.ensures.gave earlier given)) low refl;
       records = λ none.
           put_more (B.holds c.loop-count.store) (B.holds c.put_next.new.store) (P.told c.args.keys.now) (P.told c.loop-count.keys) (P.place c.loop-count.keys) (P.place c.put_next.new.keys) c.loop-count.put c.args.split.now.buckets c.args.split.now.seed c.in-Some.bucket _ before.same (before.records none)
           (λ records held. rw c.in-Some.is at (c.in_ok-bucket.ensures.puts records held)) low refl;
@@ -51,3 +53,8 @@ pub returns-clause-sizes : goal.returns-clause-sizes
 returns-clause-sizes g c = λ told is.
     let before = c.loop-count.invariant in
     all_counted c.loop-count.put _ told.keys _ _ (before.counts told is) (c.in_ok-expect_end.ensures.end told (before.same ∙ is)).none_left
+
+pub returns-clause-gave : goal.returns-clause-gave
+returns-clause-gave g c =
+    let gave = c.loop-count.invariant.gave in
+    record { keys = gave.keys; given = c.in_ok-expect_end.ensures.gave gave.keys gave.given; sizes_are = gave.sizes_are }

@@ -1,6 +1,7 @@
 use Rattle.std.proofs.Common.{◌≡◌, [], true, false, drop, length, sum}
 use Rattle.std.specs.Option.{ForSome}
 use Rattle.cm_brz_split.proofs.PutLemmas.{ArePut}
+use Rattle.cm_brz_split.specs.Given.{GaveSizes}
 use Rattle.cm_brz_split.specs.SizesLaws.{AreCountedBut}
 use Rattle.cm_brz_split.proofs.putting.put_each.Given as goal
 
@@ -21,5 +22,6 @@ invariant-loop-count g l =
       long : length l.put ≡ l.split.buckets;
       all : sum l.put ≡ l.count;
       counts : ForSome (P.told l.fn.keys) (λ told. AreCountedBut l.put (drop (P.place l.keys) told.keys) told.keys l.split.buckets l.split.seed);
+      gave : GaveSizes (P.gave l.keys) l.put l.split.buckets l.split.seed;
       records : B.holds l.fn.store [] → ArePut (B.holds l.store) (P.told l.fn.keys) (P.place l.keys) l.put l.split.buckets l.split.seed;
     }

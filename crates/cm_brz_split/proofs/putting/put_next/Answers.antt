@@ -24,3 +24,10 @@ returns-clause-puts g c = λ records held.
             ∙ ap (λ (l : ℕ). let r : Record = record { bucket = bucket_of key c.args.split.now.seed c.args.split.now.buckets; line = l; key = key } in r) (c.in-Some.ensures.line.0 ∙ sym c.pass.ensures.line);
       };
     }
+
+pub returns-clause-gave : goal.returns-clause-gave
+returns-clause-gave g c = λ before given. record {
+  key = (g.P.KeyPass.last c.pass.new.self, c.in-Some.next.now);
+  given = c.pass.ensures.gave before c.in-Some.next.now given c.in-Some.ensures.stands refl;
+  bucket_is = c.bucket_of-bucket.ensures.bucket;
+}

@@ -43,3 +43,10 @@ pub returns-clause-none : goal.returns-clause-none
 returns-clause-none g c = λ told is.
     let lowest = rw c.in-Some.is at c.in_ok-over.ensures.lowest in
     (find_none (is_split told.keys c.args.buckets) c.args.seeds.now (λ j low. c.loop-i.invariant.fails told is j (omega (arith, low, c.loop-i-test.false, c.loop-i.auto.i-end))), lowest told is)
+
+pub returns-clause-counted : goal.returns-clause-counted
+returns-clause-counted g c = record {
+  state = c.try_seed.new.keys;
+  ended = c.in_ok-over.ensures.ended;
+  over = rw c.in-Some.is at c.in_ok-over.ensures.gave_over;
+}

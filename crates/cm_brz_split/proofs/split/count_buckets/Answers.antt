@@ -1,4 +1,6 @@
 use Rattle.std.proofs.Common.{◌∙◌, ◌<◌, ℕ, List, ap, arith, drop, length, refl, rules, subst, sum, sym}
+use Rattle.cm_brz_split.proofs.GivenLemmas.{gave_more, gave_next}
+use Rattle.cm_brz_split.specs.Given.{GaveSizes}
 use Rattle.cm_brz_split.specs.SizesLaws.{AreCountedBut, all_counted, count_more, count_passed, sum_one_more}
 use Rattle.cm_brz_split.proofs.split.count_buckets.Goals as goal
 
@@ -16,6 +18,7 @@ more-preserved-then-count_four g c =
       all = omega (arith, four.all yes', before.all);
       long = omega (arith, c.count_four.auto.sizes, before.long);
       sizes = λ told is. count_passed _ _ _ _ _ _ _ (before.sizes told is) (four.each yes' told (before.same ∙ is));
+      gave = gave_more (g.P.KeyPass.gave c.more.keys) (g.P.KeyPass.gave c.count_four.new.keys) c.more.sizes c.count_four.new.sizes c.args.split.now.buckets c.args.split.now.seed before.gave (four.gave yes');
     }
 
 pub more-preserved : goal.more-preserved
@@ -44,9 +47,17 @@ more-preserved g c =
           (let given = gives told (same ∙ is) in
           let counted = subst (λ (l : List ℕ). AreCountedBut l (drop (P.place c.count_four.new.keys) told.keys) told.keys k s) (sym still.1) (subst (λ (n : ℕ). AreCountedBut c.more.sizes (drop n told.keys) told.keys k s) (sym place) (before.sizes told is)) in
           count_more sizes given.0 _ _ told.keys k s c.in-Ok-Some.bucket _ counted given.1 given.2 low refl);
+      gave =
+          (let still_gave : GaveSizes (P.gave c.count_four.new.keys) sizes k s = rw (still.1, still.0) before.gave in
+          gave_next (P.gave c.count_four.new.keys) (P.gave c.next_bucket.new.keys) sizes k s c.in-Ok-Some.bucket _ still_gave (λ earlier given. rw c.in-Ok-Some.field-0-is at (c.in-Ok-Some.ensures.gave earlier given)) low refl);
     }
 
 pub returns-clause-sizes : goal.returns-clause-sizes
 returns-clause-sizes g c = λ told is.
     let before = c.more.invariant in
     all_counted c.more.sizes _ told.keys _ _ (before.sizes told is) (c.in_ok-expect_end.ensures.end told (before.same ∙ is)).none_left
+
+pub returns-clause-gave : goal.returns-clause-gave
+returns-clause-gave g c =
+    let gave = c.more.invariant.gave in
+    record { keys = gave.keys; given = c.in_ok-expect_end.ensures.gave gave.keys gave.given; sizes_are = gave.sizes_are }

@@ -1,5 +1,6 @@
 use Rattle.std.proofs.Common.{◌≡◌, ◌-◌, ◌≤◌, true, drop, length, sum}
 use Rattle.std.specs.Option.{ForSome}
+use Rattle.cm_brz_split.specs.Given.{GaveSizes}
 use Rattle.cm_brz_split.specs.SizesLaws.{AreCountedBut}
 use Rattle.cm_brz_split.proofs.split.count_buckets.Given as goal
 
@@ -15,6 +16,7 @@ invariant-more g l =
       all : sum l.sizes ≡ l.count;
       long : length l.sizes ≡ l.split.buckets;
       sizes : ForSome (P.told l.fn.keys) (λ told. AreCountedBut l.sizes (drop (P.place l.keys) told.keys) told.keys l.split.buckets l.split.seed);
+      gave : GaveSizes (P.gave l.keys) l.sizes l.split.buckets l.split.seed;
     }
 
 abbrev pub decreases-more : goal.decreases-more

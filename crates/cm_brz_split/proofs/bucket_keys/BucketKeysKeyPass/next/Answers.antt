@@ -1,5 +1,5 @@
-use Rattle.std.proofs.Common.{rules, ◌≡◌, ◌∙◌, ℕ, ◌+◌, ◌<◌, ◌-◌, ◌∷◌, List, length, map, take, drop, get_or, ap, sym, subst, arith, None}
-use Rattle.cm_brz_split.proofs.PassLemmas.{line_there, peeked}
+use Rattle.std.proofs.Common.{rules, ◌≡◌, ◌∙◌, ℕ, ◌+◌, ◌<◌, ◌-◌, ◌∷◌, List, length, map, take, drop, get_or, ap, refl, sym, subst, arith, None}
+use Rattle.cm_brz_split.proofs.PassLemmas.{line_there, peeked, taken_one}
 use Rattle.cm_brz_split.specs.BucketPass.{BucketPass, keyed_in, line_before}
 use Rattle.cm_brz_split.specs.declared.bucket_keys.Spot.{Spot}
 use Rattle.cm_io.specs.Passes.{Told}
@@ -18,3 +18,12 @@ returns-clause-gives c = λ x is.
     let k : ℕ × List ℕ = (line_before (map (keyed_in self.bytes.items) self.spots.items) (self.given + 1), c.try_extend_from_slice.new.self.items) in
     subst (λ (n : ℕ). drop c.args.self.now.given x.keys ≡ k ∷ drop n x.keys) (ap (λ (p : BucketPass). p.given + 1) (sym c.self.view_is))
     (peeked self.bytes.items _ self.spots.items _ self.given none c.args.self.now x _ _ (ap (λ (p : BucketPass). p.keys) c.self.view_is) (ap (λ (p : BucketPass). p.given) c.self.view_is) same inside c.deref.ensures.0 c.deref-2.ensures.value line key)
+
+pub returns-clause-gave : goal.returns-clause-gave
+returns-clause-gave c = λ given is.
+    let self = c.self.inside in
+    let keys = c.args.self.now.keys in
+    let all = map (keyed_in self.bytes.items) self.spots.items in
+    let k : ℕ × List ℕ = (line_before all (self.given + 1), c.try_extend_from_slice.new.self.items) in
+    let told : Told = record { keys = keys; fault = None } in
+    taken_one all keys given self.given c.args.self.now.given k (ap (λ (b : BucketPass). b.keys) c.self.view_is) (ap (λ (b : BucketPass). b.given) c.self.view_is) (returns-clause-gives c told refl) is
