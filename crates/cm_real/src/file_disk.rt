@@ -136,6 +136,7 @@ impl<'a, R: Files> FileDisk<'a, R> {
         ensures spilled { ⟦<FileDisk<'a, R> as Disk>⟧.spilled result ≡ None }
         ensures read_faults { ⟦<FileDisk<'a, R> as Disk>⟧.read_faults result ≡ 0 }
         ensures write_faults { ⟦<FileDisk<'a, R> as Disk>⟧.write_faults result ≡ 0 }
+        ensures number { result.number ≡ number }
     {
         FileDisk {
             rt,
@@ -220,6 +221,9 @@ impl<'a, R: Files> Disk for FileDisk<'a, R> {
 
         // A failure counts once.
         ensures count { (result ≡ Err DiskFault.Failed) → self.new.write_faults ≡ counted self.old.write_faults }
+
+        // The name has the number of the process.
+        ensures path { IfOk result (λ spill. string_bytes spill.path ≡ spill_path_of dir.now self.old.number) }
     {
         let path = spill_path(self.alloc, dir, self.number)?;
         // Removes what an earlier process with this number left.
