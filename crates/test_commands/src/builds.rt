@@ -1,11 +1,11 @@
-ghost use Rattle.std.specs.Prelude.{◌≡◌, ◌<◌, ◌≤◌, ◌+◌, None, length};
+ghost use Rattle.std.specs.Prelude.{◌≡◌, ◌⊎◌, ◌<◌, ◌≤◌, ◌+◌, None, length, slice_index_or};
 
 use crate::equal::{expect_equal, expect_true};
 use cm_algo::{BuildFault, Built, assign, build};
 use cm_bits::{Cells, Fields};
 use cm_chm::ChmScheme;
 use cm_graph::{Edges, Steps, Xored};
-use cm_io::{KeyBuf, KeyFault, KeyPass, MAX_KEY_LEN, MAX_KEYS};
+use cm_io::{KeyBuf, KeyFault, KeyPass, MAX_KEYS};
 use cm_peel::peel;
 use std::alloc::{AllocError, Global};
 use std::marker::Brand;
@@ -13,38 +13,39 @@ use std::process::Abort;
 use std::sync::ledger::{Blank, Ledger};
 use std::test::Fail;
 
-/// Keys that change from pass to pass, after `refusals` rewinds that fail. They are not known. After the last pass there are none.
-/// `ready` of the next keys are buffered.
+/// The letters, from which keys are taken in turn.
+const LETTERS: u32 = 26;
+
+/// Keys whose number changes from pass to pass, after `refusals` rewinds that fail. They are the keys a, b, c and so on. They are not
+/// known. After the last pass there are none. No key is buffered.
 #[derive(Drop)]
 struct Changing<'a> {
     refusals: usize,
-    passes: &'a [&'a [&'a [u8]]],
+    counts: &'a [u32],
     pass: usize,
     given: u32,
-    ready: u32,
     usable: bool,
+    failure: Option<KeyFault>,
     faults: u64,
     ghost few: { given ≤ 16777216 },
 }
 
-fn keys_of<'a>(refusals: usize, passes: &'a [&'a [&'a [u8]]]) -> Changing<'a> {
+/// Keys with these numbers of keys in the passes.
+fn keys_of<'a>(refusals: usize, counts: &'a [u32]) -> Changing<'a> {
     Changing {
         refusals,
-        passes,
+        counts,
         pass: 0,
         given: 0,
-        ready: 0,
         usable: false,
+        failure: None,
         faults: 0,
     }
 }
 
-/// The key at a place of a pass, both counted from 0.
-fn key_at<'a>(passes: &'a [&'a [&'a [u8]]], pass: usize, place: usize) -> Option<&'a [u8]> {
-    passes.get(pass)?.get(place).copied()
-}
-
 impl KeyPass for Changing<'_> {
+    ghost use Rattle.test_commands.specs.Changing.{letters_up_to};
+
     ghost told = { λ _. None };
 
     ghost place = { λ p. p.given };
@@ -55,7 +56,13 @@ impl KeyPass for Changing<'_> {
 
     ghost faults = { λ p. p.faults };
 
-    ghost stands = { λ p _. (0 < p.ready) × (p.given < 16777216) };
+    ghost failure = { λ p. p.failure };
+
+    ghost gave = { λ p keys. keys ≡ letters_up_to p.given };
+
+    ghost at_end = { λ p. slice_index_or p.counts.now p.pass 0 ≤ p.given ⊎ (p.given ≡ 16777216) };
+
+    ghost stands = { λ _ _. ⊥ };
 
     ghost next_line = { λ p. p.given + 1 };
 
@@ -64,32 +71,22 @@ impl KeyPass for Changing<'_> {
     }
 
     fn next(&mut self, key: &mut KeyBuf) -> Result<bool, KeyFault> {
-        if self.given == MAX_KEYS {
+        self.failure = None;
+        let count = self.counts.get(self.pass).copied().unwrap_or(0);
+        if self.given >= count || self.given == MAX_KEYS {
             return Ok(false);
         }
-        match key_at(self.passes, self.pass, self.given as usize) {
-            Some(bytes) => {
-                key.clear();
-                let _ = key.try_extend_from_slice(bytes);
-                self.given += 1;
-                Ok(true)
-            }
-            None => Ok(false),
-        }
+        key.clear();
+        let _ = key.try_extend_from_slice(&[(self.given % LETTERS) as u8 + b'a']);
+        self.given += 1;
+        Ok(true)
     }
 
     fn peek(&self) -> Option<(u32, &[u8])> {
-        if self.ready == 0 || self.given == MAX_KEYS {
-            return None;
-        }
-        let key = key_at(self.passes, self.pass, self.given as usize).unwrap_or(b"");
-        Some((self.given + 1, &key[..key.len().min(MAX_KEY_LEN)]))
+        None
     }
 
-    fn pass(&mut self, _len: usize) {
-        self.given += 1;
-        self.ready -= 1;
-    }
+    fn pass(&mut self, _len: usize) {}
 
     fn hash_four(&mut self, _seed: u32) -> Option<[[u32; 3]; 4]> {
         None
@@ -99,6 +96,7 @@ impl KeyPass for Changing<'_> {
         if self.refusals > 0 {
             self.refusals -= 1;
             self.usable = false;
+            self.failure = Some(KeyFault::Read);
             self.faults = self.faults.saturating_add(1);
             return Err(KeyFault::Read);
         }
@@ -107,6 +105,7 @@ impl KeyPass for Changing<'_> {
         }
         self.given = 0;
         self.usable = true;
+        self.failure = None;
         Ok(())
     }
 
@@ -187,13 +186,10 @@ fn assigned(alloc: Global, edges: &Edges<2>) -> Result<Option<Fields>, AllocErro
     assign_pairs::<Brand>(alloc, edges, Blank::new(1))
 }
 
-const PAIR: &[&[u8]] = &[b"a", b"b"];
-
-const TRIPLE: &[&[u8]] = &[b"a", b"b", b"c"];
-
-/// Checks that a build over these passes fails because the keys changed: at first there were `first` keys, and then `now` keys.
-fn check_change(rt: &impl Abort, alloc: Global, passes: &[&[&[u8]]], first: u32, now: u32) {
-    let mut keys = keys_of(0, passes);
+/// Checks that a build over passes with these numbers of keys fails because the keys changed: at first there were `first` keys, and
+/// then `now` keys.
+fn check_change(rt: &impl Abort, alloc: Global, counts: &[u32], first: u32, now: u32) {
+    let mut keys = keys_of(0, counts);
     match built(alloc, &mut keys) {
         Err(BuildFault::Changed { first: f, now: n }) => expect_equal(rt, &(f, n), &(first, now)),
         _ => panic!(rt; "another outcome"),
@@ -203,17 +199,17 @@ fn check_change(rt: &impl Abort, alloc: Global, passes: &[&[&[u8]]], first: u32,
 #[test]
 fn keys_that_change(rt: HostRuntime) -> Result<(), Fail> {
     let alloc = rt.alloc();
-    check_change(&rt, alloc, &[PAIR, TRIPLE], 2, 3);
-    check_change(&rt, alloc, &[TRIPLE, PAIR], 3, 2);
+    check_change(&rt, alloc, &[2, 3], 2, 3);
+    check_change(&rt, alloc, &[3, 2], 3, 2);
     // Under seed 0 the two edges are equal, so the third pass gathers them.
-    check_change(&rt, alloc, &[PAIR, PAIR, TRIPLE], 2, 3);
-    check_change(&rt, alloc, &[PAIR, PAIR, &PAIR[..1]], 2, 1);
+    check_change(&rt, alloc, &[2, 2, 3], 2, 3);
+    check_change(&rt, alloc, &[2, 2, 1], 2, 1);
     Ok(())
 }
 
 #[test]
 fn built_again_after_a_refusal(rt: HostRuntime) -> Result<(), Fail> {
-    let mut keys = keys_of(1, &[PAIR, PAIR, PAIR, PAIR]);
+    let mut keys = keys_of(1, &[2, 2, 2, 2]);
     match built(rt.alloc(), &mut keys) {
         Err(BuildFault::Key(fault)) => expect_equal(&rt, &fault, &KeyFault::Read),
         _ => panic!(rt; "another outcome"),

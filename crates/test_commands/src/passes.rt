@@ -30,6 +30,12 @@ impl<P: KeyPass> KeyPass for Counting<P> {
 
     ghost faults = { λ s. P.faults s.pass };
 
+    ghost failure = { λ s. P.failure s.pass };
+
+    ghost gave = { λ s keys. P.gave s.pass keys };
+
+    ghost at_end = { λ s. P.at_end s.pass };
+
     ghost stands = { λ s key. P.stands s.pass key };
 
     ghost next_line = { λ s. P.next_line s.pass };

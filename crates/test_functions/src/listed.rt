@@ -1,5 +1,5 @@
 //! A pass over the keys of a list.
-ghost use Rattle.std.specs.Prelude.{◌≡◌, ◌<◌, ◌≤◌, ◌+◌, None, length, true};
+ghost use Rattle.std.specs.Prelude.{◌≡◌, ◌⊎◌, ◌<◌, ◌≤◌, ◌+◌, None, length, true};
 
 use cm_io::{KeyBuf, KeyFault, KeyPass, MAX_KEY_LEN, MAX_KEYS};
 
@@ -12,6 +12,7 @@ pub struct Listed<'a> {
     ready: usize,
     given: u32,
     usable: bool,
+    failure: Option<KeyFault>,
     faults: u64,
     ghost few: { given ≤ 16777216 },
 }
@@ -22,6 +23,7 @@ impl<'a> Listed<'a> {
         ensures given { result.given ≡ 0 }
         ensures usable { result.usable ≡ true }
         ensures faults { result.faults ≡ 0 }
+        ensures failure { result.failure ≡ None }
     {
         Listed {
             keys,
@@ -30,6 +32,7 @@ impl<'a> Listed<'a> {
             ready: 0,
             given: 0,
             usable: true,
+            failure: None,
             faults: 0,
         }
     }
@@ -46,6 +49,12 @@ impl KeyPass for Listed<'_> {
 
     ghost faults = { λ p. p.faults };
 
+    ghost failure = { λ p. p.failure };
+
+    ghost gave = { λ _ _. Unit {0} };
+
+    ghost at_end = { λ p. length p.keys.now ≤ p.given ⊎ (p.given ≡ 16777216) };
+
     ghost stands = { λ p _. (0 < p.ready) × (p.given < length p.keys.now) × (p.given < 16777216) };
 
     ghost next_line = { λ p. p.given + 1 };
@@ -61,8 +70,10 @@ impl KeyPass for Listed<'_> {
             let _ = key.try_extend_from_slice(self.keys[place]);
             self.given += 1;
             self.ready = self.at_hand;
+            self.failure = None;
             return Ok(true);
         }
+        self.failure = self.fault;
         match self.fault {
             None => Ok(false),
             Some(fault) => {
@@ -96,6 +107,7 @@ impl KeyPass for Listed<'_> {
     fn rewind(&mut self) -> Result<(), KeyFault> {
         self.given = 0;
         self.usable = true;
+        self.failure = None;
         Ok(())
     }
 
