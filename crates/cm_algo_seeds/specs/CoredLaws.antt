@@ -1,5 +1,5 @@
 -- Builds that fail.
-use Rattle.std.proofs.Common.{◌≡◌, ◌≢◌, ◌∙◌, ℕ, ◌<◌, ◌≤◌, List, [], length, get_or, Option, None, Some, Result, Ok, Err, IfOk, IfErr, IsErrAnd, false, inl, inr, refl, ap, sym, subst, arith}
+use Rattle.std.proofs.Common.{◌≡◌, ◌≢◌, ◌∙◌, ℕ, ◌<◌, ◌≤◌, List, [], length, get_or, Option, None, Result, Ok, Err, IfOk, IfErr, IsErrAnd, false, inl, inr, refl, ap, sym, subst, arith}
 use Rattle.std.specs.Option.{ForSome}
 use Rattle.cm_algo_names.specs.declared.algorithm.Algorithm.{Algorithm}
 use Rattle.cm_algo_names.specs.declared.algorithm.Algorithm.TheVariants.{Chm, Bdz, BdzPh, Brz}
