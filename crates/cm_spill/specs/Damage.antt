@@ -1,5 +1,5 @@
 -- What a store says of a record in a damaged spill: `expected` is the number that was expected, and `found` the one that was found.
-use Rattle.std.specs.Prelude.{◌≡◌, ◌⊎◌, ◌<◌, ◌≤◌, ◌+◌, [], ℕ, length, Option, None, Some, slice_index_or}
+use Rattle.std.specs.Prelude.{◌≡◌, ◌⊎◌, ◌<◌, ◌≤◌, ◌+◌, [], ℕ, length, None, Some, slice_index_or}
 use Rattle.cm_spill.specs.Reading.{HasHeader, HavePassed, RunLeft}
 use Rattle.cm_spill.specs.Stores.{Store}
 use Rattle.cm_spill.specs.declared.fault.SpillError.{SpillError}

@@ -193,7 +193,11 @@ const DAMAGES: [(u64, u8, &str); 5] = [
         2,
         "2 y 12;the spill is damaged at 12: 30742 in place of 22;",
     ),
-    (8, 3, "2 y 13;the spill is damaged at 13: 23 in place of 22;"),
+    (
+        8,
+        3,
+        "2 y 13;the spill is damaged at 13: 23 in place of 22;",
+    ),
 ];
 
 /// A key that is too long for its run, line 0, a line below the one before, a first key that is too long, and one that leaves no room

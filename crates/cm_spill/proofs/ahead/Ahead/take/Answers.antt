@@ -25,8 +25,8 @@ pieces-preserved g c =
           let all = order_more c.args.self.now.ready before.order.0 c.pieces.buf.items c.pieces.self.ready ready before.order.1 (λ some. ap (λ (p : Position). p.ready) (c.self.view_is ∙ refilled.kept some)) in (
             all.0,
             order_taken _ c.pieces.buf.items ready n all.1
-            ∙ ap (λ (b : List ℕ). b ++ drop n ready) (sym part)
-            ∙ ap (λ (b : List ℕ). c.try_extend_from_slice.new.self.items ++ b) (sym (rest_ready piece self.from self.until n inside)),
+                ∙ ap (λ (b : List ℕ). b ++ drop n ready) (sym part)
+                ∙ ap (λ (b : List ℕ). c.try_extend_from_slice.new.self.items ++ b) (sym (rest_ready piece self.from self.until n inside)),
           );
       bytes = λ x told ahead.
           let was = before.bytes x told ahead in
