@@ -6,7 +6,7 @@ ghost use Rattle.std.specs.Io.Seek.{MovesTo};
 ghost use Rattle.std.specs.Option.{ForSome};
 ghost use Rattle.cm_io.specs.Causes.{HasCause, HasCloseCause, HasDiskCause, Collects};
 ghost use Rattle.cm_io.specs.Counts.{counted, counted_if};
-ghost use Rattle.cm_io.specs.Files.{Closes};
+ghost use Rattle.cm_io.specs.Files.{Closes, Creates, Opens};
 ghost use Rattle.cm_real.specs.Spills.{spill_path_of};
 
 use crate::{FileSpill, StdSink};
@@ -163,7 +163,17 @@ impl<'a, R: Files> Disk for FileDisk<'a, R> {
 
     ghost write_faults = { λ d. d.write_faults };
 
-    fn open(&mut self, path: &str) -> Result<FileReader<R::File>, DiskFault> {
+    fn open(&mut self, path: &str) -> Result<FileReader<R::File>, DiskFault>
+        ensures write_faults { self.new.write_faults ≡ self.old.write_faults }
+        ensures cause { HasDiskCause self.old.read_faults self.new.read_faults result }
+        ensures fresh { IfOk result (λ reader. reader.faults ≡ 0) }
+        ensures start { IfOk result (λ reader. ForSome (⟦<FileReader<R::File> as Source>⟧.told reader) (λ _. ⟦<FileReader<R::File> as Source>⟧.place reader ≡ 0)) }
+        ensures reader { IfOk result (λ reader. ForSome (⟦<FileDisk<'a, R> as Disk>⟧.files self.old) (λ files.
+            Opens files path.now (⟦<FileReader<R::File> as Source>⟧.told reader) (⟦<FileReader<R::File> as Source>⟧.place reader))) }
+
+        // A failure counts once, and nothing else does.
+        ensures count { self.new.read_faults ≡ counted_if (is_err result) self.old.read_faults }
+    {
         match open_with(self.rt, fs::OpenOptions::new().read(true), path) {
             Ok(file) => Ok(FileReader { file, faults: 0 }),
             Err(_) => {
@@ -173,13 +183,32 @@ impl<'a, R: Files> Disk for FileDisk<'a, R> {
         }
     }
 
-    fn shut(&mut self, reader: FileReader<R::File>) {
+    fn shut(&mut self, reader: FileReader<R::File>)
+        ensures write_faults { self.new.write_faults ≡ self.old.write_faults }
+        ensures cause { Collects reader.faults self.old.read_faults self.new.read_faults }
+
+        // A reader that has failed counts once, and nothing else does.
+        ensures count { self.new.read_faults ≡ counted_if (nat_lt 0 reader.faults) self.old.read_faults }
+    {
         if reader.faults > 0 {
             self.read_faults = self.read_faults.saturating_add(1);
         }
     }
 
-    fn create(&mut self, path: &str) -> Result<StdSink<R::File>, DiskFault> {
+    fn create(&mut self, path: &str) -> Result<StdSink<R::File>, DiskFault>
+        ensures files { Creates path.now None None result }
+        ensures read_faults { self.new.read_faults ≡ self.old.read_faults }
+        ensures cause { HasDiskCause self.old.write_faults self.new.write_faults result }
+        ensures fresh { IfOk result (λ writer. writer.faults ≡ 0) }
+        ensures empty { IfOk result (λ writer. ForSome (⟦<StdSink<R::File> as Sink>⟧.written writer) (λ bytes. bytes ≡ [])) }
+        ensures writer { IfOk result (λ writer. ForSome (⟦<FileDisk<'a, R> as Disk>⟧.files self.old) (λ _. ⟦<StdSink<R::File> as Sink>⟧.written writer ≡ Some [])) }
+
+        // Nothing is buffered yet.
+        ensures waits { IfOk result (λ writer. writer.waiting.items ≡ []) }
+
+        // A failure counts once, and nothing else does.
+        ensures count { self.new.write_faults ≡ counted_if (is_err result) self.old.write_faults }
+    {
         let mut options = fs::OpenOptions::new();
         let _ = options.write(true).create(true).truncate(true);
         match open_with(self.rt, &options, path) {

@@ -32,6 +32,8 @@ impl<W: Write> StdSink<W> {
         ensures written { ⟦<StdSink<W> as Sink>⟧.written result ≡ None }
         ensures waits { ⟦<StdSink<W> as Sink>⟧.waits result ≡ 0 }
         ensures faults { ⟦<StdSink<W> as Sink>⟧.faults result ≡ 0 }
+        ensures writer { result.writer ≡ writer }
+        ensures empty { result.waiting.items ≡ [] }
     {
         StdSink {
             writer,
