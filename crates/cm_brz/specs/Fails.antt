@@ -52,6 +52,21 @@ FailsBrz told c b seeds (Changed first now) = ⊥
 FailsBrz told c b seeds SpillFailed = Unit {0}
 FailsBrz told c b seeds (SpillDamaged offset expected found) = Unit {0}
 
+-- a seed of the list splits the keys, which are known and have no fault at their end
+abbrev pub IsSplitKnown : Told → ℕ → List ℕ → Type 0
+IsSplitKnown told b seeds = (told.fault ≡ None) × (told.keys ≢ []) × (is_some (split_of told.keys (bucket_count (length told.keys) b) seeds) ≡ true)
+
+-- the failures over known keys, whatever is known of the spill: each comes only with these keys
+abbrev pub FailsKeys : Told → ℕ → List ℕ → BrzFault → Type 0
+FailsKeys told b seeds Memory = Unit {0}
+FailsKeys told b seeds NoKeys = (told.keys ≡ []) × (told.fault ≡ None)
+FailsKeys told b seeds (Overfull seed bucket count equal) = (told.fault ≡ None) × IsOverfull told.keys (bucket_count (length told.keys) b) seeds seed bucket count equal.items
+FailsKeys told b seeds (Cored made) = IsSplitKnown told b seeds
+FailsKeys told b seeds (Key fault) = IsToldFault told fault
+FailsKeys told b seeds (Changed first now) = ⊥
+FailsKeys told b seeds SpillFailed = IsSplitKnown told b seeds
+FailsKeys told b seeds (SpillDamaged offset expected found) = IsSplitKnown told b seeds
+
 -- what a failure has, whatever the keys are: numbers of `Changed` and of damage that differ, an overfull bucket of the first seed, and
 -- a certificate of the first seed in a bucket, with three ends an edge
 abbrev pub HasBrzForm : List ℕ → BrzFault → Type 0
@@ -101,10 +116,10 @@ RefusesOverfull told k s j n (Overfull seed bucket count equal) = (seed ≡ s) �
 RefusesOverfull told k s j n (Key fault) = IsToldFault told fault
 RefusesOverfull told k s j n fault = ⊥
 
--- and over any keys
-abbrev pub HasOverfullForm : ℕ → ℕ → BrzFault → Type 0
-HasOverfullForm s n Memory = Unit {0}
-HasOverfullForm s n (Overfull seed bucket count equal) = (seed ≡ s) × (count ≡ n)
-HasOverfullForm s n (Key fault) = Unit {0}
-HasOverfullForm s n (Changed first now) = first ≢ now
-HasOverfullForm s n fault = ⊥
+-- and over any keys it fails only for these reasons
+abbrev pub IsOfOverfull : BrzFault → Type 0
+IsOfOverfull Memory = Unit {0}
+IsOfOverfull (Overfull seed bucket count equal) = Unit {0}
+IsOfOverfull (Key fault) = Unit {0}
+IsOfOverfull (Changed first now) = Unit {0}
+IsOfOverfull fault = ⊥

@@ -1,3 +1,4 @@
+pub mod AnyKeys
 pub mod BrzOf
 pub mod Fails
 pub mod Found

@@ -1,9 +1,10 @@
 //! From the store to the functions of the buckets.
-ghost use Rattle.std.specs.Prelude.{◌≡◌, ℕ, ◌+◌, ◌*◌, ◌<◌, ◌≤◌, List, [], Some, length, sum, count_by, IfOk, IfErr, IsTrue, OnOk, true};
+ghost use Rattle.std.specs.Prelude.{◌≡◌, ◌⊎◌, ℕ, ◌+◌, ◌*◌, ◌<◌, ◌≤◌, List, [], Some, length, sum, count_by, IfOk, IfErr, IsTrue, OnOk, true};
 ghost use Rattle.cm_algo_names.specs.declared.algorithm.Algorithm.TheVariants as algorithm;
+ghost use Rattle.cm_brz.specs.AnyKeys.{IsDamageIn};
 ghost use Rattle.cm_brz.specs.BrzOf.{AreBuilt, PushesBucket, bucket_from};
 ghost use Rattle.cm_brz.specs.Fails.{FailsBucket, FailsBuckets, HasBuildingForm};
-ghost use Rattle.cm_brz_split.specs.Faults.{HasSpillCause};
+ghost use Rattle.cm_brz_split.specs.Faults.{HasSpillCause, IfDamage};
 ghost use Rattle.cm_brz_split.specs.Puts.{HasTwoNumbers, HaveSizes, IsMiscount, keys_in_bucket};
 ghost use Rattle.cm_brz_split.specs.Records.{Record, records_of};
 ghost use Rattle.cm_spill.specs.Stores.{HasSpillCause as HasStoreCause, IsOfWriting as NotDamaged};
@@ -66,6 +67,9 @@ fn read_bucket<B: Store>(
     ensures keys { (records : List Record) → B.holds store.old records → OnOk result (held.new.keys ≡ keys_in_bucket records bucket) }
     ensures undamaged { (records : List Record) → B.holds store.old records → length (records_of bucket records) ≡ size → IfErr result NotDamaged }
     ensures fault { IfErr result HasTwoNumbers }
+
+    // The store found a damage, or only the number of its records is wrong.
+    ensures damage { IfErr result (λ e. B.damages store.new bucket e ⊎ IsMiscount size (B.given store.new bucket) (B.end store.new) e) }
 
     // If the store is still usable, only the number of its records is wrong.
     ensures miscounted { IfErr result (λ e. B.usable store.new ≡ true → IsMiscount size (B.given store.new bucket) (B.end store.new) e) }
@@ -236,6 +240,7 @@ pub(crate) fn build_buckets<B: Store, L: Ledger>(
     ensures built { (records : List Record) → B.holds store.old records → OnOk result (B.holds store.new records × AreBuilt (keys_in_bucket records) parts.old.ratio seeds.now parts.new.buckets) }
     ensures fault { (records : List Record) → B.holds store.old records → HaveSizes records sizes.now (length sizes.now) → IfErr result (FailsBuckets (keys_in_bucket records) (length sizes.now) parts.old.ratio parts.old.split seeds.now) }
     ensures form { IfErr result (HasBuildingForm seeds.now) }
+    ensures damage { IfErr result (λ e. IfDamage e (IsDamageIn (B.damages store.new) (B.given store.new) (B.end store.new) sizes.now)) }
     ensures steps { steps.new ≤ steps.old + 24 * parts.old.keys * length seeds.now }
 {
     let mut held = BucketKeys::new(alloc, first_four(seeds));

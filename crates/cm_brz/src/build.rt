@@ -1,13 +1,20 @@
 //! Builds by BRZ with the keys in a spill.
-ghost use Rattle.std.specs.Prelude.{◌≡◌, ◌+◌, ◌*◌, ◌<◌, ◌≤◌, [], length, IfOk, IfErr, Contains, None, is_some};
+ghost use Rattle.std.specs.Prelude.{◌≡◌, ◌⊎◌, ℕ, ◌+◌, ◌*◌, ◌<◌, ◌≤◌, [], length, slice_index, IfOk, IfErr, Contains, None, Some, is_some};
 ghost use Rattle.std.specs.Option.{ForSome};
+ghost use Rattle.cm_brz.specs.AnyKeys.{HasDamage, IsDamageIn, IsOtherBucket};
 ghost use Rattle.cm_brz.specs.BrzOf.{IsBrzOf};
-ghost use Rattle.cm_brz.specs.Fails.{FailsBrz, HasBrzForm, IsDamage};
-ghost use Rattle.cm_brz_split.specs.Faults.{HasKeysCause, HasSpillCause};
+ghost use Rattle.cm_brz.specs.Fails.{FailsBrz, FailsKeys, HasBrzForm, IsDamage};
+ghost use Rattle.cm_brz_split.specs.Faults.{HasFailure, HasKeysCause, HasSpillCause, IfChanged, IfDamage, IfOverfull, OnNoKeys};
+ghost use Rattle.cm_brz_split.specs.Given.{CountedBucket, CountedOver, GaveCount, GaveEqual, GaveSizes};
 ghost use Rattle.cm_brz_split.specs.Puts.{records_under};
 ghost use Rattle.cm_brz_split.specs.Spilled.{AreSpilled};
+ghost use Rattle.cm_brz_split.specs.Split.{split_of};
+ghost use Rattle.cm_brz_func.specs.Functions.{bucket_count};
 ghost use Rattle.cm_brz_func.specs.declared.limits.TheConstants.{MAX_WIDTH, MIN_WIDTH};
 ghost use Rattle.cm_spec.specs.Rule.{IsRatio};
+ghost use Rattle.cm_witness.specs.Gathers.{HasPassed, IsOther};
+ghost use Rattle.cm_spill.specs.Damage.{IsDamageOf};
+ghost use Rattle.cm_spill.specs.Stores.{Store, given_of};
 ghost use Rattle.cm_spill.specs.declared.runs.TheConstants.{MAX_BYTES, MIN_BYTES};
 
 use crate::building::brz_over;
@@ -53,6 +60,23 @@ pub fn brz<P: KeyPass, S: Spill, L: Ledger>(
     ensures fault { ForSome (S.told spill) (λ _. IfErr result.0 (λ e. ForSome (P.told keys.old) (λ told. FailsBrz told c b seeds.now e))) }
     ensures undamaged { ForSome (S.told spill) (λ _. IfErr result.0 (λ e. IsDamage e → ⊥)) }
     ensures form { IfErr result.0 (HasBrzForm seeds.now) }
+
+    // Over known keys, whatever is known of the spill.
+    ensures split_known { IfOk result.0 (λ f. ForSome (P.told keys.old) (λ told. (told.fault ≡ None) × (f.keys ≡ length told.keys)
+        × (split_of told.keys (bucket_count (length told.keys) b) seeds.now ≡ Some f.split))) }
+    ensures over_known { IfErr result.0 (λ e. ForSome (P.told keys.old) (λ told. FailsKeys told b seeds.now e)) }
+
+    // Over any keys, of which the first pass counted m.
+    ensures no_keys { IfErr result.0 (λ e. OnNoKeys e ((P.place keys.new ≡ 0) × P.at_end keys.new × P.gave keys.new [])) }
+    ensures failed { IfErr result.0 (HasFailure (P.failure keys.new)) }
+    ensures overfull { IfErr result.0 (λ e. IfOverfull e (λ seed bucket count equal. (m : ℕ) × HasPassed P.at_end P.place m × (seed ≡ slice_index seeds.now 0) × P.at_end keys.new
+        × CountedOver P.at_end P.gave (bucket_count m b) seed bucket count × GaveEqual (P.gave keys.new) (bucket_count m b) seed bucket count equal)) }
+    ensures changed { IfErr result.0 (λ e. IfChanged e (λ first now. (m : ℕ) × HasPassed P.at_end P.place m × (((first ≡ m) × IsOther first now (P.place keys.new))
+        ⊎ IsOtherBucket (CountedBucket P.at_end P.gave) (GaveCount (P.gave keys.new)) (bucket_count m b) seeds.now first now))) }
+
+    // A damage is one that a store over the spill found, after all keys of the last pass were put into it.
+    ensures damage { IfErr result.0 (λ e. IfDamage e (λ damage. P.at_end keys.new × ((store : Store) × (store.known ≡ S.told result.1) × (store.faults ≡ S.faults result.1)
+        × HasDamage (GaveSizes (P.gave keys.new)) (IsDamageIn (IsDamageOf store) (given_of store) store.read_end) (bucket_count (P.place keys.new) b) seeds.now damage))) }
     ensures steps { ForSome (P.told keys.old) (λ told. steps.new ≤ steps.old + 24 * length told.keys * length seeds.now) }
 {
     let mut store = match Runs::new(alloc, spill, buffer) {

@@ -1,16 +1,19 @@
 //! From keys to buckets, through a store.
-ghost use Rattle.std.specs.Prelude.{◌≡◌, ℕ, ◌+◌, ◌*◌, ◌<◌, ◌≤◌, [], length, sum, IfOk, IfErr, IsTrue, OnOk, Contains, None, Some, Ok, Err, true, false};
+ghost use Rattle.std.specs.Prelude.{◌≡◌, ◌≢◌, ◌⊎◌, ℕ, ◌+◌, ◌*◌, ◌<◌, ◌≤◌, [], length, slice_index, sum, IfOk, IfErr, IsTrue, OnOk, Contains, None, Some, Ok, Err, true, false};
 ghost use Rattle.std.specs.Option.{ForSome};
 ghost use Rattle.cm_io.specs.declared.key_pass.TheConstants.{MAX_KEYS};
+ghost use Rattle.cm_brz.specs.AnyKeys.{HasDamage, IsDamageIn, IsOtherBucket};
 ghost use Rattle.cm_brz.specs.BrzOf.{IsBrzOf};
-ghost use Rattle.cm_brz.specs.Fails.{FailsBrz, HasBrzForm, HasOverfullForm, IsDamage, RefusesOverfull};
-ghost use Rattle.cm_brz_split.specs.Faults.{HasKeysCause, HasSpillCause};
+ghost use Rattle.cm_brz.specs.Fails.{FailsBrz, FailsKeys, HasBrzForm, IsDamage, IsOfOverfull, RefusesOverfull};
+ghost use Rattle.cm_brz_split.specs.Faults.{HasFailure, HasKeysCause, HasSpillCause, IfChanged, IfDamage, IfOverfull, OnNoKeys};
+ghost use Rattle.cm_brz_split.specs.Given.{CountedBucket, CountedOver, GaveCount, GaveEqual, GaveSizes};
 ghost use Rattle.cm_brz_split.specs.Passes.{AreCounted};
 ghost use Rattle.cm_brz_split.specs.Puts.{records_under};
 ghost use Rattle.cm_brz_split.specs.Split.{AreSizes, size_of_bucket, split_of};
 ghost use Rattle.cm_brz_func.specs.Functions.{bucket_count};
 ghost use Rattle.cm_brz_func.specs.declared.limits.TheConstants.{MAX_BUCKET, MAX_WIDTH, MIN_WIDTH};
 ghost use Rattle.cm_spec.specs.Rule.{IsRatio};
+ghost use Rattle.cm_witness.specs.Gathers.{HasPassed, IsOther};
 
 use crate::buckets::build_buckets;
 use cm_algo_scheme::Divisor;
@@ -41,7 +44,12 @@ fn refuse_overfull<P: KeyPass>(
     ensures cause { HasKeysCause {T = Unit {0}} (P.faults keys.old) (P.faults keys.new) (Err result) }
     ensures undamaged { IsDamage result → ⊥ }
     ensures shows { ForSome (P.told keys.old) (λ told. RefusesOverfull told split.now.buckets split.now.seed over.bucket over.count result) }
-    ensures form { HasOverfullForm split.now.seed over.count result }
+    ensures failed { HasFailure (P.failure keys.new) result }
+    ensures overfull { IfOverfull result (λ seed bucket count equal. (seed ≡ split.now.seed) × (bucket ≡ over.bucket) × (count ≡ over.count)
+        × P.at_end keys.new × GaveEqual (P.gave keys.new) split.now.buckets seed bucket count equal) }
+    ensures changed { IfChanged result (λ first now. ((first ≡ m) × IsOther first now (P.place keys.new))
+        ⊎ ((first ≡ over.count) × (first ≢ now) × GaveCount (P.gave keys.new) split.now.buckets split.now.seed over.bucket now)) }
+    ensures form { IsOfOverfull result }
     ensures spill { (n : ℕ) → HasSpillCause {T = Unit {0}} n n (Err result) }
 {
     match gather_equal(alloc, keys, key, m, split, over) {
@@ -87,6 +95,14 @@ fn split_keys<P: KeyPass>(
     ensures sizes { IfOk result (λ s. ForSome (P.told keys.old) (λ told. AreSizes s.sizes.items told.keys s.split.buckets s.split.seed)) }
     ensures first { IfOk result (λ s. ForSome (P.told keys.old) (λ told. split_of told.keys (bucket_count (length told.keys) b) seeds.now ≡ Some s.split.seed)) }
     ensures fault { IfErr result (λ e. ForSome (P.told keys.old) (λ told. (c : ℕ) → FailsBrz told c b seeds.now e)) }
+    ensures ended { OnOk result (P.at_end keys.new) }
+    ensures gave { IfOk result (λ s. GaveSizes (P.gave keys.new) s.sizes.items s.split.buckets s.split.seed) }
+    ensures failed { IfErr result (HasFailure (P.failure keys.new)) }
+    ensures overfull { IfErr result (λ e. IfOverfull e (λ seed bucket count equal. (seed ≡ slice_index seeds.now 0) × P.at_end keys.new
+        × CountedOver P.at_end P.gave (bucket_count m b) seed bucket count × GaveEqual (P.gave keys.new) (bucket_count m b) seed bucket count equal)) }
+    ensures changed { IfErr result (λ e. IfChanged e (λ first now. ((first ≡ m) × IsOther first now (P.place keys.new))
+        ⊎ IsOtherBucket (CountedBucket P.at_end P.gave) (GaveCount (P.gave keys.new)) (bucket_count m b) seeds.now first now)) }
+    ensures kind { IfErr result IsOfOverfull }
     ensures form { IfErr result (HasBrzForm seeds.now) }
     ensures undamaged { IfErr result (λ e. IsDamage e → ⊥) }
     ensures spill { (n : ℕ) → HasSpillCause n n result }
@@ -138,6 +154,21 @@ pub(crate) fn brz_over<P: KeyPass, B: Store, L: Ledger>(
     ensures put { B.holds store.old [] → IfOk result (λ f. ForSome (P.told keys.old) (λ told. B.holds store.new (records_under told.keys (length f.buckets) f.split))) }
     ensures fault { B.holds store.old [] → IfErr result (λ e. ForSome (P.told keys.old) (λ told. FailsBrz told c b seeds.now e)) }
     ensures undamaged { B.holds store.old [] → IfErr result (λ e. IsDamage e → ⊥) }
+
+    // Whatever is known of the store.
+    ensures split_known { IfOk result (λ f. ForSome (P.told keys.old) (λ told. (told.fault ≡ None) × (f.keys ≡ length told.keys)
+        × (split_of told.keys (bucket_count (length told.keys) b) seeds.now ≡ Some f.split))) }
+    ensures over_known { IfErr result (λ e. ForSome (P.told keys.old) (λ told. FailsKeys told b seeds.now e)) }
+
+    // Over any keys, of which the first pass counted m.
+    ensures no_keys { IfErr result (λ e. OnNoKeys e ((P.place keys.new ≡ 0) × P.at_end keys.new × P.gave keys.new [])) }
+    ensures failed { IfErr result (HasFailure (P.failure keys.new)) }
+    ensures overfull { IfErr result (λ e. IfOverfull e (λ seed bucket count equal. (m : ℕ) × HasPassed P.at_end P.place m × (seed ≡ slice_index seeds.now 0) × P.at_end keys.new
+        × CountedOver P.at_end P.gave (bucket_count m b) seed bucket count × GaveEqual (P.gave keys.new) (bucket_count m b) seed bucket count equal)) }
+    ensures changed { IfErr result (λ e. IfChanged e (λ first now. (m : ℕ) × HasPassed P.at_end P.place m × (((first ≡ m) × IsOther first now (P.place keys.new))
+        ⊎ IsOtherBucket (CountedBucket P.at_end P.gave) (GaveCount (P.gave keys.new)) (bucket_count m b) seeds.now first now))) }
+    ensures damage { IfErr result (λ e. IfDamage e (λ damage. P.at_end keys.new × HasDamage (GaveSizes (P.gave keys.new))
+        (IsDamageIn (B.damages store.new) (B.given store.new) (B.end store.new)) (bucket_count (P.place keys.new) b) seeds.now damage)) }
     ensures form { IfErr result (HasBrzForm seeds.now) }
     ensures steps { ForSome (P.told keys.old) (λ told. steps.new ≤ steps.old + 24 * length told.keys * length seeds.now) }
 {
