@@ -1,4 +1,3 @@
-mod BatchLemmas
 mod EarlierLemmas
 mod MarkLemmas
 mod NotedLemmas

@@ -5,5 +5,4 @@ pub mod Stops
 pub mod Sums
 pub mod Tallies
 pub mod Texts
-pub mod Waiting
 pub mod QueryLaws

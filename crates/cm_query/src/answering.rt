@@ -8,7 +8,6 @@ ghost use Rattle.cm_query.specs.Stops.{HasQueryCause, HasQueryFailure, IsReached
 ghost use Rattle.cm_query.specs.Tallies.{tally_of};
 ghost use Rattle.cm_query.specs.Texts.{text_of, notes_of};
 
-use crate::batch::Batch;
 use crate::fault::QueryFault;
 use crate::marks::mark;
 use crate::tally::Tally;
@@ -16,6 +15,7 @@ use crate::writing::{LINE_END, note_key, write_line};
 use cm_algo_scheme::Answers;
 use cm_bits::{Bits, Cells};
 use cm_io::{Failed, KeyBuf, KeyPass, Notes, Sink};
+use cm_query_batch::Batch;
 use itoa::Buffer;
 use std::alloc::Global;
 

@@ -2,12 +2,10 @@
 #![tactic(auto)]
 
 mod answering;
-mod batch;
 mod fault;
 mod laws;
 mod marks;
 mod summing;
-mod taken;
 mod tally;
 mod writing;
 

@@ -6,9 +6,9 @@ ghost use Rattle.cm_query.specs.Stops.{StopsAt};
 ghost use Rattle.cm_query.specs.Sums.{answer_sum};
 ghost use Rattle.cm_query.specs.declared.fault.QueryFault.TheVariants.{Key};
 
-use crate::batch::Batch;
 use cm_algo_scheme::Answers;
 use cm_io::{KeyBuf, KeyFault, KeyPass, MAX_KEYS};
+use cm_query_batch::Batch;
 
 /// The sum of the answers of a function to the keys of a pass that stands at its start. A key without an answer counts 0. Buffered keys
 /// are taken and looked up several at a time. Fails exactly if the pass does, and allocates no memory.

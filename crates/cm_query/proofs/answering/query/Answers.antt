@@ -5,7 +5,7 @@ use Rattle.cm_bits.specs.Held.{packed_cells}
 use Rattle.cm_io.specs.WritingLaws.{then_twice}
 use Rattle.cm_io.specs.Noting.{Noted}
 use Rattle.cm_io.specs.Writing.{then_bytes}
-use Rattle.cm_query.proofs.BatchLemmas.{ahead_of, first_of, none_waits, same_first, sent_next}
+use Rattle.cm_query_batch.specs.BatchLaws.{ahead_of, first_of, none_waits, same_first, sent_next}
 use Rattle.cm_query.proofs.MarkLemmas.{length-marked}
 use Rattle.cm_io.specs.NotingLaws.{noted_more}
 use Rattle.cm_query.proofs.ProgressLemmas.{SoFar, next_within, so_far_all, so_far_next, so_far_none, text_at_write}
@@ -13,7 +13,7 @@ use Rattle.cm_io.specs.NotingLaws.{noted_nothing}
 use Rattle.cm_io.specs.WritingLaws.{then_nothing}
 use Rattle.cm_query.specs.Tallies.{counted}
 use Rattle.cm_query.specs.Texts.{line_of, notes_of}
-use Rattle.cm_query.specs.Waiting.{WaitingKeys}
+use Rattle.cm_query_batch.specs.Waiting.{WaitingKeys}
 use Rattle.cm_query.specs.declared.tally.Tally.{Tally}
 use Rattle.cm_query.proofs.answering.query.Goals as goal
 

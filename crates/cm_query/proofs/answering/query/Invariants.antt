@@ -4,7 +4,7 @@ use Rattle.cm_bits.specs.Held.{packed_cells}
 use Rattle.cm_io.specs.Noting.{Noted}
 use Rattle.cm_io.specs.Writing.{then_bytes}
 use Rattle.cm_query.proofs.ProgressLemmas.{SoFar}
-use Rattle.cm_query.specs.Waiting.{AreAnswers}
+use Rattle.cm_query_batch.specs.Waiting.{AreAnswers}
 use Rattle.cm_query.proofs.answering.query.Given as goal
 
 abbrev pub invariant-keys : goal.invariant-keys

@@ -1,6 +1,6 @@
 use Rattle.std.proofs.Common.{rules, [], ◌≡◌, ◌∙◌, ℕ, ◌+◌, ◌≤◌, List, drop, get_or, length, ap, arith, sym}
 use Rattle.std.specs.Prelude.{unwrap_or}
-use Rattle.cm_query.proofs.BatchLemmas.{ahead_of, first_of, same_first}
+use Rattle.cm_query_batch.specs.BatchLaws.{ahead_of, first_of, same_first}
 use Rattle.cm_query.proofs.ProgressLemmas.{next_within}
 use Rattle.cm_query.proofs.SumLemmas.{sum_next}
 use Rattle.cm_query.specs.Sums.{answer_sum}

@@ -1,7 +1,7 @@
 use Rattle.std.proofs.Common.{◌≡◌, ◌+◌, ◌*◌, ◌≤◌, ◌++◌, length, drop, true}
 use Rattle.std.specs.Option.{ForSome}
 use Rattle.cm_query.specs.Sums.{answer_sum}
-use Rattle.cm_query.specs.Waiting.{AreAnswers}
+use Rattle.cm_query_batch.specs.Waiting.{AreAnswers}
 use Rattle.cm_query.proofs.summing.sum_answers.Given as goal
 
 abbrev pub invariant-loop-turn : goal.invariant-loop-turn

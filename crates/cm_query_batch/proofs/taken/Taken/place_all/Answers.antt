@@ -1,6 +1,6 @@
 use Rattle.std.proofs.Common.{rules, ◌≡◌, ◌∙◌, ◌+◌, ◌*◌, ◌<◌, ◌++◌, ℕ, List, [], length, arith}
-use Rattle.cm_query.proofs.BatchLemmas.{four_more, one_more}
-use Rattle.cm_query.proofs.taken.Taken.place_all.Goals as goal
+use Rattle.cm_query_batch.proofs.BatchLemmas.{four_more, one_more}
+use Rattle.cm_query_batch.proofs.taken.Taken.place_all.Goals as goal
 
 pub loop-i-preserved : goal.loop-i-preserved
 loop-i-preserved g c =

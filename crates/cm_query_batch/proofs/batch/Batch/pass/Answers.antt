@@ -1,7 +1,7 @@
 use Rattle.std.proofs.Common.{◌∙◌, drop, ap, sym, arith}
 use Rattle.std.proofs.lemmas.List.{drop-drop}
-use Rattle.cm_query.specs.Waiting.{WaitingKeys}
-use Rattle.cm_query.proofs.batch.Batch.pass.Goals as goal
+use Rattle.cm_query_batch.specs.Waiting.{WaitingKeys}
+use Rattle.cm_query_batch.proofs.batch.Batch.pass.Goals as goal
 
 pub overflow_add-self : goal.overflow_add-self
 overflow_add-self c = omega (arith, c.self.invariant.next, c.self.invariant.few)

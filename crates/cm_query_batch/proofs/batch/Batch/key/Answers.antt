@@ -1,7 +1,7 @@
 use Rattle.std.proofs.Common.{◌∙◌, ℕ, List, get_or, ap, sym}
-use Rattle.cm_query.proofs.BatchLemmas.{first_waiting}
-use Rattle.cm_query.specs.Waiting.{WaitingKeys}
-use Rattle.cm_query.proofs.batch.Batch.key.Goals as goal
+use Rattle.cm_query_batch.proofs.BatchLemmas.{first_waiting}
+use Rattle.cm_query_batch.specs.Waiting.{WaitingKeys}
+use Rattle.cm_query_batch.proofs.batch.Batch.key.Goals as goal
 
 pub returns : goal.returns
 returns c =

@@ -2,7 +2,7 @@
 ghost use Rattle.std.specs.Prelude.{◌≡◌, ◌⊎◌, ◌<◌, ◌≤◌, ◌+◌, ◌++◌, ℕ, List, [], ◌∷◌, length, map, slice_index_or, All, Option, IfSome, Ok, IfOk, OnOk, OnErr, true, false, IsTrue, Some, IfErr};
 ghost use Rattle.std.specs.Option.{ForSome};
 ghost use Rattle.cm_io.specs.Passes.{HasKeyCause};
-ghost use Rattle.cm_query.specs.Waiting.{Refills, RefillsBy, Takes};
+ghost use Rattle.cm_query_batch.specs.Waiting.{Refills, RefillsBy, Takes};
 
 use arrayvec::ArrayVec;
 use cm_algo_scheme::{Answers, Place};
@@ -32,7 +32,7 @@ pub(crate) struct Taken {
 
 impl Model for Taken {
     ghost use Rattle.std.specs.Prelude.{length, map, All};
-    ghost use Rattle.cm_query.specs.Waiting.{StandsIn, TakenKeys, key_in};
+    ghost use Rattle.cm_query_batch.specs.Waiting.{StandsIn, TakenKeys, key_in};
 
     ghost Value = { TakenKeys };
 
@@ -42,7 +42,7 @@ impl Model for Taken {
 }
 
 impl Taken {
-    ghost use Rattle.cm_query.specs.declared.taken.TheConstants.{MOST, ROOM};
+    ghost use Rattle.cm_query_batch.specs.declared.taken.TheConstants.{MOST, ROOM};
 
     /// No keys.
     pub(crate) fn new() -> Taken

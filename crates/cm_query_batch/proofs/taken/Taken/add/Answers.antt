@@ -1,7 +1,7 @@
 use Rattle.std.proofs.Common.{rules, ◌∙◌, ◌∷◌, [], ◌++◌, ap}
-use Rattle.cm_query.proofs.BatchLemmas.{key_more}
-use Rattle.cm_query.specs.Waiting.{TakenKeys}
-use Rattle.cm_query.proofs.taken.Taken.add.Goals as goal
+use Rattle.cm_query_batch.proofs.BatchLemmas.{key_more}
+use Rattle.cm_query_batch.specs.Waiting.{TakenKeys}
+use Rattle.cm_query_batch.proofs.taken.Taken.add.Goals as goal
 
 pub returns-clause-keys : goal.returns-clause-keys
 returns-clause-keys c =

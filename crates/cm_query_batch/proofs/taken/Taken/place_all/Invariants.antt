@@ -1,5 +1,5 @@
 use Rattle.std.proofs.Common.{◌≡◌, ◌*◌, map, take}
-use Rattle.cm_query.proofs.taken.Taken.place_all.Given as goal
+use Rattle.cm_query_batch.proofs.taken.Taken.place_all.Given as goal
 
 abbrev pub invariant-loop-i : goal.invariant-loop-i
 invariant-loop-i g l = l.places.items ≡ map (λ k. g.A.Answers.place_of l.function k.1) (take (4 * l.i) l.self.keys)

@@ -2,8 +2,8 @@ use Rattle.std.proofs.Common.{[], ◌∙◌, ◌<◌, ℕ, List, length, get_or,
 use Rattle.std.proofs.lemmas.List.{get_or-map, length-map}
 use Rattle.std.proofs.lemmas.List.Elements.{All-push, All-same}
 use Rattle.std.specs.Prelude.{IfSome, Option}
-use Rattle.cm_query.proofs.BatchLemmas.{one_more}
-use Rattle.cm_query.proofs.taken.Taken.answer_all.Goals as goal
+use Rattle.cm_query_batch.proofs.BatchLemmas.{one_more}
+use Rattle.cm_query_batch.proofs.taken.Taken.answer_all.Goals as goal
 
 pub answer_at-requires : goal.answer_at-requires
 answer_at-requires g c =

@@ -2,7 +2,7 @@
 ghost use Rattle.std.specs.Prelude.{◌≡◌, ◌<◌, ◌≤◌, ℕ, List, [], length, drop, slice_index_or, Option, Ok, true, false, IsTrue, ◌↔◌, OnOk, OnErr, Some, IfErr};
 ghost use Rattle.std.specs.Option.{ForSome};
 ghost use Rattle.cm_io.specs.Passes.{HasKeyCause};
-ghost use Rattle.cm_query.specs.Waiting.{AreAnswers, Refills, RefillsBy, WaitingKeys};
+ghost use Rattle.cm_query_batch.specs.Waiting.{AreAnswers, Refills, RefillsBy, WaitingKeys};
 
 use crate::taken::{MOST, Taken};
 use arrayvec::ArrayVec;
@@ -10,10 +10,11 @@ use cm_algo_scheme::Answers;
 use cm_io::{KeyBuf, KeyFault, KeyPass, MAX_KEYS};
 use std::marker::Model;
 
-/// Keys that were taken together and looked up together, of which some still wait. Clauses see those that wait, with their lines, and
-/// their answers.
+/// Keys of a pass that were taken and looked up together, 32 at most. They wait until they are passed, one after another in the order of
+/// the pass: `refill`, read `key`, `line` and `answer` of the first that waits, and `pass`. No call allocates memory: a batch has room
+/// for twice `MAX_KEY_LEN` bytes in itself. Clauses see the keys that wait, with their lines, and their answers.
 #[derive(Drop)]
-pub(crate) struct Batch {
+pub struct Batch {
     taken: Taken,
     answers: ArrayVec<Option<u32>, MOST>,
     next: usize,
@@ -21,8 +22,8 @@ pub(crate) struct Batch {
 
 impl Model for Batch {
     ghost use Rattle.std.specs.Prelude.{◌≡◌, ◌≤◌, length, drop};
-    ghost use Rattle.cm_query.specs.Waiting.{WaitingKeys};
-    ghost use Rattle.cm_query.specs.declared.taken.TheConstants.{MOST};
+    ghost use Rattle.cm_query_batch.specs.Waiting.{WaitingKeys};
+    ghost use Rattle.cm_query_batch.specs.declared.taken.TheConstants.{MOST};
 
     ghost Value = { WaitingKeys };
 
@@ -36,8 +37,8 @@ impl Model for Batch {
 }
 
 impl Batch {
-    /// No key waits.
-    pub(crate) fn new() -> Batch
+    /// A batch in which no key waits.
+    pub fn new() -> Batch
         ensures none { result.keys ≡ [] }
         ensures answers { result.answers ≡ [] }
     {
@@ -50,9 +51,10 @@ impl Batch {
 
     /// Returns true if a key waits. If none does, takes and looks up the next keys of a pass: one that is buffered, or else the one that
     /// `next` yields, and those that are buffered then. Returns false if there is no further key, and fails if the pass does. It does
-    /// neither if a key waits or is buffered.
+    /// neither if a key waits or is buffered. `key` is room for a key that isn't buffered. The pass must be usable and have yielded
+    /// `MAX_KEYS` keys at most, and the keys that wait must have the answers of this function.
     #[inline]
-    pub(crate) fn refill<A: Answers, P: KeyPass>(
+    pub fn refill<A: Answers, P: KeyPass>(
         &mut self,
         function: &A,
         keys: &mut P,
@@ -110,40 +112,40 @@ impl Batch {
         Ok(true)
     }
 
-    /// Whether one key waits and no other.
-    pub(crate) fn is_last(&self) -> bool
+    /// Whether one key waits and no other. One must wait.
+    pub fn is_last(&self) -> bool
         requires waits { 0 < length self.now.keys }
         ensures { IsTrue result ↔ (length self.now.keys ≡ 1) }
     {
         self.next + 1 == self.taken.len()
     }
 
-    /// The bytes of the key that waits longest.
-    pub(crate) fn key(&self) -> &[u8]
+    /// The bytes of the first key that waits. One must wait.
+    pub fn key(&self) -> &[u8]
         requires waits { 0 < length self.now.keys }
         ensures key { (d : ℕ × List ℕ) → result.now ≡ (slice_index_or self.now.keys 0 d).1 }
     {
         self.taken.key(self.next)
     }
 
-    /// Its line.
-    pub(crate) fn line(&self) -> u32
+    /// The line of the first key that waits, counted from 1. One must wait.
+    pub fn line(&self) -> u32
         requires waits { 0 < length self.now.keys }
         ensures line { (d : ℕ × List ℕ) → result ≡ (slice_index_or self.now.keys 0 d).0 }
     {
         self.taken.line(self.next)
     }
 
-    /// Its answer.
-    pub(crate) fn answer(&self) -> Option<u32>
+    /// The answer to the first key that waits: a number below the span of the function, or none. One must wait.
+    pub fn answer(&self) -> Option<u32>
         requires waits { 0 < length self.now.answers }
         ensures answer { (d : Option ℕ) → result ≡ slice_index_or self.now.answers 0 d }
     {
         self.answers[self.next]
     }
 
-    /// It waits no more.
-    pub(crate) fn pass(&mut self)
+    /// Passes the first key that waits: it waits no more. One must wait.
+    pub fn pass(&mut self)
         requires waits { 0 < length self.old.keys }
         ensures keys { self.new.keys ≡ drop 1 self.old.keys }
         ensures answers { self.new.answers ≡ drop 1 self.old.answers }

@@ -2,7 +2,7 @@
 use Rattle.std.specs.Prelude.{◌≡◌, ◌<◌, ◌≤◌, ◌+◌, ◌-◌, ◌++◌, ℕ, List, [], length, map, take, drop, All, Option, None, IfSome, Bool, true, false, Result, Ok, Err}
 use Rattle.cm_io.specs.Passes.{Told, Ends, GivesKey}
 use Rattle.cm_io.specs.declared.key_pass.KeyFault.{KeyFault}
-use Rattle.cm_query.specs.declared.taken.Spot.{Spot}
+use Rattle.cm_query_batch.specs.declared.taken.Spot.{Spot}
 
 -- a key with its line, whose bytes stand among these
 abbrev pub key_in : List ℕ → Spot → ℕ × List ℕ

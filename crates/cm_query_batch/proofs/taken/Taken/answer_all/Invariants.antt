@@ -1,6 +1,6 @@
 use Rattle.std.proofs.Common.{◌≡◌, ◌<◌, map, take}
 use Rattle.std.specs.Prelude.{All, IfSome}
-use Rattle.cm_query.proofs.taken.Taken.answer_all.Given as goal
+use Rattle.cm_query_batch.proofs.taken.Taken.answer_all.Given as goal
 
 abbrev pub invariant-loop-place : goal.invariant-loop-place
 invariant-loop-place g l =

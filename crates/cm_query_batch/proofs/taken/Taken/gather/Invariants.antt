@@ -1,9 +1,9 @@
 use Rattle.std.proofs.Common.{◌≡◌, ◌+◌, ◌-◌, ◌≤◌, length, true}
 use Rattle.std.specs.Option.{ForSome}
 use Rattle.cm_io.specs.declared.key_pass.TheConstants.{MAX_KEYS}
-use Rattle.cm_query.specs.Waiting.{Takes}
-use Rattle.cm_query.specs.declared.taken.TheConstants.{MOST}
-use Rattle.cm_query.proofs.taken.Taken.gather.Given as goal
+use Rattle.cm_query_batch.specs.Waiting.{Takes}
+use Rattle.cm_query_batch.specs.declared.taken.TheConstants.{MOST}
+use Rattle.cm_query_batch.proofs.taken.Taken.gather.Given as goal
 
 abbrev pub invariant-more : goal.invariant-more
 invariant-more g l =
