@@ -37,10 +37,6 @@ key_more bytes key bytes' items items' s all grown more from until =
     ∙ ap (λ (l : List (ℕ × List ℕ)). l ++ key_in (bytes ++ key) s ∷ []) (keys_kept bytes key items all)
     ∙ ap (λ (l : List ℕ). map (key_in bytes) items ++ (s.line, l) ∷ []) last
 
--- taken from the pass, the key stands behind those before
-pub taken_next : (keys : List (ℕ × List ℕ)) (k : ℕ × List ℕ) (ahead later : List (ℕ × List ℕ)) → later ≡ k ∷ ahead → (keys ++ k ∷ []) ++ ahead ≡ keys ++ later
-taken_next keys k ahead later is = append_assoc keys (k ∷ []) ahead ∙ ap (λ (l : List (ℕ × List ℕ)). keys ++ l) (sym is)
-
 -- the key that waits longest
 pub first_waiting : (keys : List (ℕ × List ℕ)) (next : ℕ) (d : ℕ × List ℕ) → get_or (drop next keys) 0 d ≡ get_or keys next d
 first_waiting keys next d = get_or-drop next keys 0 d ∙ ap (λ (i : ℕ). get_or keys i d) (add-zero next)
