@@ -2,6 +2,7 @@
 use Rattle.std.proofs.Common.{◌≡◌, ℕ, ◌+◌, ◌*◌, ◌≤◌, List, length, ap, refl, lit<, Ok}
 use Rattle.cm_bdz.specs.Functions.{Bdz, BdzPh}
 use Rattle.cm_bits.specs.Bound.{AllBelow}
+use Rattle.cm_dump_items.specs.Reading.{◌>>=◌, end_at}
 use Rattle.cm_io.specs.declared.key_pass.TheConstants.{MAX_KEYS}
 use Rattle.cm_rank.specs.Ranks.{sampled}
 use Rattle.cm_spec.specs.Bdz.{bdz_size}
@@ -9,7 +10,6 @@ use Rattle.cm_spec.specs.Chm.{Chm, chm_size}
 use Rattle.cm_spec.specs.Image.{width_of, fields_len, fields_byte, packed_len, packed_byte}
 use Rattle.cm_spec.specs.Lists.{list_of}
 use Rattle.cm_dump.specs.declared.front.Header.{Header}
-use Rattle.cm_dump.specs.Reading.{◌>>=◌, end_at}
 use Rattle.cm_dump.specs.Spelling.{fields_at, packed_at, chm_at, counted, ranks_at, bdz_at, bdz_ph_at, ranked_at}
 use Rattle.cm_dump.proofs.CellLemmas.{cells_of_image, packed_of_image}
 

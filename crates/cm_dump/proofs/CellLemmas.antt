@@ -11,6 +11,8 @@ use Rattle.cm_bits.specs.Held.{packed_cells}
 use Rattle.cm_bits.specs.declared.TheConstants.{MAX_CELLS}
 use Rattle.cm_bits.specs.declared.fault.ImageFault.{ImageFault}
 use Rattle.cm_bits.specs.declared.fault.ImageFault.TheVariants as image
+use Rattle.cm_dump_items.specs.Reading.{item_at}
+use Rattle.cm_dump_items.specs.ItemLaws.{lt_of}
 use Rattle.cm_io.specs.declared.key_pass.TheConstants.{MAX_KEYS}
 use Rattle.cm_chm.specs.ChmLaws.{chm_is_rule}
 use Rattle.cm_spec.specs.Bdz.{bdz_size}
@@ -19,9 +21,7 @@ use Rattle.cm_spec.specs.Rule.{IsRatio, IsSize}
 use Rattle.cm_spec.specs.Image.{width_of, fields_len, fields_byte, packed_len, packed_byte}
 use Rattle.cm_spec.specs.Lists.{list_of}
 use Rattle.cm_dump.specs.Places.{AreNear, IsPlace}
-use Rattle.cm_dump.specs.Reading.{item_at}
 use Rattle.cm_dump.specs.Spelling.{image_at}
-use Rattle.cm_dump.proofs.ChunkLemmas.{lt_of}
 
 -- a function has no more cells than a table may
 pub few_cells : (m c : ℕ) → 1 ≤ m → m ≤ MAX_KEYS → IsRatio c → chm_size m c ≤ 671088645

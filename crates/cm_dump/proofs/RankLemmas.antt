@@ -8,14 +8,14 @@ use Rattle.std.proofs.Math.Seq.{take-add}
 use Rattle.std.proofs.lemmas.Bool.{cases_eq}
 use Rattle.std.proofs.lemmas.Grind.{flat_map-append}
 use Rattle.std.proofs.lemmas.List.{drop-drop, drop-take, get_or-drop, get_or-take, take-append-drop, take-append-le, take_more}
+use Rattle.cm_dump_items.specs.Reading.{◌>>=◌, Fails, Fills, item_at}
+use Rattle.cm_dump_items.specs.declared.fault.LoadFault.{LoadFault}
+use Rattle.cm_dump_items.specs.declared.fault.LoadFault.TheVariants as faults
+use Rattle.cm_dump_items.specs.StepLaws.{if_next, ok_err, step}
+use Rattle.cm_dump_items.specs.ItemLaws.{item_short, item_there, ltb_no}
 use Rattle.cm_dump.specs.Dumps.{ranks_image}
 use Rattle.cm_dump.specs.Parts.{AreRanks, rank_bytes}
-use Rattle.cm_dump.specs.Reading.{◌>>=◌, Fails, Fills, item_at}
 use Rattle.cm_dump.specs.Spelling.{ranks_at}
-use Rattle.cm_dump.specs.declared.fault.LoadFault.{LoadFault}
-use Rattle.cm_dump.specs.declared.fault.LoadFault.TheVariants as faults
-use Rattle.cm_dump.proofs.StepLemmas.{if_next, ok_err, step}
-use Rattle.cm_dump.proofs.ItemLemmas.{item_short, item_there, ltb_no}
 
 -- ---- bytes
 

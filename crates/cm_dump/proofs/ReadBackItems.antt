@@ -18,13 +18,16 @@ use Rattle.cm_bits.specs.FieldsLaws.{length-field_cells, field_cells-at}
 use Rattle.cm_bits.specs.Held.{packed_cells}
 use Rattle.cm_bits.specs.PackedLaws.{AllBelow-packed_cells, length-packed_cells, IsPacked-sound, image-list}
 use Rattle.cm_bits.specs.declared.fault.ImageFault.{ImageFault}
+use Rattle.cm_dump_items.specs.declared.fault.LoadFault.{LoadFault}
+use Rattle.cm_dump_items.specs.declared.fault.LoadFault.TheVariants as faults
+use Rattle.cm_dump_items.specs.Reading.{item_at, field_at, zeros_at, end_at}
+use Rattle.cm_dump_items.specs.ItemLaws.{whole_or, ge_of}
+use Rattle.cm_dump_items.specs.StepLaws.{if_next, if_ok, ok_err, ok_same, step}
 use Rattle.cm_io.specs.declared.key_pass.TheConstants.{MAX_KEYS}
 use Rattle.cm_spec.specs.Dump.{magic, fields_image}
 use Rattle.cm_dump.specs.Dumps.{header, packed_image, ranks_image, dump_of}
 use Rattle.cm_spec.specs.Image.{digits_sum, width_of, fields_len, fields_byte, fields_number, packed_byte, packed_len}
 use Rattle.cm_spec.specs.Lists.{list_of}
-use Rattle.cm_dump.specs.declared.fault.LoadFault.{LoadFault}
-use Rattle.cm_dump.specs.declared.fault.LoadFault.TheVariants as faults
 use Rattle.cm_dump.specs.declared.front.Algorithm.{Algorithm}
 use Rattle.cm_dump.specs.declared.front.Algorithm.TheVariants as algorithm
 use Rattle.cm_dump.specs.declared.front.Header.{Header}
@@ -32,12 +35,9 @@ use Rattle.cm_dump.specs.declared.front.Kind.{Kind}
 use Rattle.cm_dump.specs.declared.writer.Func.{Func}
 use Rattle.cm_dump.specs.Functions.{IsFunction}
 use Rattle.cm_dump.specs.Headings.{IsParameter, magic_at, algorithm_of, algorithm_at, least_b, most_b, kind_at, heading_at}
-use Rattle.cm_dump.specs.Reading.{item_at, field_at, zeros_at, end_at}
 use Rattle.cm_dump.specs.Spelling.{unless_bad, image_at, ranks_at}
-use Rattle.cm_dump.proofs.ChunkLemmas.{whole_or, ge_of}
 use Rattle.cm_dump.proofs.FormLemmas.{parameter_fits}
 use Rattle.cm_dump.specs.Forms.{version_1}
-use Rattle.cm_dump.proofs.StepLemmas.{if_next, if_ok, ok_err, ok_same, step}
 
 pub both_of : (s t : Bool) → (s && t) ≡ true → (s ≡ true) × (t ≡ true)
 both_of true t is = (refl, is)

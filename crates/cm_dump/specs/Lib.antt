@@ -1,10 +1,8 @@
 pub mod Forms
 pub mod Dumps
 pub mod Functions
-pub mod Reading
 pub mod Headings
 pub mod Parts
 pub mod Places
 pub mod Spelling
-pub mod Unreads
 pub mod Examples

@@ -9,13 +9,14 @@ use Rattle.cm_bits.specs.Fault.{bytes_number, field_cells, fields_fault, packed_
 use Rattle.cm_bits.specs.Held.{packed_cells}
 use Rattle.cm_brz_func.specs.Functions.{Brz, Bucket, bucket_cells, bucket_count, keys_in}
 use Rattle.cm_brz_func.specs.Pushing.{with_bucket}
+use Rattle.cm_dump_items.specs.declared.fault.LoadFault.{LoadFault}
+use Rattle.cm_dump_items.specs.declared.fault.LoadFault.TheVariants as faults
+use Rattle.cm_dump_items.specs.Reading.{◌>>=◌, field_at, item_at, end_at}
 use Rattle.cm_rank.specs.Ranks.{sampled}
 use Rattle.cm_spec.specs.Bdz.{bdz_size}
 use Rattle.cm_spec.specs.Cells.{is_busy}
 use Rattle.cm_spec.specs.Chm.{Chm, chm_size}
 use Rattle.cm_spec.specs.Image.{width_of, fields_len, packed_len}
-use Rattle.cm_dump.specs.declared.fault.LoadFault.{LoadFault}
-use Rattle.cm_dump.specs.declared.fault.LoadFault.TheVariants as faults
 use Rattle.cm_dump.specs.declared.front.Algorithm.{Algorithm}
 use Rattle.cm_dump.specs.declared.front.Algorithm.TheVariants as algorithm
 use Rattle.cm_dump.specs.declared.front.Header.{Header}
@@ -23,7 +24,6 @@ use Rattle.cm_dump.specs.declared.writer.Func.{Func}
 use Rattle.cm_dump.specs.declared.writer.Func.TheVariants as func
 use Rattle.cm_dump.specs.Forms.{Form, version_1}
 use Rattle.cm_dump.specs.Headings.{heading_at}
-use Rattle.cm_dump.specs.Reading.{◌>>=◌, field_at, item_at, end_at}
 
 -- the fault of an image that begins at an offset: a bad cell is named by the byte of its lowest bit or digit
 abbrev pub fault_at : ℕ → (ℕ → ℕ) → ImageFault → LoadFault

@@ -1,16 +1,16 @@
 //! The header of a dump.
 ghost use Rattle.std.specs.Prelude.{◌≡◌, ◌≢◌, ◌<◌, ◌≤◌, Err, OnOk, IfOk};
 ghost use Rattle.std.specs.Option.{ForSome};
+ghost use Rattle.cm_dump_items.specs.Reading.{Answers, IsAt, HasLoadCause};
+ghost use Rattle.cm_dump_items.specs.declared.fault.LoadFault.{LoadFault};
 ghost use Rattle.cm_io.specs.declared.key_pass.TheConstants.{MAX_KEYS};
 ghost use Rattle.cm_spec.specs.Rule.{IsRatio};
 ghost use Rattle.cm_dump.specs.Forms.{version_1};
-ghost use Rattle.cm_dump.specs.Reading.{Answers, IsAt, HasLoadCause};
 ghost use Rattle.cm_dump.specs.Headings.{IsParameter, algorithm_at, heading_at, kind_at, least_b, magic_at, most_b};
-ghost use Rattle.cm_dump.specs.declared.fault.LoadFault.{LoadFault};
 
 use crate::LoadFault;
-use crate::items::{byte, item, number};
 use cm_brz_func::{MAX_WIDTH, MIN_WIDTH};
+use cm_dump_items::{byte, item, number};
 use cm_io::{MAX_KEYS, Source};
 
 /// What every dump begins with.
@@ -108,7 +108,7 @@ fn parameters(algorithm: Algorithm) -> (u8, u8)
 }
 
 /// The magic, the algorithm's number, its parameter `b` and two zeros.
-#[tactic(auto, unfolding(crate::specs::Headings::kind_at, crate::specs::Reading::zeros_at))]
+#[tactic(auto, unfolding(crate::specs::Headings::kind_at, cm_dump_items::specs::Reading::zeros_at))]
 fn read_kind<S: Source>(source: &mut S) -> Result<Kind, LoadFault>
     requires at { IsAt (S.told source.old) (S.place source.old) 0 }
     ensures told { S.told source.new ≡ S.told source.old }

@@ -2,17 +2,17 @@
 ghost use Rattle.std.specs.Prelude.{◌≡◌, ◌≢◌, ◌+◌, ◌-◌, ◌*◌, ◌<◌, ◌≤◌, ◌^◌, Option, Err, MatchOption, OnOk, drop, length, slice_index, take};
 ghost use Rattle.std.specs.Int.{to_le_bytes, w32};
 ghost use Rattle.std.specs.Option.{ForSome};
+ghost use Rattle.cm_dump_items.specs.Reading.{Answers, HasLoadCause, IsAt};
+ghost use Rattle.cm_dump_items.specs.declared.fault.LoadFault.{LoadFault};
 ghost use Rattle.cm_io.specs.Causes.{HasCause};
 ghost use Rattle.cm_io.specs.Writing.{Writes};
 ghost use Rattle.cm_dump.specs.Dumps.{ranks_image};
 ghost use Rattle.cm_dump.specs.Parts.{AreRanks, rank_bytes};
-ghost use Rattle.cm_dump.specs.Reading.{Answers, HasLoadCause, IsAt};
 ghost use Rattle.cm_dump.specs.Spelling.{ranks_at};
-ghost use Rattle.cm_dump.specs.declared.fault.LoadFault.{LoadFault};
 
 use crate::LoadFault;
-use crate::items::fill;
 use arrayvec::ArrayVec;
+use cm_dump_items::fill;
 use cm_io::{Failed, Sink, Source};
 use cm_rank::RankTable;
 

@@ -2,6 +2,8 @@
 ghost use Rattle.std.specs.Prelude.{◌≡◌, ◌+◌, ◌*◌, ◌<◌, ◌≤◌, ◌^◌, ℕ, List, Err, IsOk, Ok, OnOk, IfOk, count_by, length};
 ghost use Rattle.std.specs.Option.{ForSome};
 ghost use Rattle.cm_bits.specs.declared.TheConstants.{MAX_CELLS};
+ghost use Rattle.cm_dump_items.specs.Reading.{Answers, IsAt, HasLoadCause, item_at};
+ghost use Rattle.cm_dump_items.specs.declared.fault.LoadFault.{LoadFault};
 ghost use Rattle.cm_io.specs.declared.key_pass.TheConstants.{MAX_KEYS};
 ghost use Rattle.cm_spec.specs.Bdz.{bdz_size};
 ghost use Rattle.cm_spec.specs.Cells.{is_busy};
@@ -12,13 +14,9 @@ ghost use Rattle.cm_dump.specs.Forms.{version_1};
 ghost use Rattle.cm_dump.specs.Headings.{heading_at};
 ghost use Rattle.cm_dump.specs.Functions.{IsBdz, IsBdzPh, IsChm, IsFunction};
 ghost use Rattle.cm_dump.specs.Places.{AreNear, IsPlace};
-ghost use Rattle.cm_dump.specs.Reading.{Answers, IsAt, HasLoadCause, item_at};
 ghost use Rattle.cm_dump.specs.Spelling.{bdz_at, bdz_ph_at, chm_at, counted, fault_at, image_at, ranked_at, spelling_of};
-ghost use Rattle.cm_dump.specs.declared.fault.LoadFault.{LoadFault};
 
-use crate::bulk::long_item;
 use crate::front::{Algorithm, Header, read_header};
-use crate::items::end;
 use crate::ranks::read_ranks;
 use crate::rest::load_brz;
 use crate::{Func, LoadFault};
@@ -26,6 +24,7 @@ use cm_algo_scheme::{Built, Scheme};
 use cm_bdz::{Bdz, BdzPh, BdzPhScheme, BdzScheme, PartsFault};
 use cm_bits::{Cells, Crumbs, Fields, ImageFault, Trits};
 use cm_chm::{Chm, ChmScheme};
+use cm_dump_items::{end, long_item};
 use cm_io::Source;
 use std::alloc::Global;
 

@@ -3,24 +3,23 @@ ghost use Rattle.std.specs.Prelude.{◌≡◌, ◌+◌, ◌<◌, ◌≤◌, ◌^
 ghost use Rattle.std.specs.Option.{ForSome};
 ghost use Rattle.cm_brz_func.specs.Functions.{IsBrz, bucket_cells, bucket_count, keys_in};
 ghost use Rattle.cm_brz_func.specs.declared.limits.TheConstants.{MAX_BUCKET, MIN_WIDTH, MAX_WIDTH};
+ghost use Rattle.cm_dump_items.specs.Reading.{Answers, Fails, IsAt, IsPart, HasLoadCause};
 ghost use Rattle.cm_io.specs.declared.key_pass.TheConstants.{MAX_KEYS};
 ghost use Rattle.cm_spec.specs.Cells.{is_busy};
 ghost use Rattle.cm_spec.specs.Image.{packed_len};
 ghost use Rattle.cm_spec.specs.Rule.{IsRatio};
 ghost use Rattle.cm_dump.specs.Forms.{version_1};
-ghost use Rattle.cm_dump.specs.Reading.{Answers, Fails, IsAt, IsPart, HasLoadCause};
 ghost use Rattle.cm_dump.specs.Spelling.{bucket_at, brz_at, crumbs_at, is_off, left_of, most_seed, rest_at, size_at};
 
 use crate::LoadFault;
 use crate::buckets::FRONT;
 use crate::front::Header;
-use crate::part::{byte_of, bytes_of, number_of};
-use crate::piece::{ENOUGH, Piece};
 use crate::reader::cells_from;
 use cm_algo_scheme::Scheme;
 use cm_bdz::{BdzScheme, PartsFault};
 use cm_bits::{Cells, Crumbs};
 use cm_brz_func::{Brz, BrzParts};
+use cm_dump_items::{ENOUGH, Piece, byte_of, bytes_of, number_of};
 use cm_io::{Failed, Source};
 use cm_rank::Counted;
 use std::alloc::Global;

@@ -3,8 +3,8 @@ use Rattle.std.proofs.Common.{◌≡◌, ◌≢◌, ◌∙◌, ◌⊎◌, ◌↔
 use Rattle.std.specs.Option.{option_map}
 use Rattle.std.proofs.Math.Seq.{take-nil}
 use Rattle.cm_dump.specs.Functions.{answer_by}
-use Rattle.cm_dump.specs.declared.fault.LoadFault.{LoadFault}
 use Rattle.cm_dump.specs.declared.writer.Func.{Func}
+use Rattle.cm_dump_items.specs.declared.fault.LoadFault.{LoadFault}
 use Rattle.cm_io.specs.Files.{Files, file_at}
 use Rattle.cm_io.specs.Noting.{HasNoted}
 use Rattle.cm_io.specs.Writing.{then_bytes}

@@ -8,9 +8,9 @@ use Rattle.cm_chm.specs.Numbering.{AnswersNumbers}
 use Rattle.cm_dump.specs.Dumps.{dump_of}
 use Rattle.cm_dump.specs.Functions.{answer_by}
 use Rattle.cm_dump.specs.Spelling.{spelling_of}
-use Rattle.cm_dump.specs.declared.fault.LoadFault.{LoadFault}
 use Rattle.cm_dump.specs.declared.writer.Func.{Func}
 use Rattle.cm_dump.specs.declared.writer.Func.TheVariants as func
+use Rattle.cm_dump_items.specs.declared.fault.LoadFault.{LoadFault}
 use Rattle.cm_io.specs.Causes.{Rose}
 use Rattle.cm_io.specs.Files.{Files, file_at, with_file}
 use Rattle.cm_io.specs.Writing.{then_bytes}

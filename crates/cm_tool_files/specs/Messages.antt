@@ -3,8 +3,8 @@ use Rattle.std.specs.Prelude.{ℕ, List, [], ◌∷◌, Option, None, Some, code
 use Rattle.cm_algo_names.specs.Names.{name_of}
 use Rattle.cm_algo_names.specs.declared.algorithm.Algorithm.{Algorithm}
 use Rattle.cm_algo_names.specs.declared.algorithm.Algorithm.TheVariants.{Brz}
-use Rattle.cm_dump.specs.declared.fault.LoadFault.{LoadFault}
-use Rattle.cm_dump.specs.declared.fault.LoadFault.TheVariants as faults
+use Rattle.cm_dump_items.specs.declared.fault.LoadFault.{LoadFault}
+use Rattle.cm_dump_items.specs.declared.fault.LoadFault.TheVariants as faults
 use Rattle.cm_io.specs.Writing.{joined}
 use Rattle.cm_tool_files.specs.declared.built.Summary.{Summary}
 use Rattle.cm_tool_files.specs.declared.stop.Reason.{Reason}

@@ -4,7 +4,7 @@ use Rattle.std.proofs.lemmas.List.FromFn.{length-map-range_with_len}
 use Rattle.cm_brz_func.specs.Functions.{Bucket, no_bucket}
 use Rattle.cm_spec.specs.Image.{packed_byte, packed_len}
 use Rattle.cm_dump.proofs.BucketLemmas.{length-buckets_more}
-use Rattle.cm_dump.proofs.PartLemmas.{bucket_short}
+use Rattle.cm_dump.proofs.SizeLemmas.{bucket_short}
 use Rattle.cm_dump.proofs.buckets.buckets_len.Goals as goal
 
 pub loop-j-preserved : goal.loop-j-preserved

@@ -1,6 +1,6 @@
 use Rattle.std.proofs.Common.{◌≡◌, ◌≤◌, ◌+◌, ◌-◌, ◌*◌, take, Ok}
 use Rattle.std.specs.Option.{ForSome}
-use Rattle.cm_dump.specs.Reading.{IsAt}
+use Rattle.cm_dump_items.specs.Reading.{IsAt}
 use Rattle.cm_dump.specs.Spelling.{ranks_at}
 use Rattle.cm_dump.proofs.ranks.read_ranks.Given as goal
 

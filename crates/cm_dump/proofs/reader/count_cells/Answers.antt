@@ -1,7 +1,7 @@
 use Rattle.std.proofs.Common.{rules, inl, inr, lit<}
 use Rattle.std.proofs.lemmas.Bool.{cases_eq}
 use Rattle.cm_bits.specs.PackedLaws.{AllBelow-packed_cells}
-use Rattle.cm_dump.proofs.StepLemmas.{ok_err}
+use Rattle.cm_dump_items.specs.StepLaws.{ok_err}
 use Rattle.cm_dump.proofs.reader.count_cells.Goals as goal
 
 pub returns-in-Ok-clause-valid : goal.returns-in-Ok-clause-valid

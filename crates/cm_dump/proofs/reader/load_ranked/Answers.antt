@@ -1,8 +1,8 @@
 use Rattle.std.proofs.Common.{◌≡◌, ◌∙◌, ℕ, List, arith, refl}
 use Rattle.cm_bits.specs.Held.{packed_cells}
+use Rattle.cm_dump_items.specs.StepLaws.{fails_then}
 use Rattle.cm_rank.specs.Ranks.{sampled}
 use Rattle.cm_dump.proofs.BodyLemmas.{ranked_known}
-use Rattle.cm_dump.proofs.StepLemmas.{fails_then}
 use Rattle.cm_dump.proofs.reader.load_ranked.Goals as goal
 
 pub returns-in-Err-clause-cause : goal.returns-in-Err-clause-cause

@@ -1,12 +1,12 @@
 use Rattle.std.proofs.Common.{◌≡◌, ◌∙◌, ◌+◌, ◌≤◌, ℕ, List, length, ap, arith, refl, subst, sym, Err, Ok}
 use Rattle.cm_brz_func.specs.Functions.{Brz, bucket_count}
-use Rattle.cm_dump.specs.declared.piece.TheConstants.{ENOUGH}
-use Rattle.cm_dump.specs.Reading.{Fails, HasLoadCause, IsPart}
+use Rattle.cm_dump_items.specs.declared.piece.TheConstants.{ENOUGH}
+use Rattle.cm_dump_items.specs.Reading.{Fails, HasLoadCause, IsPart}
+use Rattle.cm_dump_items.specs.Unreads.{IsNext}
+use Rattle.cm_dump_items.specs.PieceLaws.{next_after, next_none, next_part}
+use Rattle.cm_dump_items.specs.StepLaws.{cause_then}
 use Rattle.cm_dump.specs.Spelling.{left_of}
-use Rattle.cm_dump.specs.Unreads.{IsNext}
-use Rattle.cm_dump.proofs.PieceLemmas.{next_after, next_none, next_part}
 use Rattle.cm_dump.proofs.RestLemmas.{brz_begun, rest_ended, rest_trails}
-use Rattle.cm_dump.proofs.StepLemmas.{cause_then}
 use Rattle.cm_dump.proofs.rest.load_brz.Goals as goal
 
 pub buckets-init : goal.buckets-init

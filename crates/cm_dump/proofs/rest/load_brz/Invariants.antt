@@ -1,8 +1,8 @@
 use Rattle.std.proofs.Common.{◌≡◌, ◌≤◌, ◌+◌, ◌*◌, length}
 use Rattle.std.specs.Option.{ForSome}
 use Rattle.cm_brz_func.specs.Functions.{bucket_count}
+use Rattle.cm_dump_items.specs.Unreads.{IsNext}
 use Rattle.cm_dump.specs.Spelling.{brz_at, left_of, rest_at}
-use Rattle.cm_dump.specs.Unreads.{IsNext}
 use Rattle.cm_dump.specs.Forms.{version_1}
 use Rattle.cm_dump.proofs.rest.load_brz.Given as goal
 

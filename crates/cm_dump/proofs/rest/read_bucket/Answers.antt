@@ -1,7 +1,8 @@
 use Rattle.std.proofs.Common.{◌-◌, ◌≤◌, arith, lit≤}
+use Rattle.cm_dump_items.specs.declared.piece.TheConstants.{ENOUGH}
+use Rattle.cm_dump_items.specs.PartLaws.{part_slice}
 use Rattle.cm_spec.specs.Image.{packed_len}
-use Rattle.cm_dump.specs.declared.piece.TheConstants.{ENOUGH}
-use Rattle.cm_dump.proofs.PartLemmas.{bucket_short, part_slice}
+use Rattle.cm_dump.proofs.SizeLemmas.{bucket_short}
 use Rattle.cm_dump.proofs.RestLemmas.{bucket_known, bucket_uncelled, bucket_unseeded, bucket_unsized}
 use Rattle.cm_dump.proofs.rest.read_bucket.Goals as goal
 

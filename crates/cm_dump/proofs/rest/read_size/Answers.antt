@@ -1,8 +1,8 @@
 use Rattle.std.specs.Int.{w8}
 use Rattle.cm_brz_func.specs.declared.limits.TheConstants.{MAX_BUCKET}
-use Rattle.cm_dump.specs.Reading.{field_at}
+use Rattle.cm_dump_items.specs.Reading.{field_at}
+use Rattle.cm_dump_items.specs.StepLaws.{fails_then}
 use Rattle.cm_dump.specs.Spelling.{size_at}
-use Rattle.cm_dump.proofs.StepLemmas.{fails_then}
 use Rattle.cm_dump.proofs.rest.read_size.Goals as goal
 
 pub returns-in-Err-clause-exact : goal.returns-in-Err-clause-exact

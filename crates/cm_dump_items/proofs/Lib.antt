@@ -1,0 +1,4 @@
+pub mod ItemLemmas
+pub mod ChunkLemmas
+pub mod PartLemmas
+pub mod PieceLemmas
