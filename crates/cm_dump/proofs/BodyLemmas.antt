@@ -2,6 +2,8 @@
 use Rattle.std.proofs.Common.{◌≡◌, ℕ, ◌+◌, ◌*◌, ◌≤◌, List, length, ap, refl, lit<, Ok}
 use Rattle.cm_bdz.specs.Functions.{Bdz, BdzPh}
 use Rattle.cm_bits.specs.Bound.{AllBelow}
+use Rattle.cm_dump_images.specs.Images.{fields_at, packed_at}
+use Rattle.cm_dump_images.specs.ImageLaws.{cells_of_image, packed_of_image}
 use Rattle.cm_dump_items.specs.Reading.{◌>>=◌, end_at}
 use Rattle.cm_io.specs.declared.key_pass.TheConstants.{MAX_KEYS}
 use Rattle.cm_rank.specs.Ranks.{sampled}
@@ -10,8 +12,7 @@ use Rattle.cm_spec.specs.Chm.{Chm, chm_size}
 use Rattle.cm_spec.specs.Image.{width_of, fields_len, fields_byte, packed_len, packed_byte}
 use Rattle.cm_spec.specs.Lists.{list_of}
 use Rattle.cm_dump.specs.declared.front.Header.{Header}
-use Rattle.cm_dump.specs.Spelling.{fields_at, packed_at, chm_at, counted, ranks_at, bdz_at, bdz_ph_at, ranked_at}
-use Rattle.cm_dump.proofs.CellLemmas.{cells_of_image, packed_of_image}
+use Rattle.cm_dump.specs.Spelling.{chm_at, counted, ranks_at, bdz_at, bdz_ph_at, ranked_at}
 
 -- functions of the same numbers and cells
 chm_of : (f : Chm) (k r s : ℕ) (xs : List ℕ) → f.keys ≡ k → f.ratio ≡ r → f.seed ≡ s → f.cells ≡ xs → (let a : Chm = record { keys = k; ratio = r; seed = s; cells = xs } in a) ≡ (let b : Chm = record { keys = f.keys; ratio = f.ratio; seed = f.seed; cells = f.cells } in b)

@@ -1,27 +1,11 @@
--- The cells of an image, and the faults of one.
-use Rattle.std.proofs.Common.{◌≡◌, ◌∙◌, ℕ, ◌-◌, ◌*◌, ◌/◌, ◌<◌, ◌≤◌, ◌^◌, List, length, get_or, sym, ap, arith, refl, Option, Some, None, Ok, Bool, true, false, subst, if◌then◌else◌}
-use Rattle.std.proofs.Math.Nat.{mul-le-mul_left, div-le_self}
-use Rattle.std.proofs.lemmas.List.FromFn.{length-map-range_with_len, get_or-map-range_with_len}
+-- How many cells a function has at most.
+use Rattle.std.proofs.Common.{ℕ, ◌≤◌, arith, refl}
 use Rattle.cm_bdz.specs.BdzLaws as bdz_laws
-use Rattle.cm_bits.specs.PackedLaws.{held}
-use Rattle.cm_bits.specs.Bound.{AllBelow}
-use Rattle.cm_bits.specs.Fault.{bytes_number, field_cells, fields_fault, packed_fault}
-use Rattle.cm_bits.specs.FieldsLaws.{width-fits, bytes_number-image, field_cells-fields_number}
-use Rattle.cm_bits.specs.Held.{packed_cells}
-use Rattle.cm_bits.specs.declared.TheConstants.{MAX_CELLS}
-use Rattle.cm_bits.specs.declared.fault.ImageFault.{ImageFault}
-use Rattle.cm_bits.specs.declared.fault.ImageFault.TheVariants as image
-use Rattle.cm_dump_items.specs.Reading.{item_at}
-use Rattle.cm_dump_items.specs.ItemLaws.{lt_of}
-use Rattle.cm_io.specs.declared.key_pass.TheConstants.{MAX_KEYS}
 use Rattle.cm_chm.specs.ChmLaws.{chm_is_rule}
+use Rattle.cm_io.specs.declared.key_pass.TheConstants.{MAX_KEYS}
 use Rattle.cm_spec.specs.Bdz.{bdz_size}
 use Rattle.cm_spec.specs.Chm.{chm_size, chm_rule}
 use Rattle.cm_spec.specs.Rule.{IsRatio, IsSize}
-use Rattle.cm_spec.specs.Image.{width_of, fields_len, fields_byte, packed_len, packed_byte}
-use Rattle.cm_spec.specs.Lists.{list_of}
-use Rattle.cm_dump.specs.Places.{AreNear, IsPlace}
-use Rattle.cm_dump.specs.Spelling.{image_at}
 
 -- a function has no more cells than a table may
 pub few_cells : (m c : ℕ) → 1 ≤ m → m ≤ MAX_KEYS → IsRatio c → chm_size m c ≤ 671088645
@@ -32,61 +16,3 @@ few_cells m c some few ratio =
 -- and neither has one by BDZ or BDZ_PH
 pub few_vertices : (m c : ℕ) → 1 ≤ m → m ≤ MAX_KEYS → IsRatio c → bdz_size m c ≤ 671088645
 few_vertices m c some few ratio = bdz_laws.few_cells (bdz_size m c) m c refl (some, omega (arith, few)) ratio
-
--- an image of cells is short enough to be counted
-pub cells_near : (m n : ℕ) → m ≤ 67108864 → n ≤ 671088645 → fields_len (width_of m) n < 2 ^ 33
-cells_near m n small few =
-    let w = width-fits m small in
-    let le : n * width_of m ≤ n * 26 = mul-le-mul_left n w.1 in
-    omega (arith, le, few)
-
--- the cells of an image are those that it is the image of
-pub cells_of_image : (m n : ℕ) (xs bytes : List ℕ) → m ≤ MAX_KEYS → length xs ≡ n → AllBelow m xs → bytes ≡ list_of (fields_byte (width_of m) xs) (fields_len (width_of m) n) → field_cells (width_of m) n (bytes_number bytes) ≡ xs
-cells_of_image m n xs bytes small size below is =
-    let fit = width-fits m (omega (arith, small)) in
-    let all : AllBelow (2 ^ width_of m) xs = λ k l. omega (arith, below k l, fit.2) in
-    let whole : bytes ≡ list_of (fields_byte (width_of m) xs) (fields_len (width_of m) (length xs)) = is ∙ ap (λ (k : ℕ). list_of (fields_byte (width_of m) xs) (fields_len (width_of m) k)) (sym size) in
-    ap (λ (b : List ℕ). field_cells (width_of m) n (bytes_number b)) whole
-    ∙ ap (field_cells (width_of m) n) (bytes_number-image (width_of m) xs all)
-    ∙ field_cells-fields_number (width_of m) n xs size all
-
--- the same of cells that are digits in base d, p of them a byte
-pub packed_of_image : (d p n : ℕ) (xs bytes : List ℕ) → 0 < d → 0 < p → length xs ≡ n → AllBelow d xs → bytes ≡ list_of (packed_byte d p xs) (packed_len p n) → packed_cells d p n bytes ≡ xs
-packed_of_image d p n xs bytes some many size below is =
-    let long : length bytes ≡ packed_len p n = ap length is ∙ length-map-range_with_len (packed_byte d p xs) 0 (packed_len p n) in
-    held d p n xs bytes some many size below (record {
-      len = long ∙ ap (packed_len p) (sym size);
-      image = λ q l. ap (λ (l : List ℕ). get_or l q 0) is ∙ get_or-map-range_with_len (packed_byte d p xs) 0 (packed_len p n) q q 0 (omega (arith, l, long)) (omega arith);
-    })
-
--- an image that is whole and has no fault
-pub image_read : (x : List ℕ) (at size : ℕ) (place : ℕ → ℕ) (fault : List ℕ → Option ImageFault) (bytes : List ℕ) → item_at x at size ≡ Ok bytes → fault bytes ≡ None → image_at x at size place fault ≡ Ok bytes
-unfolding image_at
-image_read x at size place fault bytes whole none = rw (whole, none) refl
-
-none_some : {A : Type 0} (x : A) → (let o : Option A = None in o) ≡ Some x → ⊥
-none_some x e = grind (arith, e)
-
-some_same : {A : Type 0} {x y : A} → (let o : Option A = Some x in o) ≡ Some y → x ≡ y
-some_same e = grind (arith, e)
-
-place_or : (place : ℕ → ℕ) (t u : Bool) (lowest last : ℕ) (f : ImageFault) → (t ≡ true → (lowest < MAX_CELLS) × (place lowest < 2 ^ 62)) → last < 2 ^ 62 → (if t then Some (image.BadCell lowest) else if u then Some (image.BadPadding last) else None) ≡ Some f → IsPlace place f
-place_or place true u lowest last f few small is = subst (IsPlace place) (some_same is) (few refl)
-place_or place false true lowest last f few small is = subst (IsPlace place) (some_same is) small
-place_or place false false lowest last f few small is = absurd (none_some f is)
-
--- the faults of an image of fields are near enough to be counted
-pub fields_near : (m n : ℕ) → m ≤ MAX_KEYS → n ≤ 671088645 → AreNear (fields_len (width_of m) n) (λ i. i * width_of m / 8) (fields_fault (width_of m) n m)
-unfolding fields_fault
-fields_near m n small few bytes f long is =
-    let w = width-fits m (omega (arith, small)) in
-    let short = cells_near m n (omega (arith, small)) few in
-    let near : (i : ℕ) → i < n → i * width_of m / 8 < 2 ^ 62 = λ i l. let le : i * width_of m ≤ i * 26 = mul-le-mul_left i w.1 in omega (arith, le, few, l) in
-    place_or _ _ _ _ (length bytes - 1) f (λ t. (omega (arith, lt_of _ _ t, few), near _ (lt_of _ _ t))) (omega (arith, short, long)) is
-
--- and so are those of cells that are digits
-pub packed_near : (d p n : ℕ) → n ≤ 671088645 → packed_len p n < 2 ^ 33 → AreNear (packed_len p n) (λ i. i / p) (packed_fault d p n)
-unfolding packed_fault
-packed_near d p n few short bytes f long is =
-    let near : (i : ℕ) → i < n → i / p < 2 ^ 62 = λ i l. omega (arith, div-le_self i p, few, l) in
-    place_or _ _ _ _ (length bytes - 1) f (λ t. (omega (arith, lt_of _ _ t, few), near _ (lt_of _ _ t))) (omega (arith, short, long)) is

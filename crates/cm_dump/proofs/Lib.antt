@@ -1,4 +1,3 @@
-mod Pieces
 pub mod FormLemmas
 pub mod CellLemmas
 pub mod RankLemmas

@@ -14,6 +14,7 @@ use Rattle.cm_bits.specs.Held.{packed_cells}
 use Rattle.cm_brz_func.specs.Functions.{Brz, Bucket, IsBucket, bucket_cells, bucket_count, keys_in}
 use Rattle.cm_brz_func.specs.Pushing.{with_bucket}
 use Rattle.cm_brz_func.specs.declared.limits.TheConstants.{MAX_BUCKET, MIN_WIDTH, MAX_WIDTH}
+use Rattle.cm_dump_images.specs.Images.{packed_at}
 use Rattle.cm_dump_items.specs.declared.fault.LoadFault.{LoadFault}
 use Rattle.cm_dump_items.specs.declared.fault.LoadFault.TheVariants as faults
 use Rattle.cm_dump_items.specs.Reading.{field_at, end_at}
@@ -25,7 +26,7 @@ use Rattle.cm_spec.specs.Image.{packed_len}
 use Rattle.cm_dump.specs.declared.front.Algorithm.TheVariants as algorithm
 use Rattle.cm_dump.specs.declared.front.Header.{Header}
 use Rattle.cm_dump.specs.declared.writer.Func.TheVariants as func
-use Rattle.cm_dump.specs.Spelling.{packed_at, is_off, most_seed, size_at, crumbs_at, bucket_at, bucket_len, rest_at, brz_at, no_buckets}
+use Rattle.cm_dump.specs.Spelling.{is_off, most_seed, size_at, crumbs_at, bucket_at, bucket_len, rest_at, brz_at, no_buckets}
 use Rattle.cm_dump.specs.Forms.{version_1}
 use Rattle.cm_dump.proofs.ReadBackItems.{ReadsFunction, ReadsHeader, Small, Stands, byte_read, end_read, image_back, number_read, packed_read}
 

@@ -18,6 +18,7 @@ use Rattle.cm_bits.specs.FieldsLaws.{length-field_cells, field_cells-at}
 use Rattle.cm_bits.specs.Held.{packed_cells}
 use Rattle.cm_bits.specs.PackedLaws.{AllBelow-packed_cells, length-packed_cells, IsPacked-sound, image-list}
 use Rattle.cm_bits.specs.declared.fault.ImageFault.{ImageFault}
+use Rattle.cm_dump_images.specs.Images.{unless_bad, image_at}
 use Rattle.cm_dump_items.specs.declared.fault.LoadFault.{LoadFault}
 use Rattle.cm_dump_items.specs.declared.fault.LoadFault.TheVariants as faults
 use Rattle.cm_dump_items.specs.Reading.{item_at, field_at, zeros_at, end_at}
@@ -35,7 +36,7 @@ use Rattle.cm_dump.specs.declared.front.Kind.{Kind}
 use Rattle.cm_dump.specs.declared.writer.Func.{Func}
 use Rattle.cm_dump.specs.Functions.{IsFunction}
 use Rattle.cm_dump.specs.Headings.{IsParameter, magic_at, algorithm_of, algorithm_at, least_b, most_b, kind_at, heading_at}
-use Rattle.cm_dump.specs.Spelling.{unless_bad, image_at, ranks_at}
+use Rattle.cm_dump.specs.Spelling.{ranks_at}
 use Rattle.cm_dump.proofs.FormLemmas.{parameter_fits}
 use Rattle.cm_dump.specs.Forms.{version_1}
 

@@ -6,6 +6,7 @@ use Rattle.cm_bdz.specs.Functions.{Bdz, BdzPh}
 use Rattle.cm_bits.specs.Bound.{AllBelow}
 use Rattle.cm_bits.specs.Fault.{bytes_number, field_cells}
 use Rattle.cm_bits.specs.Held.{packed_cells}
+use Rattle.cm_dump_images.specs.Images.{fields_at, packed_at}
 use Rattle.cm_dump_items.specs.Reading.{end_at}
 use Rattle.cm_dump_items.specs.StepLaws.{if_ok, ok_same, step}
 use Rattle.cm_rank.specs.Ranks.{sampled}
@@ -21,7 +22,7 @@ use Rattle.cm_dump.specs.declared.writer.Func.{Func}
 use Rattle.cm_dump.specs.declared.writer.Func.TheVariants as func
 use Rattle.cm_dump.specs.Functions.{IsFunction}
 use Rattle.cm_dump.specs.Headings.{heading_at}
-use Rattle.cm_dump.specs.Spelling.{fields_at, packed_at, chm_at, counted, ranks_at, ranked_at, bdz_at, bdz_ph_at, brz_at, body_at, spelling_of, spelling_by}
+use Rattle.cm_dump.specs.Spelling.{chm_at, counted, ranks_at, ranked_at, bdz_at, bdz_ph_at, brz_at, body_at, spelling_of, spelling_by}
 use Rattle.cm_dump.proofs.ReadBackItems.{ReadsFunction, ReadsHeader, Small, end_read, fields_read, heading_read, image_back, last_item, packed_read, ranks_back, small_bytes, small_item}
 use Rattle.cm_dump.specs.Forms.{version_1}
 use Rattle.cm_dump.proofs.ReadBackBuckets.{brz_read}

@@ -5,15 +5,16 @@ use Rattle.std.proofs.lemmas.Bool.{false≢true, ne_eqb}
 use Rattle.std.proofs.Math.Nat.{div-le_self}
 use Rattle.cm_brz_func.specs.Functions.{Brz, Bucket, bucket_cells, bucket_count, keys_in}
 use Rattle.cm_brz_func.specs.Pushing.{Miscounts, with_bucket}
+use Rattle.cm_dump_images.specs.Images.{packed_at}
+use Rattle.cm_dump_images.specs.ImageLaws.{packed_of_image}
 use Rattle.cm_dump_items.specs.declared.fault.LoadFault.{LoadFault}
 use Rattle.cm_dump_items.specs.Reading.{Fails, end_at, field_at}
 use Rattle.cm_dump_items.specs.declared.fault.LoadFault.TheVariants as faults
 use Rattle.cm_dump_items.specs.ItemLaws.{ltb_no, ltb_yes}
 use Rattle.cm_dump_items.specs.StepLaws.{fails_then}
 use Rattle.cm_spec.specs.Cells.{is_busy}
-use Rattle.cm_dump.specs.Spelling.{brz_at, bucket_at, bucket_len, crumbs_at, is_off, left_of, most_seed, no_buckets, packed_at, rest_at, size_at}
+use Rattle.cm_dump.specs.Spelling.{brz_at, bucket_at, bucket_len, crumbs_at, is_off, left_of, most_seed, no_buckets, rest_at, size_at}
 use Rattle.cm_dump.specs.declared.front.Header.{Header}
-use Rattle.cm_dump.proofs.CellLemmas.{packed_of_image}
 use Rattle.cm_bits.specs.Bound.{AllBelow}
 use Rattle.cm_spec.specs.Image.{packed_byte, packed_len}
 use Rattle.cm_spec.specs.Lists.{list_of}

@@ -16,6 +16,8 @@ use Rattle.cm_bits.specs.declared.fault.ImageFault.{ImageFault}
 use Rattle.cm_brz_func.specs.Functions.{Brz, Bucket, IsBrz, IsBucket, bucket_cells, keys_in}
 use Rattle.cm_brz_func.specs.Pushing.{with_bucket}
 use Rattle.cm_brz_func.specs.declared.limits.TheConstants.{MAX_BUCKET}
+use Rattle.cm_dump_images.specs.Images.{image_at, fields_at, packed_at}
+use Rattle.cm_dump_images.specs.ImageLaws.{image_read, packed_of_image}
 use Rattle.cm_dump_items.specs.declared.fault.LoadFault.{LoadFault}
 use Rattle.cm_dump_items.specs.Reading.{item_at, field_at, zeros_at, end_at}
 use Rattle.cm_dump_items.specs.StepLaws.{ok_same}
@@ -36,10 +38,9 @@ use Rattle.cm_dump.specs.declared.writer.Func.{Func}
 use Rattle.cm_dump.specs.declared.writer.Func.TheVariants as func
 use Rattle.cm_dump.specs.Functions.{IsChm, IsBdz, IsBdzPh, IsFunction}
 use Rattle.cm_dump.specs.Headings.{IsParameter, magic_at, algorithm_of, algorithm_at, least_b, most_b, kind_at, heading_at}
-use Rattle.cm_dump.specs.Spelling.{image_at, fields_at, packed_at, chm_at, counted, ranks_at, ranked_at, bdz_at, bdz_ph_at, is_off, most_seed, size_at, crumbs_at, bucket_at, bucket_len, rest_at, brz_at, no_buckets, spelling_of, spelling_by}
+use Rattle.cm_dump.specs.Spelling.{chm_at, counted, ranks_at, ranked_at, bdz_at, bdz_ph_at, is_off, most_seed, size_at, crumbs_at, bucket_at, bucket_len, rest_at, brz_at, no_buckets, spelling_of, spelling_by}
 use Rattle.cm_dump.proofs.BodyLemmas.{chm_known, bdz_known, bdz_ph_known}
 use Rattle.cm_dump.proofs.BucketLemmas.{length-bucket_image}
-use Rattle.cm_dump.proofs.CellLemmas.{image_read, packed_of_image}
 use Rattle.cm_dump.proofs.DumpLemmas.{length-header, length-fields_image, length-packed_image, chm_dump_len, bdz_dump_len, bdz_ph_dump_len}
 use Rattle.cm_dump.proofs.FormLemmas.{parameter_fits}
 use Rattle.cm_dump.specs.Forms.{version_1}

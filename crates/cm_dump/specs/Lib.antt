@@ -3,6 +3,5 @@ pub mod Dumps
 pub mod Functions
 pub mod Headings
 pub mod Parts
-pub mod Places
 pub mod Spelling
 pub mod Examples

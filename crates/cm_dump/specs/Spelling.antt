@@ -1,14 +1,13 @@
 -- The function that bytes spell, or their first fault.
-use Rattle.std.specs.Prelude.{zero, suc, nat_lt, ◌&&◌, ◌||◌, ◌-◌, ◌+◌, ◌*◌, ◌/◌, ℕ, Bool, List, [], ◌∷◌, length, nat_eq, ◌==◌, if◌then◌else◌, count_by, Option, Some, None, Result, Ok, Err}
+use Rattle.std.specs.Prelude.{zero, suc, nat_lt, ◌&&◌, ◌||◌, ◌-◌, ◌+◌, ◌*◌, ℕ, Bool, List, [], ◌∷◌, length, nat_eq, ◌==◌, if◌then◌else◌, count_by, Result, Ok, Err}
 use Rattle.std.specs.Cmp.Lexicographic.{pointwise}
 use Rattle.std.specs.Int.{byte_len, to_le_bytes, w32}
 use Rattle.cm_bdz.specs.Functions.{Bdz, BdzPh}
-use Rattle.cm_bits.specs.declared.fault.ImageFault.{ImageFault}
-use Rattle.cm_bits.specs.declared.fault.ImageFault.TheVariants as image
-use Rattle.cm_bits.specs.Fault.{bytes_number, field_cells, fields_fault, packed_fault}
+use Rattle.cm_bits.specs.Fault.{bytes_number, field_cells}
 use Rattle.cm_bits.specs.Held.{packed_cells}
 use Rattle.cm_brz_func.specs.Functions.{Brz, Bucket, bucket_cells, bucket_count, keys_in}
 use Rattle.cm_brz_func.specs.Pushing.{with_bucket}
+use Rattle.cm_dump_images.specs.Images.{fields_at, packed_at}
 use Rattle.cm_dump_items.specs.declared.fault.LoadFault.{LoadFault}
 use Rattle.cm_dump_items.specs.declared.fault.LoadFault.TheVariants as faults
 use Rattle.cm_dump_items.specs.Reading.{◌>>=◌, field_at, item_at, end_at}
@@ -24,31 +23,6 @@ use Rattle.cm_dump.specs.declared.writer.Func.{Func}
 use Rattle.cm_dump.specs.declared.writer.Func.TheVariants as func
 use Rattle.cm_dump.specs.Forms.{Form, version_1}
 use Rattle.cm_dump.specs.Headings.{heading_at}
-
--- the fault of an image that begins at an offset: a bad cell is named by the byte of its lowest bit or digit
-abbrev pub fault_at : ℕ → (ℕ → ℕ) → ImageFault → LoadFault
-fault_at at place image.Memory = faults.Memory
-fault_at at place (image.BadCell i) = faults.BadCell (at + place i)
-fault_at at place (image.BadPadding q) = faults.BadPadding (at + q)
-
--- the image, if it has no fault
-abbrev pub unless_bad : ℕ → (ℕ → ℕ) → Option ImageFault → List ℕ → Result (List ℕ) LoadFault
-unless_bad at place None item = Ok item
-unless_bad at place (Some f) item = Err (fault_at at place f)
-
--- the image of a size in bytes at an offset, by the byte that holds a cell's lowest bit or digit, and by the fault of bytes
-unfoldable pub image_at : List ℕ → ℕ → ℕ → (ℕ → ℕ) → (List ℕ → Option ImageFault) → Result (List ℕ) LoadFault
-image_at bytes at size place fault = do
-  item ← item_at bytes at size
-  unless_bad at place (fault item) item
-
--- the image of n cells in as many bits as the bound needs
-abbrev pub fields_at : List ℕ → ℕ → ℕ → ℕ → Result (List ℕ) LoadFault
-fields_at bytes at n bound = image_at bytes at (fields_len (width_of bound) n) (λ i. i * width_of bound / 8) (fields_fault (width_of bound) n bound)
-
--- the image of n cells that are digits in base d, p of them a byte
-abbrev pub packed_at : List ℕ → ℕ → ℕ → ℕ → ℕ → Result (List ℕ) LoadFault
-packed_at bytes at d p n = image_at bytes at (packed_len p n) (λ i. i / p) (packed_fault d p n)
 
 -- the CHM function of a header and the cells after it
 unfoldable pub chm_at : List ℕ → Header → Result Chm LoadFault

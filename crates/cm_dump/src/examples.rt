@@ -8,7 +8,7 @@ ghost use Rattle.cm_brz_func.specs.Functions.{brz_answer};
 ghost use Rattle.cm_dump.specs.Dumps.{dump_of};
 
 /// CHM functions of one key and of two.
-#[tactic(auto, unfolding(crate::specs::Spelling::spelling_by, crate::specs::Spelling::chm_at, crate::specs::Spelling::image_at, crate::specs::Headings::heading_at, crate::specs::Headings::kind_at, crate::specs::Headings::algorithm_at, crate::specs::Headings::magic_at, cm_dump_items::specs::Reading::item_at, cm_dump_items::specs::Reading::field_at, cm_dump_items::specs::Reading::zeros_at, cm_dump_items::specs::Reading::end_at, cm_bits::specs::Fault::fields_fault, cm_bits::specs::Fault::field_cells, cm_bits::specs::Fault::bytes_number, cm_spec::specs::Image::digits_sum, cm_spec::specs::Image::width_of))]
+#[tactic(auto, unfolding(crate::specs::Spelling::spelling_by, crate::specs::Spelling::chm_at, cm_dump_images::specs::Images::image_at, crate::specs::Headings::heading_at, crate::specs::Headings::kind_at, crate::specs::Headings::algorithm_at, crate::specs::Headings::magic_at, cm_dump_items::specs::Reading::item_at, cm_dump_items::specs::Reading::field_at, cm_dump_items::specs::Reading::zeros_at, cm_dump_items::specs::Reading::end_at, cm_bits::specs::Fault::fields_fault, cm_bits::specs::Fault::field_cells, cm_bits::specs::Fault::bytes_number, cm_spec::specs::Image::digits_sum, cm_spec::specs::Image::width_of))]
 pub fn spelled()
     ensures one { spelling_of (front 1 ++ 0 ∷ []) ≡ Ok (Chm one_key) }
     ensures two { spelling_of (front 2 ++ 4 ∷ []) ≡ Ok (Chm two_keys) }
@@ -22,7 +22,7 @@ pub fn spelled()
 {}
 
 /// A BDZ function of one key, and a BDZ_PH function of two.
-#[tactic(auto, unfolding(crate::specs::Spelling::spelling_by, crate::specs::Spelling::bdz_at, crate::specs::Spelling::bdz_ph_at, crate::specs::Spelling::ranked_at, crate::specs::Spelling::ranks_at, crate::specs::Spelling::counted, crate::specs::Spelling::image_at, crate::specs::Headings::heading_at, crate::specs::Headings::kind_at, crate::specs::Headings::algorithm_at, crate::specs::Headings::magic_at, cm_dump_items::specs::Reading::item_at, cm_dump_items::specs::Reading::field_at, cm_dump_items::specs::Reading::zeros_at, cm_dump_items::specs::Reading::end_at, cm_bits::specs::Fault::packed_fault, cm_bits::specs::Held::packed_cells, cm_rank::specs::Ranks::sampled))]
+#[tactic(auto, unfolding(crate::specs::Spelling::spelling_by, crate::specs::Spelling::bdz_at, crate::specs::Spelling::bdz_ph_at, crate::specs::Spelling::ranked_at, crate::specs::Spelling::ranks_at, crate::specs::Spelling::counted, cm_dump_images::specs::Images::image_at, crate::specs::Headings::heading_at, crate::specs::Headings::kind_at, crate::specs::Headings::algorithm_at, crate::specs::Headings::magic_at, cm_dump_items::specs::Reading::item_at, cm_dump_items::specs::Reading::field_at, cm_dump_items::specs::Reading::zeros_at, cm_dump_items::specs::Reading::end_at, cm_bits::specs::Fault::packed_fault, cm_bits::specs::Held::packed_cells, cm_rank::specs::Ranks::sampled))]
 pub fn spelled_by_three()
     ensures bdz { spelling_of (front_of 2 7 1 ++ 0xf3 ∷ 0xff ∷ 3 ∷ 0 ∷ 0 ∷ 0 ∷ 0 ∷ []) ≡ Ok (Bdz bdz_of_one) }
     ensures bdz_parameter { spelling_of (front_of 2 2 1 ++ 0xf3 ∷ 0xff ∷ 3 ∷ 0 ∷ 0 ∷ 0 ∷ 0 ∷ []) ≡ Err (BadField 9) }
@@ -38,7 +38,7 @@ pub fn spelled_by_three()
 {}
 
 /// A BRZ function of two keys, and bytes that differ from its dump.
-#[tactic(auto, unfolding(crate::specs::Spelling::spelling_by, crate::specs::Spelling::brz_at, crate::specs::Spelling::rest_at, crate::specs::Spelling::bucket_at, crate::specs::Spelling::size_at, crate::specs::Spelling::crumbs_at, crate::specs::Spelling::image_at, crate::specs::Headings::heading_at, crate::specs::Headings::kind_at, crate::specs::Headings::algorithm_at, crate::specs::Headings::magic_at, cm_dump_items::specs::Reading::item_at, cm_dump_items::specs::Reading::field_at, cm_dump_items::specs::Reading::zeros_at, cm_dump_items::specs::Reading::end_at, cm_bits::specs::Fault::packed_fault, cm_bits::specs::Held::packed_cells))]
+#[tactic(auto, unfolding(crate::specs::Spelling::spelling_by, crate::specs::Spelling::brz_at, crate::specs::Spelling::rest_at, crate::specs::Spelling::bucket_at, crate::specs::Spelling::size_at, crate::specs::Spelling::crumbs_at, cm_dump_images::specs::Images::image_at, crate::specs::Headings::heading_at, crate::specs::Headings::kind_at, crate::specs::Headings::algorithm_at, crate::specs::Headings::magic_at, cm_dump_items::specs::Reading::item_at, cm_dump_items::specs::Reading::field_at, cm_dump_items::specs::Reading::zeros_at, cm_dump_items::specs::Reading::end_at, cm_bits::specs::Fault::packed_fault, cm_bits::specs::Held::packed_cells))]
 pub fn spelled_by_buckets()
     ensures brz { spelling_of (front_of 4 128 2 ++ bucket_of_two) ≡ Ok (Brz brz_of_two) }
     ensures few_keys { spelling_of (front_of 4 128 2 ++ 1 ∷ 0 ∷ 0 ∷ 0 ∷ 0 ∷ 0xc3 ∷ 0xff ∷ 3 ∷ []) ≡ Err (BadCount 24) }

@@ -5,7 +5,6 @@ mod answers;
 mod buckets;
 pub mod examples;
 mod front;
-mod image;
 pub mod laws;
 mod ranks;
 mod reader;

@@ -1,20 +1,17 @@
 //! The function that a source's bytes spell.
-ghost use Rattle.std.specs.Prelude.{◌≡◌, ◌+◌, ◌*◌, ◌<◌, ◌≤◌, ◌^◌, ℕ, List, Err, IsOk, Ok, OnOk, IfOk, count_by, length};
+ghost use Rattle.std.specs.Prelude.{◌≡◌, ◌+◌, ◌*◌, ◌<◌, ◌≤◌, ℕ, Err, IsOk, Ok, IfOk, count_by, length};
 ghost use Rattle.std.specs.Option.{ForSome};
-ghost use Rattle.cm_bits.specs.declared.TheConstants.{MAX_CELLS};
-ghost use Rattle.cm_dump_items.specs.Reading.{Answers, IsAt, HasLoadCause, item_at};
+ghost use Rattle.cm_dump_items.specs.Reading.{Answers, IsAt, HasLoadCause};
 ghost use Rattle.cm_dump_items.specs.declared.fault.LoadFault.{LoadFault};
 ghost use Rattle.cm_io.specs.declared.key_pass.TheConstants.{MAX_KEYS};
 ghost use Rattle.cm_spec.specs.Bdz.{bdz_size};
 ghost use Rattle.cm_spec.specs.Cells.{is_busy};
 ghost use Rattle.cm_spec.specs.Image.{packed_len};
-ghost use Rattle.cm_spec.specs.Lists.{list_of};
 ghost use Rattle.cm_spec.specs.Rule.{IsRatio};
 ghost use Rattle.cm_dump.specs.Forms.{version_1};
 ghost use Rattle.cm_dump.specs.Headings.{heading_at};
 ghost use Rattle.cm_dump.specs.Functions.{IsBdz, IsBdzPh, IsChm, IsFunction};
-ghost use Rattle.cm_dump.specs.Places.{AreNear, IsPlace};
-ghost use Rattle.cm_dump.specs.Spelling.{bdz_at, bdz_ph_at, chm_at, counted, fault_at, image_at, ranked_at, spelling_of};
+ghost use Rattle.cm_dump.specs.Spelling.{bdz_at, bdz_ph_at, chm_at, counted, ranked_at, spelling_of};
 
 use crate::front::{Algorithm, Header, read_header};
 use crate::ranks::read_ranks;
@@ -22,88 +19,15 @@ use crate::rest::load_brz;
 use crate::{Func, LoadFault};
 use cm_algo_scheme::{Built, Scheme};
 use cm_bdz::{Bdz, BdzPh, BdzPhScheme, BdzScheme, PartsFault};
-use cm_bits::{Cells, Crumbs, Fields, ImageFault, Trits};
+use cm_bits::{Cells, Crumbs, Fields, Trits};
 use cm_chm::{Chm, ChmScheme};
-use cm_dump_items::{end, long_item};
+use cm_dump_images::read_cells;
+use cm_dump_items::end;
 use cm_io::Source;
 use std::alloc::Global;
 
-/// The fault of the image that begins at this offset, in bytes from 0.
-fn placed<C: Cells>(at: u64, bound: u32, fault: ImageFault) -> LoadFault
-    requires at { at < 2 ^ 60 }
-    requires fit { C.fits bound }
-    requires place { IsPlace (C.cell_place bound) fault }
-    ensures { result ≡ fault_at at (C.cell_place bound) fault }
-{
-    match fault {
-        ImageFault::Memory => LoadFault::Memory,
-        ImageFault::BadCell { cell } => LoadFault::BadCell {
-            at: at + C::cell_byte(bound, cell),
-        },
-        ImageFault::BadPadding { byte } => LoadFault::BadPadding { at: at + byte },
-    }
-}
-
-/// The `n` cells below the bound, whose image begins at this offset, in bytes from 0, and is these bytes.
-#[tactic(auto, unfolding(crate::specs::Spelling::image_at))]
-pub(crate) fn cells_from<C: Cells + Drop>(
-    alloc: Global,
-    at: u64,
-    n: u32,
-    bound: u32,
-    image: Vec<u8>,
-) -> Result<C, LoadFault>
-    requires n { n ≤ MAX_CELLS }
-    requires fit { C.fits bound }
-    requires near { AreNear (C.image_size n bound) (C.cell_place bound) (C.image_fault n bound) }
-    requires short { at < 2 ^ 60 }
-    requires whole { length image.items ≡ C.image_size n bound }
-    ensures bound { IfOk result (λ t. C.bound_of t ≡ bound) }
-    ensures size { IfOk result (λ t. length (C.cells t) ≡ n) }
-    ensures exact { (bytes : List ℕ) → item_at bytes at (C.image_size n bound) ≡ Ok image.items → Answers (λ t. list_of (C.image_byte bound (C.cells t)) (C.image_size n bound)) result (image_at bytes at (C.image_size n bound) (C.cell_place bound) (C.image_fault n bound)) }
-    ensures cause { (k : ℕ) → HasLoadCause k k result }
-{
-    match C::from_bytes(alloc, n, bound, image) {
-        Ok(cells) => Ok(cells),
-        Err(fault) => Err(placed::<C>(at, bound, fault)),
-    }
-}
-
-/// The `n` cells below the bound, whose image begins at this offset.
-#[tactic(auto, unfolding(crate::specs::Spelling::image_at))]
-fn read_cells<C: Cells + Drop, S: Source>(
-    alloc: Global,
-    source: &mut S,
-    at: u64,
-    n: u32,
-    bound: u32,
-) -> Result<C, LoadFault>
-    requires n { n ≤ MAX_CELLS }
-    requires fit { C.fits bound }
-    requires room { C.image_size n bound < 2 ^ 33 }
-    requires near { AreNear (C.image_size n bound) (C.cell_place bound) (C.image_fault n bound) }
-    requires short { at < 2 ^ 60 }
-    requires at { IsAt (S.told source.old) (S.place source.old) at }
-    ensures told { S.told source.new ≡ S.told source.old }
-    ensures at { OnOk result (IsAt (S.told source.new) (S.place source.new) (at + C.image_size n bound)) }
-    ensures bound { IfOk result (λ t. C.bound_of t ≡ bound) }
-    ensures size { IfOk result (λ t. length (C.cells t) ≡ n) }
-    ensures exact { ForSome (S.told source.old) (λ bytes. Answers (λ t. list_of (C.image_byte bound (C.cells t)) (C.image_size n bound)) result (image_at bytes at (C.image_size n bound) (C.cell_place bound) (C.image_fault n bound))) }
-    ensures cause { HasLoadCause (S.faults source.old) (S.faults source.new) result }
-{
-    let len = C::image_len(n, bound);
-    let bytes = match long_item(alloc, source, at, len) {
-        Ok(bytes) => bytes,
-        Err(fault) => return Err(fault),
-    };
-    match cells_from(alloc, at, n, bound, bytes) {
-        Ok(cells) => Ok(cells),
-        Err(fault) => Err(fault),
-    }
-}
-
 /// The CHM function of a header, whose dump ends with the source.
-#[tactic(auto, using(crate::proofs::CellLemmas::fields_near, crate::proofs::CellLemmas::few_cells), unfolding(crate::specs::Spelling::chm_at))]
+#[tactic(auto, using(cm_dump_images::specs::ImageLaws::fields_near, crate::proofs::CellLemmas::few_cells), unfolding(crate::specs::Spelling::chm_at))]
 fn load_chm<S: Source>(alloc: Global, source: &mut S, header: Header) -> Result<Chm, LoadFault>
     requires keys { (1 ≤ header.keys) × (header.keys ≤ MAX_KEYS) }
     requires ratio { IsRatio header.ratio }
@@ -191,7 +115,7 @@ fn load_ranked<S: Source>(
 }
 
 /// The BDZ function of a header, whose dump ends with the source.
-#[tactic(auto, using(crate::proofs::CellLemmas::packed_near, crate::proofs::CellLemmas::few_vertices), unfolding(crate::specs::Spelling::bdz_at))]
+#[tactic(auto, using(cm_dump_images::specs::ImageLaws::packed_near, crate::proofs::CellLemmas::few_vertices), unfolding(crate::specs::Spelling::bdz_at))]
 fn load_bdz<S: Source>(alloc: Global, source: &mut S, header: Header) -> Result<Bdz, LoadFault>
     requires keys { (1 ≤ header.keys) × (header.keys ≤ MAX_KEYS) }
     requires ratio { IsRatio header.ratio }
@@ -210,7 +134,7 @@ fn load_bdz<S: Source>(alloc: Global, source: &mut S, header: Header) -> Result<
 }
 
 /// The BDZ_PH function of a header, whose dump ends with the source.
-#[tactic(auto, using(crate::proofs::CellLemmas::packed_near, crate::proofs::CellLemmas::few_vertices), unfolding(crate::specs::Spelling::bdz_ph_at))]
+#[tactic(auto, using(cm_dump_images::specs::ImageLaws::packed_near, crate::proofs::CellLemmas::few_vertices), unfolding(crate::specs::Spelling::bdz_ph_at))]
 fn load_bdz_ph<S: Source>(alloc: Global, source: &mut S, header: Header) -> Result<BdzPh, LoadFault>
     requires keys { (1 ≤ header.keys) × (header.keys ≤ MAX_KEYS) }
     requires ratio { IsRatio header.ratio }

@@ -14,11 +14,11 @@ ghost use Rattle.cm_dump.specs.Spelling.{bucket_at, brz_at, crumbs_at, is_off, l
 use crate::LoadFault;
 use crate::buckets::FRONT;
 use crate::front::Header;
-use crate::reader::cells_from;
 use cm_algo_scheme::Scheme;
 use cm_bdz::{BdzScheme, PartsFault};
 use cm_bits::{Cells, Crumbs};
 use cm_brz_func::{Brz, BrzParts};
+use cm_dump_images::cells_from;
 use cm_dump_items::{ENOUGH, Piece, byte_of, bytes_of, number_of};
 use cm_io::{Failed, Source};
 use cm_rank::Counted;
@@ -81,7 +81,7 @@ fn cells_of(size: u8, c: u32) -> u32
 }
 
 /// The `n` cells of a bucket at this offset and the start of the part, of which `size` are not 3.
-#[tactic(auto, unfolding(crate::specs::Spelling::crumbs_at), using(crate::proofs::CellLemmas::packed_near))]
+#[tactic(auto, unfolding(crate::specs::Spelling::crumbs_at), using(cm_dump_images::specs::ImageLaws::packed_near))]
 fn read_crumbs(alloc: Global, part: &[u8], at: u64, size: u8, n: u32) -> Result<Crumbs, LoadFault>
     requires room { at + length part.now < 2 ^ 60 }
     requires few { n ≤ 671088645 }

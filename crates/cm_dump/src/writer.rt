@@ -7,12 +7,12 @@ ghost use Rattle.cm_dump.specs.Forms.{version_1};
 
 use crate::buckets::{buckets_len, save_buckets};
 use crate::front::MAGIC;
-use crate::image::save_image;
 use crate::ranks::save_ranks;
 use cm_bdz::{Bdz, BdzPh};
 use cm_bits::{Cells, Crumbs, Fields, Trits};
 use cm_brz_func::Brz;
 use cm_chm::Chm;
+use cm_dump_images::save_image;
 use cm_io::{Failed, Sink, write_pieces};
 
 /// A function of any algorithm.

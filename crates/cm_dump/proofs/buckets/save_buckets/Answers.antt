@@ -1,9 +1,9 @@
 use Rattle.std.proofs.Common.{rules, ◌+◌, ◌<◌, ℕ, List, length, take, drop, arith}
 use Rattle.std.specs.Prelude.{slice_index_or}
 use Rattle.cm_brz_func.specs.Functions.{Bucket, no_bucket}
+use Rattle.cm_dump_images.specs.WritingLaws.{more_stopped, more_wrote}
 use Rattle.cm_dump.specs.Dumps.{bucket_image, buckets_image}
 use Rattle.cm_dump.proofs.BucketLemmas.{buckets_more, buckets_whole}
-use Rattle.cm_dump.proofs.Pieces.{more_stopped, more_wrote}
 use Rattle.cm_dump.specs.Forms.{version_1}
 use Rattle.cm_dump.proofs.buckets.save_buckets.Goals as goal
 

@@ -1,7 +1,7 @@
 use Rattle.std.proofs.Common.{rules, arith, ◌≡◌, ◌∙◌, ◌-◌, ◌+◌, ℕ, List, drop, take, ap}
+use Rattle.cm_dump_images.specs.WritingLaws.{more_wrote, more_stopped}
 use Rattle.cm_io.specs.Writing.{then_bytes}
 use Rattle.cm_dump.specs.Dumps.{ranks_image}
-use Rattle.cm_dump.proofs.Pieces.{more_wrote, more_stopped}
 use Rattle.cm_dump.proofs.RankLemmas.{image_more, image_whole}
 use Rattle.cm_dump.proofs.ranks.save_ranks.Goals as goal
 

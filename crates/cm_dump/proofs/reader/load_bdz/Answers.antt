@@ -1,10 +1,11 @@
 use Rattle.std.proofs.Common.{◌∙◌, ◌≤◌, arith, lit<}
 use Rattle.cm_bits.specs.Held.{packed_cells}
 use Rattle.cm_bits.specs.PackedLaws.{AllBelow-packed_cells}
+use Rattle.cm_dump_images.specs.ImageLaws.{packed_near}
 use Rattle.cm_dump_items.specs.StepLaws.{fails_then}
 use Rattle.cm_dump.specs.Spelling.{bdz_at}
 use Rattle.cm_dump.proofs.BodyLemmas.{bdz_known}
-use Rattle.cm_dump.proofs.CellLemmas.{few_vertices, packed_near}
+use Rattle.cm_dump.proofs.CellLemmas.{few_vertices}
 use Rattle.cm_dump.proofs.reader.load_bdz.Goals as goal
 
 pub read_cells-requires-clause-near : goal.read_cells-requires-clause-near

@@ -1,8 +1,9 @@
 use Rattle.std.proofs.Common.{◌∙◌, ℕ, List, arith}
 use Rattle.cm_bits.specs.Bound.{AllBelow}
 use Rattle.cm_bits.specs.Fault.{bytes_number, field_cells}
+use Rattle.cm_dump_images.specs.ImageLaws.{cells_near}
 use Rattle.cm_dump.proofs.BodyLemmas.{chm_known}
-use Rattle.cm_dump.proofs.CellLemmas.{cells_near, few_cells}
+use Rattle.cm_dump.proofs.CellLemmas.{few_cells}
 use Rattle.cm_dump.proofs.reader.load_chm.Goals as goal
 
 pub read_cells-requires-clause-room : goal.read_cells-requires-clause-room

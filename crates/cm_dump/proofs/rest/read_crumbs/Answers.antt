@@ -2,13 +2,14 @@ use Rattle.std.proofs.Common.{◌≡◌, ◌∙◌, ◌+◌, ℕ, List, length, 
 use Rattle.std.proofs.lemmas.List.{take_all}
 use Rattle.cm_bits.specs.Held.{packed_cells}
 use Rattle.cm_bits.specs.PackedLaws.{AllBelow-packed_cells}
+use Rattle.cm_dump_images.specs.Images.{image_at, packed_at}
+use Rattle.cm_dump_images.specs.ImageLaws.{packed_near}
 use Rattle.cm_dump_items.specs.Reading.{item_at}
 use Rattle.cm_dump_items.specs.StepLaws.{fails_then}
 use Rattle.cm_rank.specs.Ranks.{rank_of}
 use Rattle.cm_spec.specs.Cells.{is_busy}
 use Rattle.cm_spec.specs.Image.{packed_len}
-use Rattle.cm_dump.specs.Spelling.{crumbs_at, image_at, packed_at}
-use Rattle.cm_dump.proofs.CellLemmas.{packed_near}
+use Rattle.cm_dump.specs.Spelling.{crumbs_at}
 use Rattle.cm_dump.proofs.RestLemmas.{crumbs_known, crumbs_other}
 use Rattle.cm_dump.proofs.rest.read_crumbs.Goals as goal
 

@@ -1,7 +1,7 @@
 use Rattle.std.proofs.Common.{arith, ◌≤◌}
 use Rattle.cm_bits.specs.Fault.{bytes_number}
 use Rattle.cm_bits.specs.FieldsLaws.{field_room_for}
-use Rattle.cm_dump.proofs.CellLemmas.{cells_near}
+use Rattle.cm_dump_images.specs.ImageLaws.{cells_near}
 use Rattle.cm_dump.proofs.writer.chm_len.Goals as goal
 
 pub image_len-requires-clause-room : goal.image_len-requires-clause-room

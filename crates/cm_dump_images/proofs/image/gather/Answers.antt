@@ -1,8 +1,8 @@
 use Rattle.std.proofs.Common.{rules, arith, ◌≡◌, ◌∙◌, ◌-◌, ◌+◌, ◌<◌, ℕ, List, [], ◌∷◌, ◌++◌, length, map, ap, sym}
 use Rattle.std.specs.List.{range_with_len}
 use Rattle.std.proofs.lemmas.List.FromFn.{map-range_with_len_more}
-use Rattle.cm_dump.proofs.Pieces.{piece_len}
-use Rattle.cm_dump.proofs.image.gather.Goals as goal
+use Rattle.cm_dump_images.proofs.Pieces.{piece_len}
+use Rattle.cm_dump_images.proofs.image.gather.Goals as goal
 
 pub push-requires : goal.push-requires
 push-requires g c =

@@ -5,7 +5,7 @@ use Rattle.std.specs.List.{range_with_len}
 use Rattle.std.proofs.lemmas.List.FromFn.{length-map-range_with_len}
 use Rattle.cm_io.specs.declared.fault.Failed.{Failed}
 use Rattle.cm_io.specs.Writing.{Writes, then_bytes}
-use Rattle.cm_io.specs.WritingLaws.{then_twice, writes_then, front_of_first, writes_front}
+use Rattle.cm_dump_images.specs.WritingLaws.{more_stopped, more_wrote}
 
 pub piece_len : (f : ℕ → ℕ) (xs : List ℕ) (a n : ℕ) → xs ≡ map f (range_with_len a n) → length xs ≡ n
 piece_len f xs a n is = ap length is ∙ length-map-range_with_len f a n
@@ -17,17 +17,6 @@ two_pieces f a (suc n) k =
     let z : a + suc n ≡ a + 1 + n = omega arith in
     let y : suc n + k ≡ suc (n + k) = omega arith in
     rw (z, y) (ap (λ (xs : List ℕ). f a ∷ xs) (two_pieces f (a + 1) n k))
-
--- more went through
-pub more_wrote : (old mid new : Option (List ℕ)) (xs ys zs : List ℕ) → xs ++ ys ≡ zs → mid ≡ then_bytes old xs → new ≡ then_bytes mid ys → new ≡ then_bytes old zs
-more_wrote old mid new xs ys zs whole before now = now ∙ ap (λ (w : Option (List ℕ)). then_bytes w ys) before ∙ then_twice old xs ys ∙ ap (then_bytes old) whole
-
--- more failed: what was taken is a prefix of all
-pub more_stopped : (old mid new : Option (List ℕ)) (xs ys zs all : List ℕ) (result : Result (Unit {0}) Failed) → xs ++ (ys ++ zs) ≡ all → IsErr result → mid ≡ then_bytes old xs → ((n : ℕ) × (new ≡ then_bytes mid (take n ys))) → Writes old new all result
-more_stopped old mid new xs ys zs all result whole failed before now =
-    let front = front_of_first mid new ys zs now.0 now.1 in
-    let every : Writes old new (xs ++ (ys ++ zs)) result = writes_then old mid new xs (ys ++ zs) result before (writes_front mid new (ys ++ zs) result failed front) in
-    rw whole at every
 
 -- a piece more went through
 pub piece_wrote : (f : ℕ → ℕ) (old mid new : Option (List ℕ)) (at k : ℕ) → mid ≡ then_bytes old (map f (range_with_len 0 at)) → new ≡ then_bytes mid (map f (range_with_len at k)) → new ≡ then_bytes old (map f (range_with_len 0 (at + k)))

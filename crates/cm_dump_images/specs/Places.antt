@@ -1,4 +1,4 @@
--- Places in an image that are near enough to be counted in a dump.
+-- Places in an image that are near enough to be counted in a file.
 use Rattle.std.specs.Prelude.{◌≡◌, ◌<◌, ◌^◌, ℕ, List, length, Option, Some}
 use Rattle.cm_bits.specs.declared.TheConstants.{MAX_CELLS}
 use Rattle.cm_bits.specs.declared.fault.ImageFault.{ImageFault}

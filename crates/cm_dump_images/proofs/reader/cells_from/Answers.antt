@@ -1,6 +1,6 @@
 use Rattle.std.proofs.Common.{◌∙◌, ap, refl, Ok}
-use Rattle.cm_dump.proofs.CellLemmas.{image_read}
-use Rattle.cm_dump.proofs.reader.cells_from.Goals as goal
+use Rattle.cm_dump_images.specs.ImageLaws.{image_read}
+use Rattle.cm_dump_images.proofs.reader.cells_from.Goals as goal
 
 pub returns-in-Ok-clause-exact : goal.returns-in-Ok-clause-exact
 returns-in-Ok-clause-exact g c = λ x whole.

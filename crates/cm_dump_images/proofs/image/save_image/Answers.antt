@@ -1,8 +1,8 @@
 use Rattle.std.proofs.Common.{rules, arith, ◌≡◌, ◌∙◌, ◌-◌, ◌+◌, ◌≤◌, ℕ, List, length, map, take, ap}
 use Rattle.std.specs.List.{range_with_len}
 use Rattle.cm_io.specs.Writing.{then_bytes}
-use Rattle.cm_dump.proofs.Pieces.{piece_wrote, piece_stopped}
-use Rattle.cm_dump.proofs.image.save_image.Goals as goal
+use Rattle.cm_dump_images.proofs.Pieces.{piece_wrote, piece_stopped}
+use Rattle.cm_dump_images.proofs.image.save_image.Goals as goal
 
 pub returns-in_err-write-clause-bytes : goal.returns-in_err-write-clause-bytes
 returns-in_err-write-clause-bytes g c =

@@ -1,6 +1,6 @@
 use Rattle.std.proofs.Common.{ℕ, subst, sym, Err}
 use Rattle.cm_dump_items.specs.Reading.{HasLoadCause}
-use Rattle.cm_dump.proofs.reader.read_cells.Goals as goal
+use Rattle.cm_dump_images.proofs.reader.read_cells.Goals as goal
 
 pub returns-in-Ok-cells_from-clause-at : goal.returns-in-Ok-cells_from-clause-at
 returns-in-Ok-cells_from-clause-at g c = λ x is.

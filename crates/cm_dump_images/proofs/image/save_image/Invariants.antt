@@ -1,7 +1,7 @@
 use Rattle.std.proofs.Common.{◌≡◌, ◌-◌, ◌≤◌, map}
 use Rattle.std.specs.List.{range_with_len}
 use Rattle.cm_io.specs.Writing.{then_bytes}
-use Rattle.cm_dump.proofs.image.save_image.Given as goal
+use Rattle.cm_dump_images.proofs.image.save_image.Given as goal
 
 abbrev pub invariant-pieces : goal.invariant-pieces
 invariant-pieces g l = record {

@@ -1,0 +1,4 @@
+pub mod Images
+pub mod Places
+pub mod ImageLaws
+pub mod WritingLaws
