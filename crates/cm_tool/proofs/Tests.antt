@@ -28,6 +28,7 @@ use Rattle.cm_tool.specs.Jobs.{seeds_of}
 use Rattle.cm_tool.specs.Leaves.{GotReport, IsFuncOf, IsOutCause, KeepsOut, StopsFor}
 use Rattle.cm_tool.specs.Ending.{Outcome, printing, reporting}
 use Rattle.cm_tool.specs.Run.{IsStatus, Reaches}
+use Rattle.cm_tool.specs.Spills.{TestSpilled, TestsSpilled}
 use Rattle.cm_tool.specs.TestEnds.{EndsTest, FailsTest, GotPrefix, HasTestForm, IsTestMessage, IsUnfinishedTest, StopsSpilling, test_name}
 use Rattle.cm_tool.specs.Tested as tested
 use Rattle.cm_tool.specs.Tested.{line_text, test_plan, tested_by, tested_then, usual_b}
@@ -404,3 +405,9 @@ pub no_fault : (n place : ℕ) (fault : KeyFault) (old new : ℕ) → AreMade n 
 no_fault n place key_fault.Read old new made start end cause stops = let low : old < 2 ^ 63 = omega (arith, start) in omega (arith, cause.1 low, start, end)
 no_fault n place (key_fault.TooLong line) old new made start end cause stops = let fine = made.fine in let at_end = stops.fault_is in absurd (cc)
 no_fault n place key_fault.TooMany old new made start end cause stops = let fine = made.fine in let at_end = stops.fault_is in absurd (cc)
+
+-- only BRZ hands back a spill, and it is tested last
+pub last_spilled : (job : TestJob) (old new : Option (List ℕ)) → TestsSpilled job algorithms old new → TestSpilled job Brz old new
+last_spilled job old new (a, chm, b, bdz, d, bdz_ph, e, brz, same) =
+    let before : d ≡ old = bdz_ph.unspilled ∙ (bdz.unspilled ∙ chm.unspilled) in
+    subst (λ (x : Option (List ℕ)). TestSpilled job Brz old x) (sym same) (subst (λ (x : Option (List ℕ)). TestSpilled job Brz x e) before brz)

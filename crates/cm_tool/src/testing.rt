@@ -1,7 +1,8 @@
 //! Tests over generated keys.
-ghost use Rattle.std.specs.Prelude.{◌≡◌, ◌≢◌, ◌<◌, ◌≤◌, ◌^◌, ◌⊎◌, ◌↔◌, ℕ, List, [], ◌∷◌, None, Some, Ok, IfOk, IfErr, true};
+ghost use Rattle.std.specs.Prelude.{◌≡◌, ◌≢◌, ◌<◌, ◌≤◌, ◌^◌, ◌⊎◌, ◌↔◌, ℕ, List, [], ◌∷◌, None, Some, Ok, IfOk, IfErr, OnOk, true};
 ghost use Rattle.std.specs.Option.{ForSome};
 ghost use Rattle.cm_algo_names.specs.declared.algorithm.Algorithm.{Algorithm};
+ghost use Rattle.cm_algo_names.specs.declared.algorithm.Algorithm.TheVariants.{Brz};
 ghost use Rattle.cm_dump.specs.Functions.{IsFunction, answer_by};
 ghost use Rattle.cm_words_values.specs.Limits.{IsBuffer};
 ghost use Rattle.cm_words_values.specs.Options.{bits_value, usual_ratio};
@@ -13,6 +14,7 @@ ghost use Rattle.cm_tool.specs.Faults.{HasFuncCause, HasStopForm, stop_for};
 ghost use Rattle.cm_tool.specs.Leaves.{HasOutCause, HasStopCause, KeepsOut};
 ghost use Rattle.cm_tool.specs.Plans.{IsPlan};
 ghost use Rattle.cm_tool.specs.Run.{IsStatus, Reaches};
+ghost use Rattle.cm_tool.specs.Spills.{HasSpilled, TestSpilled, TestsSpilled, UnlessSpilled};
 ghost use Rattle.cm_tool.specs.TestEnds.{EndsTest, FailsTest, GotPrefix, HasTestForm, IsTestMessage, IsUnfinishedTest, StopsSpilling};
 ghost use Rattle.cm_tool.specs.Tested.{generated, line_text, test_outcome, test_plan, test_verdict, tested_by, usual_b};
 ghost use Rattle.cm_words.specs.Limits.{IsTest};
@@ -95,6 +97,8 @@ fn build_generated<D: Disk>(
     ensures read_faults { D.read_faults disk.new ≡ D.read_faults disk.old }
     ensures cause { HasFuncCause 0 0 (D.write_faults disk.old) (D.write_faults disk.new) result }
     ensures made { IfOk result (λ f. ForSome (D.files disk.old) (λ _. test_verdict job.now algorithm ≡ Ok f)) }
+    ensures spilled { IfOk result (λ f. ForSome (D.files disk.old) (λ _. HasSpilled f (generated job.now.keys).keys (D.spilled disk.old) (D.spilled disk.new))) }
+    ensures unspilled { UnlessSpilled algorithm (D.spilled disk.new ≡ D.spilled disk.old) }
     ensures valid { IfOk result IsFunction }
     ensures fault { IfErr result (λ e. ForSome (D.files disk.old) (λ _. FailsTest job.now algorithm e)) }
     ensures form { IfErr result (λ e. HasStopForm algorithm (stop_for e)) }
@@ -183,6 +187,7 @@ fn test_algorithm<D: Disk, O: Sink>(
     ensures cause { HasStopCause 0 0 (D.write_faults disk.old) (D.write_faults disk.new) result }
     ensures out_cause { HasOutCause (O.faults out.old) (O.faults out.new) result }
     ensures form { IfErr result (HasTestForm algorithm) }
+    ensures spilled { OnOk result (ForSome (D.files disk.old) (λ _. TestSpilled job.now algorithm (D.spilled disk.old) (D.spilled disk.new))) }
     ensures out { IfErr result (KeepsOut (O.written out.old) (O.written out.new)) }
     ensures sent { O.waits out.old ≡ 0 → IsSent (O.waits out.new) (O.faults out.old) (O.faults out.new) }
     ensures ends { ForSome (D.files disk.old) (λ files. EndsTest (tested_by job.now files (algorithm ∷ [])) (O.written out.old) (O.written out.new) result) }
@@ -216,6 +221,7 @@ fn test_each<D: Disk, O: Sink>(
     ensures cause { HasStopCause 0 0 (D.write_faults disk.old) (D.write_faults disk.new) result }
     ensures out_cause { HasOutCause (O.faults out.old) (O.faults out.new) result }
     ensures form { IfErr result (λ stop. (algorithm : Algorithm) × HasTestForm algorithm stop) }
+    ensures spilled { OnOk result (ForSome (D.files disk.old) (λ _. TestsSpilled job.now algorithms.now (D.spilled disk.old) (D.spilled disk.new))) }
     ensures spilling { IfErr result (λ stop. ForSome (D.files disk.old) (λ files. StopsSpilling job.now files algorithms.now (O.written out.old) (O.written out.new) stop)) }
     ensures sent { O.waits out.old ≡ 0 → IsSent (O.waits out.new) (O.faults out.old) (O.faults out.new) }
     ensures ends { ForSome (D.files disk.old) (λ files. EndsTest (tested_by job.now files algorithms.now) (O.written out.old) (O.written out.new) result) }
@@ -246,6 +252,7 @@ pub(crate) fn run_test<D: Disk, O: Sink, E: Sink>(
         ((result ≡ 5) ↔ ((D.write_faults disk.old < D.write_faults disk.new) ⊎ (O.faults out.old < O.faults out.new))) }
     ensures outcome { result ≢ 5 → result ≢ 6 → ForSome (D.files disk.old) (λ files.
         Reaches (Some (test_outcome job.now files)) result (O.written out.old) (O.written out.new) (E.written err.old) (E.written err.new) (E.faults err.old) (E.faults err.new) (D.files disk.new)) }
+    ensures spilled { result ≡ 0 → ForSome (D.files disk.old) (λ _. TestSpilled job.now Brz (D.spilled disk.old) (D.spilled disk.new)) }
     ensures unchanged { ForSome (D.files disk.old) (λ _. (result ≢ 7) × (result ≢ 8)) }
     ensures part { (result ≡ 5) ⊎ (result ≡ 6) → ForSome (D.files disk.old) (λ files. GotPrefix (test_outcome job.now files).out (O.written out.old) (O.written out.new)) }
     ensures unfinished { result ≡ 5 → ForSome (D.files disk.old) (λ files.

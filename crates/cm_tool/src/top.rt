@@ -1,11 +1,13 @@
 //! The top call.
 ghost use Rattle.std.specs.Prelude.{[], ◌≡◌, ◌≢◌, ◌<◌, ◌^◌, ◌⊎◌, ◌↔◌, ◌++◌, ℕ, List, None, map, string_bytes, take};
 ghost use Rattle.std.specs.Option.{ForSome};
+ghost use Rattle.cm_algo_names.specs.declared.algorithm.Algorithm.TheVariants.{Brz};
 ghost use Rattle.cm_io.specs.Causes.{IsSent};
 ghost use Rattle.cm_io.specs.Writing.{then_bytes};
 ghost use Rattle.cm_tool_files.specs.Ends.{Says};
 ghost use Rattle.cm_tool.specs.Outcome.{outcome_of};
 ghost use Rattle.cm_tool.specs.Run.{IsStatus, ForBuild, ForQuery, ForTest, ForText, IfBuild, IsEmptied, UnlessBrz, UnlessBuild, UnlessJob, UnlessQuery, UnlessTest, LacksFile, Reaches, TookFirst, SavedNumbers, KeysSpilled, IsCored, IsUnfinished, IsCutShort, IsMessage};
+ghost use Rattle.cm_tool.specs.Spills.{TestSpilled};
 ghost use Rattle.cm_tool.specs.TestEnds.{GotPrefix, IsUnfinishedTest};
 ghost use Rattle.cm_tool.specs.Tested.{test_outcome};
 ghost use Rattle.cm_words.specs.Meaning.{job_of};
@@ -54,9 +56,10 @@ pub fn run<D: Disk, O: Sink, E: Sink>(
     // BDZ and BRZ map n keys to all numbers below n, and BDZ_PH maps the keys to distinct numbers below its number of cells.
     ensures numbers { result ≡ 0 → ForSome (D.files disk.old) (λ files. ForBuild (job_of (map string_bytes words.now)) (SavedNumbers files (D.files disk.new))) }
 
-    // The spill that a build by BRZ handed back holds the records of the keys: each key once, with its line and its bucket. Other
-    // arguments than those of a build by BRZ or of a test leave the last spill as it was.
+    // The spill that a build by BRZ handed back holds the records of the keys: each key once, with its line and its bucket. That of a
+    // test, which ends with such a build, holds those of the generated keys. Other arguments leave the last spill as it was.
     ensures spilled { result ≡ 0 → ForSome (D.files disk.old) (λ files. ForBuild (job_of (map string_bytes words.now)) (KeysSpilled files (D.spilled disk.old) (D.spilled disk.new))) }
+    ensures test_spilled { result ≡ 0 → ForSome (D.files disk.old) (λ _. ForTest (job_of (map string_bytes words.now)) (λ job. TestSpilled job Brz (D.spilled disk.old) (D.spilled disk.new))) }
     ensures unspilled { UnlessBrz (job_of (map string_bytes words.now)) (D.spilled disk.new ≡ D.spilled disk.old) }
 
     // If the files are known, the status is never 7: neither the keys nor the spill change between passes.

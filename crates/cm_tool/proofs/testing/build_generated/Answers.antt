@@ -1,4 +1,6 @@
-use Rattle.std.proofs.Common.{rules, ◌≡◌}
+use Rattle.std.proofs.Common.{rules, ◌≡◌, subst}
+use Rattle.cm_tool.specs.Spills.{UnlessSpilled}
+use Rattle.cm_tool.specs.declared.plan.Plan.{Plan}
 use Rattle.cm_tool.specs.Jobs.{seeds_of}
 use Rattle.cm_tool.specs.Tested as tested
 use Rattle.cm_tool.proofs.Tests.{fails_test, fault_from, made_by, verdict_from}
@@ -18,3 +20,12 @@ returns-in-Err-clause-fault g c = λ files is.
     let fails = fault_from job c.args.algorithm c.plan_by.result c.as_slice.result.now c.in-Err.fault c.plan_by.ensures.plan tried (c.in-Err.ensures.fault files is (tested.generated job.keys) c.generated_pass-keys.ensures.told) in
     fails_test job c.args.algorithm c.in-Err.fault c.generated_pass-keys.result.faults c.func_of-built.new.keys.faults (g.D.Disk.write_faults c.args.disk.now) (g.D.Disk.write_faults c.func_of-built.new.disk) made c.requires.job.keys.0
     c.generated_pass-keys.ensures.faults c.into_source-text.ensures.faults c.in-Err.ensures.cause fails
+
+pub returns-in-Ok-clause-spilled : goal.returns-in-Ok-clause-spilled
+returns-in-Ok-clause-spilled g c = λ files is. c.in-Ok.ensures.spilled files is (tested.generated c.args.job.now.keys) c.generated_pass-keys.ensures.told
+
+pub returns-in-Ok-clause-unspilled : goal.returns-in-Ok-clause-unspilled
+returns-in-Ok-clause-unspilled g c = subst (λ (p : Plan). UnlessSpilled p.algorithm (g.D.Disk.spilled c.func_of-built.new.disk ≡ g.D.Disk.spilled c.args.disk.now)) c.plan_by.ensures.plan c.in-Ok.ensures.unspilled
+
+pub returns-in-Err-clause-unspilled : goal.returns-in-Err-clause-unspilled
+returns-in-Err-clause-unspilled g c = subst (λ (p : Plan). UnlessSpilled p.algorithm (g.D.Disk.spilled c.func_of-built.new.disk ≡ g.D.Disk.spilled c.args.disk.now)) c.plan_by.ensures.plan c.in-Err.ensures.unspilled

@@ -2,8 +2,8 @@ use Rattle.std.proofs.Common.{[], ◌∙◌, sym}
 use Rattle.cm_tool_files.specs.Ends.{message_of}
 use Rattle.cm_tool.specs.TestEnds.{test_name}
 use Rattle.cm_tool.specs.Tested.{test_outcome}
-use Rattle.cm_tool.proofs.Outcomes.{nothing_said, stop_write}
-use Rattle.cm_tool.proofs.Tests.{done_message, never_changed, part_of_test, test_done, test_known, test_message, test_status, test_stopped, unfinished_test}
+use Rattle.cm_tool.proofs.Outcomes.{nothing_said, stop_failed, stop_write}
+use Rattle.cm_tool.proofs.Tests.{done_message, last_spilled, never_changed, part_of_test, test_done, test_known, test_message, test_status, test_stopped, unfinished_test}
 use Rattle.cm_tool.proofs.testing.run_test.Goals as goal
 
 pub returns-in-Ok-clause-outcome : goal.returns-in-Ok-clause-outcome
@@ -43,3 +43,9 @@ returns-in-Err-clause-err g c =
 
 pub returns-in-Err-clause-write : goal.returns-in-Err-clause-write
 returns-in-Err-clause-write g c = λ low few. rw c.report.ensures.status (stop_write c.in-Err.stop _ _ _ _ _ _ c.in-Err.ensures.cause c.in-Err.ensures.out_cause low few)
+
+pub returns-in-Ok-clause-spilled : goal.returns-in-Ok-clause-spilled
+returns-in-Ok-clause-spilled g c = λ _ files is. last_spilled c.args.job.now _ _ (c.in-Ok.ensures.spilled files is)
+
+pub returns-in-Err-clause-spilled : goal.returns-in-Err-clause-spilled
+returns-in-Err-clause-spilled g c = λ zero. stop_failed c.in-Err.stop (sym c.report.ensures.status ∙ zero)

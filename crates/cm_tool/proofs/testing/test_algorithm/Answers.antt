@@ -17,3 +17,6 @@ returns-clause-ends g c = λ files is.
     let sum = rw c.in-Ok-reload.ensures.same at c.generated_sum-sum.ensures.sum in
     let cut = c.in-Err-print_line.ensures.text in
     line_cut c.args.job.now c.args.algorithm files c.in-Ok.function c.saved_len-bytes.result c.generated_sum-sum.result cut.0 _ _ (c.in-Ok.ensures.made files is) c.saved_len-bytes.ensures sum cut.1
+
+pub returns-in-Ok-print_line-clause-spilled : goal.returns-in-Ok-print_line-clause-spilled
+returns-in-Ok-print_line-clause-spilled g c = λ files is. record { f = c.in-Ok.function; built = c.in-Ok.ensures.made files is; spilled = c.in-Ok.ensures.spilled files is; unspilled = c.in-Ok.ensures.unspilled }

@@ -3,6 +3,7 @@ use Rattle.std.proofs.lemmas.List.{drop_all, drop_more, take-append-drop, take_m
 use Rattle.cm_algo_names.specs.declared.algorithm.Algorithm.{Algorithm}
 use Rattle.cm_algo_names.specs.declared.algorithm.Algorithm.TheVariants.{Chm}
 use Rattle.cm_io.specs.WritingLaws.{then_nothing}
+use Rattle.cm_tool.specs.Spills.{TestsSpilled}
 use Rattle.cm_tool.specs.TestEnds.{EndsTest}
 use Rattle.cm_tool.specs.Tested.{tested_by}
 use Rattle.cm_tool.proofs.Tests.{next_ends, one_more, sent_on, stop_ends, stops_spilling}
@@ -27,6 +28,10 @@ loop-algorithm-preserved g c =
           let a = get_or all i Chm in
           let more = next_ends job a next files old (P.written c.test_algorithm.new.out) new r (done.ends files (known.files ∙ is)) ends in
           subst (λ (l : List Algorithm). EndsTest (tested_by job files l) (P.written c.args.out.now) new r) (sym (one_more all i a next (take_more all i Chm c.loop-algorithm-test.true))) (known.ends files is (a ∷ next) r new more);
+      spilled = λ files is next new left.
+          let a = get_or all i Chm in
+          let D = g.D.Disk in
+          subst (λ (l : List Algorithm). TestsSpilled job l (D.spilled c.args.disk.now) new) (sym (one_more all i a next (take_more all i Chm c.loop-algorithm-test.true))) (known.spilled files is (a ∷ next) new (D.spilled c.test_algorithm.new.disk, done.spilled files (known.files ∙ is), left));
     }
 
 pub returns-in-Err-clause-ends : goal.returns-in-Err-clause-ends
@@ -64,3 +69,12 @@ returns-clause-ends g c = λ files is.
     let old = g.O.Sink.written c.loop-algorithm.out in
     let here = subst (λ (l : List Algorithm). EndsTest (tested_by job files l) old old (Ok tt)) (sym (drop_all i all c.loop-algorithm-test.false)) (refl, refl, then_nothing old) in
     subst (λ (l : List Algorithm). EndsTest (tested_by job files l) (g.O.Sink.written c.args.out.now) old (Ok tt)) (take-append-drop i all) (c.loop-algorithm.invariant.ends files is (drop i all) (Ok tt) old here)
+
+pub returns-clause-spilled : goal.returns-clause-spilled
+returns-clause-spilled g c = λ files is.
+    let job = c.args.job.now in
+    let all = c.args.algorithms.now in
+    let i = c.loop-algorithm.algorithm-index in
+    let D = g.D.Disk in
+    let here = subst (λ (l : List Algorithm). TestsSpilled job l (D.spilled c.loop-algorithm.disk) (D.spilled c.loop-algorithm.disk)) (sym (drop_all i all c.loop-algorithm-test.false)) refl in
+    subst (λ (l : List Algorithm). TestsSpilled job l (D.spilled c.args.disk.now) (D.spilled c.loop-algorithm.disk)) (take-append-drop i all) (c.loop-algorithm.invariant.spilled files is (drop i all) (D.spilled c.loop-algorithm.disk) here)

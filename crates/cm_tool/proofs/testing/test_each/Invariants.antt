@@ -3,6 +3,7 @@ use Rattle.std.specs.Option.{ForSome}
 use Rattle.cm_algo_names.specs.declared.algorithm.Algorithm.{Algorithm}
 use Rattle.cm_io.specs.Causes.{IsSent}
 use Rattle.cm_tool_files.specs.declared.stop.Stop.{Stop}
+use Rattle.cm_tool.specs.Spills.{TestsSpilled}
 use Rattle.cm_tool.specs.TestEnds.{EndsTest}
 use Rattle.cm_tool.specs.Tested.{tested_by}
 use Rattle.cm_tool.proofs.testing.test_each.Given as goal
@@ -19,4 +20,6 @@ invariant-loop-algorithm g l =
       sent : O.waits l.fn.out ≡ 0 → IsSent (O.waits l.out) (O.faults l.fn.out) (O.faults l.out);
       ends : ForSome (D.files l.fn.disk) (λ files. (next : List Algorithm) (r : Result (Unit {0}) Stop) (new : Option (List ℕ)) → EndsTest (tested_by l.job files next) (O.written l.out) new r
           → EndsTest (tested_by l.job files (take l.algorithm-index l.algorithms ++ next)) (O.written l.fn.out) new r);
+      spilled : ForSome (D.files l.fn.disk) (λ _. (next : List Algorithm) (new : Option (List ℕ)) → TestsSpilled l.job next (D.spilled l.disk) new
+          → TestsSpilled l.job (take l.algorithm-index l.algorithms ++ next) (D.spilled l.fn.disk) new);
     }
