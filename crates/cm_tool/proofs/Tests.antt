@@ -408,6 +408,6 @@ no_fault n place key_fault.TooMany old new made start end cause stops = let fine
 
 -- only BRZ hands back a spill, and it is tested last
 pub last_spilled : (job : TestJob) (old new : Option (List ℕ)) → TestsSpilled job algorithms old new → TestSpilled job Brz old new
-last_spilled job old new (a, chm, b, bdz, d, bdz_ph, e, brz, same) =
+last_spilled job old new (a, chm, (b, bdz, (d, bdz_ph, (e, brz, same)))) =
     let before : d ≡ old = bdz_ph.unspilled ∙ (bdz.unspilled ∙ chm.unspilled) in
     subst (λ (x : Option (List ℕ)). TestSpilled job Brz old x) (sym same) (subst (λ (x : Option (List ℕ)). TestSpilled job Brz x e) before brz)
