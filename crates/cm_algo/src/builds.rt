@@ -5,6 +5,7 @@ ghost use Rattle.cm_algo_seeds.specs.Builds.{IsBuilt};
 ghost use Rattle.cm_algo_seeds.specs.Fails.{FailsBuild, FoundEqual, HasBuildCause, HasBuildFailure, HasCounted, HasForm, HasNumbers};
 ghost use Rattle.cm_spec.specs.Cells.{is_busy};
 ghost use Rattle.cm_spec.specs.Rule.{IsRatio};
+ghost use Rattle.cm_io.specs.declared.key_pass.TheConstants.{MAX_KEYS};
 
 use cm_algo_scheme::{Built, Scheme};
 use cm_algo_seeds::{BuildFault, build_first, build_later, certify};
@@ -30,7 +31,7 @@ pub fn build<S: Scheme<K>, I: Incidence<K> + Drop, P: KeyPass, const K: usize, L
     ensures told { P.told keys.new ≡ P.told keys.old }
     ensures cause { HasBuildCause (P.faults keys.old) (P.faults keys.new) result }
     ensures failed { IfErr result (HasBuildFailure (P.failure keys.new)) }
-    ensures many { IfOk result (λ b. (1 ≤ b.m) × (b.m ≤ 16777216) × (b.c ≡ c)) }
+    ensures many { IfOk result (λ b. (1 ≤ b.m) × (b.m ≤ MAX_KEYS) × (b.c ≡ c)) }
     ensures cells { IfOk result (λ b. (S.Table.bound_of b.cells ≡ (S.rule scheme.now).bound b.m) × (length (S.Table.cells b.cells) ≡ (S.rule scheme.now).size b.m c)) }
     ensures busy { IfOk result (λ b. (S.rule scheme.now).modulus b.m ≤ (S.rule scheme.now).idle → count_by (is_busy (S.rule scheme.now).idle) (S.Table.cells b.cells) ≡ b.m) }
     ensures seed { IfOk result (λ b. Contains seeds.now b.seed) }

@@ -1,6 +1,7 @@
 -- The result of a build over numbered keys.
 use Rattle.std.specs.Prelude.{◌≡◌, ◌≢◌, ℕ, ◌+◌, ◌*◌, ◌≤◌, List, [], Contains, count_by, length, None, Some}
 use Rattle.cm_io.specs.Passes.{Told}
+use Rattle.cm_io.specs.declared.key_pass.TheConstants.{MAX_KEYS}
 use Rattle.cm_spec.specs.Cells.{AreSolved, cells_of, is_busy, plan_of}
 use Rattle.cm_spec.specs.Rounds.{rest_of}
 use Rattle.cm_spec.specs.Rule.{Rule}
@@ -30,7 +31,7 @@ pub record IsBuilt (r : Rule) (keys : List (ℕ × List ℕ)) (c : ℕ) (seeds :
 -- the numbers and the table of a function, whatever the keys are: it was built at this ratio under a seed of the list, and its table has
 -- the bound and the cells that the rule gives this many keys
 pub record IsMade (r : Rule) (c : ℕ) (seeds : List ℕ) (m ratio seed bound : ℕ) (cells : List ℕ) : Type 0 where
-  pub many : (1 ≤ m) × (m ≤ 16777216) × (ratio ≡ c)
+  pub many : (1 ≤ m) × (m ≤ MAX_KEYS) × (ratio ≡ c)
   pub sizes : (bound ≡ r.bound m) × (length cells ≡ r.size m c)
   pub busy : r.modulus m ≤ r.idle → count_by (is_busy r.idle) cells ≡ m
   pub chosen : Contains seeds seed

@@ -8,6 +8,7 @@ ghost use Rattle.cm_spec.specs.Rule.{IsSize};
 ghost use Rattle.cm_witness.specs.Gathers.{FailsGather, HasFailure, HasGatherCause, HasOther};
 ghost use Rattle.cm_witness.specs.declared.certificate.GatherFault.TheVariants as gather_fault;
 ghost use Rattle.cm_io.specs.Passes.{IsToldFault};
+ghost use Rattle.cm_io.specs.declared.key_pass.TheConstants.{MAX_KEYS};
 ghost use Rattle.cm_algo_seeds.specs.Hashed.{GivesWords};
 
 use cm_algo_scheme::{Divisor, Scheme};
@@ -22,7 +23,7 @@ pub fn count_all<P: KeyPass>(keys: &mut P, key: &mut KeyBuf) -> Result<u32, KeyF
     ensures told { P.told keys.new ≡ P.told keys.old }
     ensures cause { HasKeyCause (P.faults keys.old) (P.faults keys.new) result }
     ensures failed { IfErr result (λ fault. P.failure keys.new ≡ Some fault) }
-    ensures few { IfOk result (λ n. n ≤ 16777216) }
+    ensures few { IfOk result (λ n. n ≤ MAX_KEYS) }
     ensures given { IfOk result (λ n. P.place keys.new ≡ n) }
     ensures at_end { OnOk result (P.at_end keys.new) }
     ensures gave { IfOk result (λ n. (passed : List (ℕ × List ℕ)) × P.gave keys.new passed × (length passed ≡ n)) }
@@ -200,7 +201,7 @@ pub(crate) fn hash_all<S: Scheme<K>, P: KeyPass, const K: usize>(
     edges: &mut Edges<K>,
     tags: &mut Vec<u32>,
 ) -> Result<(), GatherFault>
-    requires few { m ≤ 16777216 }
+    requires few { m ≤ MAX_KEYS }
     requires room { m ≤ edges.old.room }
     requires tag_room { S.KEEPS_TAGS ≡ true → m ≤ vec_capacity tags.old }
     requires size { IsSize (S.rule scheme.now) edges.old.vertices }

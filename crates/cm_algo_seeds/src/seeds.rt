@@ -10,6 +10,7 @@ ghost use Rattle.cm_witness.specs.Gathers.{FailsGather, HasFailure, HasGatherCau
 ghost use Rattle.cm_algo_seeds.specs.Builds.{IsGiven, IsBuilt, IsLeft, IsMade, IsSolution};
 ghost use Rattle.cm_algo_seeds.specs.Fails.{FailsBuild, HasBuildCause, HasBuildFailure, HasCounted, HasForm, HasNumbers, ShowsCore};
 ghost use Rattle.cm_algo_seeds.specs.declared.fault.BuildFault.TheVariants as build_fault;
+ghost use Rattle.cm_io.specs.declared.key_pass.TheConstants.{MAX_KEYS};
 
 use crate::fault::BuildFault;
 use crate::passes::{count_all, hash_all};
@@ -65,7 +66,7 @@ fn attempt<S: Scheme<K>, I: Incidence<K> + Drop, P: KeyPass, const K: usize, L: 
     seed: u32,
     steps: &mut Steps<L>,
 ) -> Result<Result<S::Table, Left<K>>, GatherFault>
-    requires many { (1 ≤ m) × (m ≤ 16777216) }
+    requires many { (1 ≤ m) × (m ≤ MAX_KEYS) }
     requires ratio { IsRatio c }
     ensures told { P.told keys.new ≡ P.told keys.old }
     ensures cause { HasGatherCause (P.faults keys.old) (P.faults keys.new) result }
@@ -142,7 +143,7 @@ pub fn build_with<S: Scheme<K>, I: Incidence<K> + Drop, P: KeyPass, const K: usi
     ensures told { P.told keys.new ≡ P.told keys.old }
     ensures cause { HasBuildCause (P.faults keys.old) (P.faults keys.new) result }
     ensures failed { IfErr result (HasBuildFailure (P.failure keys.new)) }
-    ensures many { IfOk result (λ b. (1 ≤ b.m) × (b.m ≤ 16777216) × (b.c ≡ c)) }
+    ensures many { IfOk result (λ b. (1 ≤ b.m) × (b.m ≤ MAX_KEYS) × (b.c ≡ c)) }
     ensures cells { IfOk result (λ b. (S.Table.bound_of b.cells ≡ (S.rule scheme.now).bound b.m) × (length (S.Table.cells b.cells) ≡ (S.rule scheme.now).size b.m c)) }
     ensures busy { IfOk result (λ b. (S.rule scheme.now).modulus b.m ≤ (S.rule scheme.now).idle → count_by (is_busy (S.rule scheme.now).idle) (S.Table.cells b.cells) ≡ b.m) }
     ensures seed { IfOk result (λ b. Contains seeds.now b.seed) }
@@ -189,7 +190,7 @@ pub fn build_first<S: Scheme<K>, I: Incidence<K> + Drop, P: KeyPass, const K: us
     ensures made { IfOk result (λ o. IfOk o (λ b. IsMade (S.rule scheme.now) c seeds.now b.m b.c b.seed (S.Table.bound_of b.cells) (S.Table.cells b.cells))) }
     ensures first { IfOk result (λ o. IfOk o (λ b. ForSome (P.told keys.old) (λ told. (told.fault ≡ None) × IsBuilt (S.rule scheme.now) told.keys c seeds.now b.m b.seed (S.Table.cells b.cells) K steps.old steps.new))) }
     ensures peeled { IfOk result (λ o. IfErr o (λ left. left.peeled.rest ≡ rest_of left.edges.edges)) }
-    ensures long { IfOk result (λ o. IfErr o (λ left. (1 ≤ length left.edges.edges) × (length left.edges.edges ≤ 16777216))) }
+    ensures long { IfOk result (λ o. IfErr o (λ left. (1 ≤ length left.edges.edges) × (length left.edges.edges ≤ MAX_KEYS))) }
     ensures passed { IfOk result (λ o. IfErr o (λ left. HasPassed P.at_end P.place (length left.edges.edges))) }
     ensures left { IfOk result (λ o. IfErr o (λ left. ForSome (P.told keys.old) (λ told. IsLeft (S.rule scheme.now) told c (slice_index seeds.now 0) left.edges.edges))) }
     ensures fault { IfErr result (λ e. ForSome (P.told keys.old) (λ told. FailsBuild (S.rule scheme.now) told c seeds.now e)) }
@@ -221,7 +222,7 @@ pub fn build_later<S: Scheme<K>, I: Incidence<K> + Drop, P: KeyPass, const K: us
     seeds: &[u32],
     steps: &mut Steps<L>,
 ) -> Result<Option<Built<S::Table>>, GatherFault>
-    requires many { (1 ≤ m) × (m ≤ 16777216) }
+    requires many { (1 ≤ m) × (m ≤ MAX_KEYS) }
     requires ratio { IsRatio c }
     requires some { 0 < length seeds.now }
     requires left { ForSome (P.told keys.old) (λ told. rest_of (graph_of (S.rule scheme.now) told.keys c (slice_index seeds.now 0)) ≢ []) }

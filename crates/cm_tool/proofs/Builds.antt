@@ -22,6 +22,7 @@ use Rattle.cm_io.specs.Causes.{Collects}
 use Rattle.cm_io.specs.Files.{Files, file_at, with_file}
 use Rattle.cm_io.specs.Passes.{Told}
 use Rattle.cm_io.specs.declared.key_pass.KeyFault.TheVariants as key_fault
+use Rattle.cm_io.specs.declared.key_pass.TheConstants.{MAX_KEYS}
 use Rattle.cm_peel.specs.CoreLaws.{rest_is_core}
 use Rattle.cm_algo_seeds.specs.Fails.{FailsBuild, HasBuildCause, HasForm, HasNumbers, ShowsCore}
 use Rattle.cm_algo_seeds.specs.declared.fault.BuildFault.{BuildFault}
@@ -77,7 +78,7 @@ abbrev shown_is : Reason → List ℕ → Result Func Shown
 shown_is reason report = Err (record { reason = reason; report = report })
 
 -- a build under one seed gives the function of the keys
-func_from : (algorithm : Algorithm) (r : Rule) (b : ℕ) (told : Told) (c : ℕ) (seeds : List ℕ) (f : Func) (m seed : ℕ) (cells : List ℕ) → 1 ≤ m → m ≤ 16777216 → IsBuiltFrom r told c seeds m seed cells
+func_from : (algorithm : Algorithm) (r : Rule) (b : ℕ) (told : Told) (c : ℕ) (seeds : List ℕ) (f : Func) (m seed : ℕ) (cells : List ℕ) → 1 ≤ m → m ≤ MAX_KEYS → IsBuiltFrom r told c seeds m seed cells
     → verdict_by algorithm b told.keys c seeds ≡ Ok f → IsMadeBy algorithm b told.keys c seeds f → IsFuncOf algorithm b told c seeds f
 func_from algorithm r b told c seeds f m seed cells some few built verdict made = record {
   no_fault = built.no_fault;
@@ -89,7 +90,7 @@ func_from algorithm r b told c seeds f m seed cells some few built verdict made 
 takes_first : (r : Rule) (told : Told) (c : ℕ) (seeds : List ℕ) (m seed other : ℕ) (cells : List ℕ) → other ≡ seed → IsBuiltFrom r told c seeds m seed cells → TakesFirst r told.keys c seeds other
 takes_first r told c seeds m seed other cells is built = (built.place, subst (λ (s : ℕ). IsFirst r told.keys c seeds built.place s) (sym is) built.first)
 
-pub chm_from : (told : Told) (c b : ℕ) (seeds : List ℕ) (f : Chm) (m seed : ℕ) (cells : List ℕ) → 1 ≤ m → m ≤ 16777216 → IsBuiltFrom chm_rule told c seeds m seed cells
+pub chm_from : (told : Told) (c b : ℕ) (seeds : List ℕ) (f : Chm) (m seed : ℕ) (cells : List ℕ) → 1 ≤ m → m ≤ MAX_KEYS → IsBuiltFrom chm_rule told c seeds m seed cells
     → f.keys ≡ m → f.ratio ≡ c → f.seed ≡ seed → f.cells ≡ cells → IsFuncOf algorithms.Chm b told c seeds (func.Chm f)
 chm_from told c b seeds f m seed cells some few built keys_are ratio_is seed_is cells_are =
     let is : f ≡ chm_under told.keys c seed = chm_by_parts f told.keys c seed (keys_are ∙ built.many) ratio_is seed_is (cells_are ∙ built.cells_are) in
@@ -97,7 +98,7 @@ chm_from told c b seeds f m seed cells some few built keys_are ratio_is seed_is 
     (ap (seeded (λ (s : ℕ). func.Chm (chm_under told.keys c s)) (verdicts.report_by algorithms.Chm chm_rule told.keys c seeds)) built.chosen ∙ ap (λ (g : Chm). let v : Result Func Shown = Ok (func.Chm g) in v) (sym is))
     (is ∙ ap (chm_under told.keys c) (sym seed_is), takes_first chm_rule told c seeds m seed f.seed cells seed_is built)
 
-pub bdz_from : (told : Told) (c b : ℕ) (seeds : List ℕ) (f : Bdz) (m seed : ℕ) (cells : List ℕ) → 1 ≤ m → m ≤ 16777216 → IsBuiltFrom bdz_rule told c seeds m seed cells
+pub bdz_from : (told : Told) (c b : ℕ) (seeds : List ℕ) (f : Bdz) (m seed : ℕ) (cells : List ℕ) → 1 ≤ m → m ≤ MAX_KEYS → IsBuiltFrom bdz_rule told c seeds m seed cells
     → f.keys ≡ m → f.ratio ≡ c → f.seed ≡ seed → f.shift ≡ b → f.cells ≡ cells → IsFuncOf algorithms.Bdz b told c seeds (func.Bdz f)
 bdz_from told c b seeds f m seed cells some few built keys_are ratio_is seed_is shift_is cells_are =
     let is : f ≡ bdz_under told.keys c seed b = bdz_by_parts f told.keys c seed b (keys_are ∙ built.many) ratio_is seed_is shift_is (cells_are ∙ built.cells_are) in
@@ -105,7 +106,7 @@ bdz_from told c b seeds f m seed cells some few built keys_are ratio_is seed_is 
     (ap (seeded (λ (s : ℕ). func.Bdz (bdz_under told.keys c s b)) (verdicts.report_by algorithms.Bdz bdz_rule told.keys c seeds)) built.chosen ∙ ap (λ (g : Bdz). let v : Result Func Shown = Ok (func.Bdz g) in v) (sym is))
     (is ∙ ap (λ (s : ℕ). bdz_under told.keys c s b) (sym seed_is), takes_first bdz_rule told c seeds m seed f.seed cells seed_is built)
 
-pub bdz_ph_from : (told : Told) (c b : ℕ) (seeds : List ℕ) (f : BdzPh) (m seed : ℕ) (cells : List ℕ) → 1 ≤ m → m ≤ 16777216 → IsBuiltFrom bdz_ph_rule told c seeds m seed cells
+pub bdz_ph_from : (told : Told) (c b : ℕ) (seeds : List ℕ) (f : BdzPh) (m seed : ℕ) (cells : List ℕ) → 1 ≤ m → m ≤ MAX_KEYS → IsBuiltFrom bdz_ph_rule told c seeds m seed cells
     → f.keys ≡ m → f.ratio ≡ c → f.seed ≡ seed → f.cells ≡ cells → IsFuncOf algorithms.BdzPh b told c seeds (func.BdzPh f)
 bdz_ph_from told c b seeds f m seed cells some few built keys_are ratio_is seed_is cells_are =
     let is : f ≡ bdz_ph_under told.keys c seed = bdz_ph_by_parts f told.keys c seed (keys_are ∙ built.many) ratio_is seed_is (cells_are ∙ built.cells_are) in

@@ -16,6 +16,7 @@ use Rattle.cm_io.specs.Writing.{then_bytes}
 use Rattle.cm_io.specs.WritingLaws.{front_of_first, later_front, then_nothing, then_twice}
 use Rattle.cm_io.specs.declared.key_pass.KeyFault.{KeyFault}
 use Rattle.cm_io.specs.declared.key_pass.KeyFault.TheVariants as key_fault
+use Rattle.cm_io.specs.declared.key_pass.TheConstants.{MAX_KEYS, MAX_KEY_LEN}
 use Rattle.cm_query.specs.Stops.{StopsAt}
 use Rattle.cm_query.specs.Sums.{answer_sum}
 use Rattle.cm_query.specs.declared.fault.QueryFault.TheVariants.{Key}
@@ -396,7 +397,7 @@ pub fault_from : (job : TestJob) (algorithm : Algorithm) (plan : Plan) (seeds : 
 fault_from job algorithm plan seeds fault plan_is seeds_are fails = rw (plan_is, seeds_are) at fails
 
 -- the law of generated keys, said of a pass over them
-pub made_by : (n : ℕ) → AreMade n (lines_of 16777216 65535 10 None (made_text n)) → AreMade n (tested.generated n)
+pub made_by : (n : ℕ) → AreMade n (lines_of MAX_KEYS MAX_KEY_LEN 10 None (made_text n)) → AreMade n (tested.generated n)
 unfolding tested.generated
 made_by n made = made
 

@@ -10,6 +10,7 @@ ghost use Rattle.cm_tool.specs.Faults.{FailsFunc, HasFuncCause, HasStopForm, sto
 ghost use Rattle.cm_tool.specs.Leaves.{IsBuiltFrom, IsFuncOf};
 ghost use Rattle.cm_tool.specs.Plans.{IsPlan};
 ghost use Rattle.cm_tool.specs.Spills.{HasSpilled, UnlessSpilled};
+ghost use Rattle.cm_io.specs.declared.key_pass.TheConstants.{MAX_KEYS};
 
 use crate::fault::{FuncFault, fault_of_brz};
 use crate::plan::Plan;
@@ -43,7 +44,7 @@ fn build_by<S: Scheme<K>, P: KeyPass, const K: usize, L: Ledger>(
     requires seeds { 0 < length seeds.now }
     ensures told { P.told keys.new ≡ P.told keys.old }
     ensures cause { HasBuildCause (P.faults keys.old) (P.faults keys.new) result }
-    ensures many { IfOk result (λ b. (1 ≤ b.m) × (b.m ≤ 16777216) × (b.c ≡ c)) }
+    ensures many { IfOk result (λ b. (1 ≤ b.m) × (b.m ≤ MAX_KEYS) × (b.c ≡ c)) }
     ensures cells { IfOk result (λ b. (S.Table.bound_of b.cells ≡ (S.rule scheme.now).bound b.m) × (length (S.Table.cells b.cells) ≡ (S.rule scheme.now).size b.m c)) }
     ensures busy { IfOk result (λ b. (S.rule scheme.now).modulus b.m ≤ (S.rule scheme.now).idle → count_by (is_busy (S.rule scheme.now).idle) (S.Table.cells b.cells) ≡ b.m) }
     ensures first { IfOk result (λ b. ForSome (P.told keys.old) (λ told. IsBuiltFrom (S.rule scheme.now) told c seeds.now b.m b.seed (S.Table.cells b.cells))) }

@@ -8,6 +8,7 @@ ghost use Rattle.cm_words_values.specs.Limits.{IsBuffer};
 ghost use Rattle.cm_words_values.specs.Options.{bits_value, usual_ratio};
 ghost use Rattle.cm_io.specs.Causes.{HasCause, IsSent};
 ghost use Rattle.cm_io.specs.Writing.{Writes};
+ghost use Rattle.cm_io.specs.declared.key_pass.TheConstants.{MAX_KEYS};
 ghost use Rattle.cm_query.specs.Sums.{answer_sum};
 ghost use Rattle.cm_tool_files.specs.Ends.{Says};
 ghost use Rattle.cm_tool.specs.Faults.{HasFuncCause, HasStopForm, stop_for};
@@ -40,7 +41,7 @@ use std::sync::ledger::Blank;
 /// A pass over n generated keys.
 fn generated_pass(n: u32) -> Keys<MadeKeys>
     requires some { 1 ≤ n }
-    requires few { n ≤ 16777216 }
+    requires few { n ≤ MAX_KEYS }
     ensures told { ⟦<Keys<MadeKeys> as KeyPass>⟧.told result ≡ Some (generated n) }
     ensures place { ⟦<Keys<MadeKeys> as KeyPass>⟧.place result ≡ 0 }
     ensures usable { ⟦<Keys<MadeKeys> as KeyPass>⟧.usable result ≡ true }
@@ -127,7 +128,7 @@ fn build_generated<D: Disk>(
 /// The sum of a function's answers to n generated keys. A key without an answer counts 0.
 fn generated_sum(function: &Func, n: u32) -> u64
     requires some { 1 ≤ n }
-    requires few { n ≤ 16777216 }
+    requires few { n ≤ MAX_KEYS }
     ensures sum { result ≡ answer_sum (answer_by function.now) (generated n).keys }
 {
     // A law, for the proof alone.

@@ -11,6 +11,7 @@ use Rattle.cm_io.specs.Passes.{Told}
 use Rattle.cm_io.specs.Writing.{then_bytes}
 use Rattle.cm_io.specs.declared.key_pass.KeyFault.{KeyFault}
 use Rattle.cm_io.specs.declared.key_pass.KeyFault.TheVariants as key_fault
+use Rattle.cm_io.specs.declared.key_pass.TheConstants.{MAX_KEYS, MAX_KEY_LEN}
 use Rattle.cm_keys.specs.Lines.{lines_of}
 use Rattle.cm_query.specs.Tallies.{tally_of}
 use Rattle.cm_query.specs.Texts.{notes_of, text_of}
@@ -70,7 +71,7 @@ RefusesDump files path TooMany = ⊥
 
 -- the keys of a file: its lines without their ends, the first ones or all, at most 16,777,216 of them, of at most 65,535 bytes each
 abbrev pub keys_in : Option ℕ → List ℕ → Told
-keys_in first bytes = lines_of 16777216 65535 10 first bytes
+keys_in first bytes = lines_of MAX_KEYS MAX_KEY_LEN 10 first bytes
 
 -- the keys of a query's keys file, and none if there is no file
 abbrev pub keys_or_none : Option ℕ → Option (List ℕ) → List (ℕ × List ℕ)

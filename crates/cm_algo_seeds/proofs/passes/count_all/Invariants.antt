@@ -1,5 +1,6 @@
 use Rattle.std.proofs.Common.{◌≡◌, ◌≤◌, true, ℕ, List, length}
 use Rattle.cm_algo_seeds.proofs.passes.count_all.Given as goal
+use Rattle.cm_io.specs.declared.key_pass.TheConstants.{MAX_KEYS}
 
 abbrev pub invariant-loop-turn : goal.invariant-loop-turn
 invariant-loop-turn g l =
@@ -10,6 +11,6 @@ invariant-loop-turn g l =
       quiet : P.faults l.keys ≡ P.faults l.fn.keys;
       at : P.place l.keys ≡ l.count;
       some : l.turn ≤ l.count;
-      few : l.count ≤ 16777216;
+      few : l.count ≤ MAX_KEYS;
       gave : (passed : List (ℕ × List ℕ)) × P.gave l.keys passed × (length passed ≡ l.count);
     }

@@ -3,6 +3,7 @@ use Rattle.std.specs.Option.{ForSome}
 use Rattle.cm_bits.specs.Held.{packed_cells}
 use Rattle.cm_io.specs.Noting.{Noted}
 use Rattle.cm_io.specs.Writing.{then_bytes}
+use Rattle.cm_io.specs.declared.key_pass.TheConstants.{MAX_KEYS}
 use Rattle.cm_query.proofs.ProgressLemmas.{SoFar}
 use Rattle.cm_query_batch.specs.Waiting.{AreAnswers}
 use Rattle.cm_query.proofs.answering.query.Given as goal
@@ -19,7 +20,7 @@ invariant-keys g l =
       quiet : P.faults l.keys ≡ P.faults l.fn.keys;
       quiet_out : O.faults l.out ≡ O.faults l.fn.out;
       at : P.place l.keys ≡ l.tally.lines + length l.batch.keys;
-      few : P.place l.keys ≤ 16777216;
+      few : P.place l.keys ≤ MAX_KEYS;
       counts : l.tally.repeated + l.tally.unknown ≤ l.tally.lines;
       size : length (packed_cells 2 8 l.marks.n l.marks.bytes.items) ≡ A.span_of l.function;
       sent : O.waits l.fn.out ≡ 0 → (0 < length l.batch.keys) ⊎ (((key : List ℕ) × P.stands l.keys key) ⊎ (O.waits l.out ≡ 0));
@@ -33,4 +34,4 @@ invariant-keys g l =
     }
 
 abbrev pub decreases-keys : goal.decreases-keys
-decreases-keys g l = 16777216 - l.tally.lines
+decreases-keys g l = MAX_KEYS - l.tally.lines
