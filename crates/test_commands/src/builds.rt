@@ -1,4 +1,5 @@
-ghost use Rattle.std.specs.Prelude.{◌≡◌, ◌⊎◌, ◌<◌, ◌≤◌, ◌+◌, None, length, slice_index_or};
+ghost use Rattle.std.specs.Prelude.{◌≡◌, ◌⊎◌, ◌<◌, ◌≤◌, ◌+◌, None, length, slice_index_or, true};
+ghost use Rattle.test_commands.specs.Changing.{letter_at};
 
 use crate::equal::{expect_equal, expect_true};
 use cm_algo::{BuildFault, Built, assign, build};
@@ -17,7 +18,7 @@ use std::test::Fail;
 const LETTERS: u32 = 26;
 
 /// Keys whose number changes from pass to pass, after `refusals` rewinds that fail. They are the keys a, b, c and so on. They are not
-/// known. After the last pass there are none. No key is buffered.
+/// known. After the last pass there are none. The next key may be buffered, but none is at first.
 #[derive(Drop)]
 struct Changing<'a> {
     refusals: usize,
@@ -27,7 +28,10 @@ struct Changing<'a> {
     usable: bool,
     failure: Option<KeyFault>,
     faults: u64,
+    letter: [u8; 1],
+    buffered: bool,
     ghost few: { given ≤ 16777216 },
+    ghost next: { buffered ≡ true → letter ≡ letter_at given },
 }
 
 /// Keys with these numbers of keys in the passes.
@@ -40,11 +44,13 @@ fn keys_of<'a>(refusals: usize, counts: &'a [u32]) -> Changing<'a> {
         usable: false,
         failure: None,
         faults: 0,
+        letter: [0],
+        buffered: false,
     }
 }
 
 impl KeyPass for Changing<'_> {
-    ghost use Rattle.test_commands.specs.Changing.{letters_up_to};
+    ghost use Rattle.test_commands.specs.Changing.{letter_at, letters_up_to};
 
     ghost told = { λ _. None };
 
@@ -62,7 +68,7 @@ impl KeyPass for Changing<'_> {
 
     ghost at_end = { λ p. slice_index_or p.counts.now p.pass 0 ≤ p.given ⊎ (p.given ≡ 16777216) };
 
-    ghost stands = { λ _ _. ⊥ };
+    ghost stands = { λ p key. (p.buffered ≡ true) × (p.given < 16777216) × (key ≡ letter_at p.given) };
 
     ghost next_line = { λ p. p.given + 1 };
 
@@ -72,6 +78,7 @@ impl KeyPass for Changing<'_> {
 
     fn next(&mut self, key: &mut KeyBuf) -> Result<bool, KeyFault> {
         self.failure = None;
+        self.buffered = false;
         let count = self.counts.get(self.pass).copied().unwrap_or(0);
         if self.given >= count || self.given == MAX_KEYS {
             return Ok(false);
@@ -83,10 +90,16 @@ impl KeyPass for Changing<'_> {
     }
 
     fn peek(&self) -> Option<(u32, &[u8])> {
-        None
+        if !self.buffered || self.given == MAX_KEYS {
+            return None;
+        }
+        Some((self.given + 1, &self.letter))
     }
 
-    fn pass(&mut self, _len: usize) {}
+    fn pass(&mut self, _len: usize) {
+        self.buffered = false;
+        self.given += 1;
+    }
 
     fn hash_four(&mut self, _seed: u32) -> Option<[[u32; 3]; 4]> {
         None
@@ -103,6 +116,7 @@ impl KeyPass for Changing<'_> {
         if self.given > 0 {
             self.pass = self.pass.saturating_add(1);
         }
+        self.buffered = false;
         self.given = 0;
         self.usable = true;
         self.failure = None;
