@@ -1,6 +1,7 @@
 // Edges that look random, by their numbers.
 ghost use Rattle.std.specs.Prelude.{◌*◌, ◌<◌, ◌≤◌};
 ghost use Rattle.cm_spec.specs.Graph.{IsEdge};
+ghost use Rattle.cm_spec.specs.declared.limits.TheConstants.{MAX_EDGES, MAX_VERTICES};
 
 use crate::random::{below, random};
 use cm_graph::Edges;
@@ -9,7 +10,7 @@ use std::alloc::{AllocError, Global};
 /// An edge with one end in each third of the vertices.
 #[inline]
 fn triple(e: u32, third: u32) -> [u32; 3]
-    requires turns { e ≤ 67108864 }
+    requires turns { e ≤ MAX_EDGES }
     requires some { 0 < third }
     requires few { third ≤ 223696215 }
     ensures { IsEdge (3 * third) result }
@@ -24,9 +25,9 @@ fn triple(e: u32, third: u32) -> [u32; 3]
 /// An edge with two ends anywhere.
 #[inline]
 fn pair(e: u32, n: u32) -> [u32; 2]
-    requires turns { e ≤ 67108864 }
+    requires turns { e ≤ MAX_EDGES }
     requires some { 2 ≤ n }
-    requires few { n ≤ 671088645 }
+    requires few { n ≤ MAX_VERTICES }
     ensures { IsEdge n result }
 {
     let first = below(random(2 * e), n);
@@ -41,7 +42,7 @@ fn pair(e: u32, n: u32) -> [u32; 2]
 /// Edges with three ends over three times `third` vertices.
 #[inline(never)]
 pub fn triples(alloc: Global, m: u32, third: u32) -> Result<Edges<3>, AllocError>
-    requires edges { m ≤ 67108864 }
+    requires edges { m ≤ MAX_EDGES }
     requires some { 0 < third }
     requires few { third ≤ 223696215 }
 {
@@ -55,9 +56,9 @@ pub fn triples(alloc: Global, m: u32, third: u32) -> Result<Edges<3>, AllocError
 /// Edges with two ends over `n` vertices.
 #[inline(never)]
 pub fn pairs(alloc: Global, m: u32, n: u32) -> Result<Edges<2>, AllocError>
-    requires edges { m ≤ 67108864 }
+    requires edges { m ≤ MAX_EDGES }
     requires some { 2 ≤ n }
-    requires few { n ≤ 671088645 }
+    requires few { n ≤ MAX_VERTICES }
 {
     let mut edges = Edges::<2>::with_capacity(alloc, n, m)?;
     for e in 0..m {

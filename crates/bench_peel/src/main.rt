@@ -5,9 +5,11 @@
 #![tactic(auto)]
 
 ghost use Rattle.std.specs.Prelude.{◌≡◌, ◌≤◌, length};
+ghost use Rattle.cm_spec.specs.declared.limits.TheConstants.{MAX_EDGES};
 
 use cm_graph::Edges;
 use cm_peel::Peeled;
+use cm_spec::MAX_EDGES;
 use std::alloc::Global;
 use std::rt::Clock;
 use std::time::Instant;
@@ -16,9 +18,6 @@ use std::{env, io};
 mod made;
 mod peeling;
 mod random;
-
-// How many edges there are at most.
-const MAX_EDGES: u32 = 67_108_864;
 
 // How many edges a graph has, how many vertices for 1,000 edges, and whether times are printed.
 #[derive(Clone, Copy)]
@@ -31,7 +30,7 @@ struct Plan {
 impl Plan {
     // Check sums alone.
     fn summed(vertices: u32) -> Plan
-        ensures edges { result.edges ≤ 67108864 }
+        ensures edges { result.edges ≤ MAX_EDGES }
         ensures vertices { result.vertices ≡ vertices }
     {
         Plan {
@@ -108,7 +107,7 @@ fn tell_sums<const K: usize>(
 
 // Edges with three ends, one in each third of the vertices: filled, peeled and printed.
 fn triples(rt: &(impl Print + Clock), alloc: Global, plan: Plan) -> io::Result<()>
-    requires edges { plan.edges ≤ 67108864 }
+    requires edges { plan.edges ≤ MAX_EDGES }
     requires vertices { plan.vertices ≤ 3000 }
 {
     let third = plan.edges as u64 * plan.vertices as u64 / 3000 + 1;
@@ -123,7 +122,7 @@ fn triples(rt: &(impl Print + Clock), alloc: Global, plan: Plan) -> io::Result<(
 
 // Edges with two ends anywhere: filled, peeled and printed.
 fn pairs(rt: &(impl Print + Clock), alloc: Global, plan: Plan) -> io::Result<()>
-    requires edges { plan.edges ≤ 67108864 }
+    requires edges { plan.edges ≤ MAX_EDGES }
     requires vertices { plan.vertices ≤ 3000 }
 {
     let n = plan.edges as u64 * plan.vertices as u64 / 1000 + 2;
@@ -146,7 +145,7 @@ fn small(rt: &(impl Print + Clock), alloc: Global) -> io::Result<()> {
 
 // One graph, timed.
 fn large(rt: &(impl Print + Clock), alloc: Global, ends: &str, edges: u32) -> io::Result<()>
-    requires { edges ≤ 67108864 }
+    requires { edges ≤ MAX_EDGES }
 {
     match ends {
         "2" => pairs(rt, alloc, Plan::timed(edges, 2_090)),

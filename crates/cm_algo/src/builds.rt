@@ -5,7 +5,7 @@ ghost use Rattle.cm_algo_seeds.specs.Builds.{IsBuilt};
 ghost use Rattle.cm_algo_seeds.specs.Fails.{FailsBuild, FoundEqual, HasBuildCause, HasBuildFailure, HasCounted, HasForm, HasNumbers};
 ghost use Rattle.cm_spec.specs.Cells.{is_busy};
 ghost use Rattle.cm_spec.specs.Rule.{IsRatio};
-ghost use Rattle.cm_io.specs.declared.key_pass.TheConstants.{MAX_KEYS};
+ghost use Rattle.cm_spec.specs.declared.limits.TheConstants.{MAX_KEYS};
 
 use cm_algo_scheme::{Built, Scheme};
 use cm_algo_seeds::{BuildFault, build_first, build_later, certify};

@@ -1,7 +1,7 @@
 -- The result of a build over numbered keys.
 use Rattle.std.specs.Prelude.{◌≡◌, ◌≢◌, ℕ, ◌+◌, ◌*◌, ◌≤◌, List, [], Contains, count_by, length, None, Some}
 use Rattle.cm_io.specs.Passes.{Told}
-use Rattle.cm_io.specs.declared.key_pass.TheConstants.{MAX_KEYS}
+use Rattle.cm_spec.specs.declared.limits.TheConstants.{MAX_KEYS}
 use Rattle.cm_spec.specs.Cells.{AreSolved, cells_of, is_busy, plan_of}
 use Rattle.cm_spec.specs.Rounds.{rest_of}
 use Rattle.cm_spec.specs.Rule.{Rule}

@@ -8,7 +8,7 @@ ghost use Rattle.cm_spec.specs.Rule.{IsSize};
 ghost use Rattle.cm_witness.specs.Gathers.{FailsGather, HasFailure, HasGatherCause, HasOther};
 ghost use Rattle.cm_witness.specs.declared.certificate.GatherFault.TheVariants as gather_fault;
 ghost use Rattle.cm_io.specs.Passes.{IsToldFault};
-ghost use Rattle.cm_io.specs.declared.key_pass.TheConstants.{MAX_KEYS};
+ghost use Rattle.cm_spec.specs.declared.limits.TheConstants.{MAX_KEYS};
 ghost use Rattle.cm_algo_seeds.specs.Hashed.{GivesWords};
 
 use cm_algo_scheme::{Divisor, Scheme};

@@ -10,7 +10,7 @@ ghost use Rattle.cm_witness.specs.Gathers.{FailsGather, HasFailure, HasGatherCau
 ghost use Rattle.cm_algo_seeds.specs.Builds.{IsGiven, IsBuilt, IsLeft, IsMade, IsSolution};
 ghost use Rattle.cm_algo_seeds.specs.Fails.{FailsBuild, HasBuildCause, HasBuildFailure, HasCounted, HasForm, HasNumbers, ShowsCore};
 ghost use Rattle.cm_algo_seeds.specs.declared.fault.BuildFault.TheVariants as build_fault;
-ghost use Rattle.cm_io.specs.declared.key_pass.TheConstants.{MAX_KEYS};
+ghost use Rattle.cm_spec.specs.declared.limits.TheConstants.{MAX_KEYS};
 
 use crate::fault::BuildFault;
 use crate::passes::{count_all, hash_all};

@@ -8,6 +8,7 @@ use Rattle.cm_bdz.specs.Functions.{IsThirds}
 use Rattle.cm_spec.specs.Bdz.{bdz_edge, bdz_rule, bdz_ph_rule, bdz_size, made_odd, third_of}
 use Rattle.cm_spec.specs.Graph.{IsEdge}
 use Rattle.cm_spec.specs.Rule.{IsCount, IsRatio, IsRule, Rule}
+use Rattle.cm_spec.specs.declared.limits.TheConstants.{MAX_EDGES, MAX_VERTICES}
 
 odd_most : (q : ℕ) → q ≤ 223696214 → made_odd q ≤ 223696215
 odd_most q few = go (cases_eq (q % 2) 0) where
@@ -36,11 +37,11 @@ quotient_few m c many ratio =
     let most : c * m ≤ 671088640000000 = go (products c m ratio.1 many.1) in
     let few : (c * m + 2999999) / 3000000 < 223696215 = div_below (c * m + 2999999) 3000000 223696215 (omega arith) (omega arith) in
     omega arith where
-      go : {x : ℕ} → x ≤ 10000000 * 67108864 → x ≤ 671088640000000
+      go : {x : ℕ} → x ≤ 10000000 * MAX_EDGES → x ≤ 671088640000000
       go h = omega arith
 
-      products : (a b : ℕ) → a ≤ 10000000 → b ≤ 67108864 → a * b ≤ 10000000 * 67108864
-      products a b l m = omega (arith, mul-le-mul_left a m, mul-le-mul_left 67108864 l, mul_comm a 67108864)
+      products : (a b : ℕ) → a ≤ 10000000 → b ≤ MAX_EDGES → a * b ≤ 10000000 * MAX_EDGES
+      products a b l m = omega (arith, mul-le-mul_left a m, mul-le-mul_left MAX_EDGES l, mul_comm a MAX_EDGES)
 
 -- a size is three thirds
 pub record HasThirds (n : ℕ) : Type 0 where
@@ -60,7 +61,7 @@ pub is_thirds : (m c n : ℕ) → IsCount m → IsRatio c → n ≡ bdz_size m c
 is_thirds m c n many ratio is = let t = thirds m c n many ratio is in record { third = n / 3; some = t.some; is = t.is }
 
 -- there are no more vertices than a table may have cells
-pub few_cells : (n m c : ℕ) → n ≡ bdz_size m c → IsCount m → IsRatio c → n ≤ 671088645
+pub few_cells : (n m c : ℕ) → n ≡ bdz_size m c → IsCount m → IsRatio c → n ≤ MAX_VERTICES
 few_cells n m c is many ratio = let t = thirds m c n many ratio is in omega (arith, t.is, t.few)
 
 -- one end in each third

@@ -6,6 +6,7 @@ ghost use Rattle.cm_spec.specs.Bdz.{bdz_size};
 ghost use Rattle.cm_spec.specs.Cells.{is_busy};
 ghost use Rattle.cm_spec.specs.Rule.{IsRatio};
 ghost use Rattle.cm_bdz.specs.declared.bdz.PartsFault.{PartsFault};
+ghost use Rattle.cm_spec.specs.declared.limits.TheConstants.{MAX_KEYS};
 
 use cm_algo_scheme::{Built, Divisor};
 use cm_bits::{Cells, Crumbs};
@@ -40,13 +41,14 @@ impl Model for Bdz {
     ghost use Rattle.cm_spec.specs.Bdz.{bdz_size};
     ghost use Rattle.cm_spec.specs.Cells.{is_busy};
     ghost use Rattle.cm_spec.specs.Rule.{IsRatio};
+    ghost use Rattle.cm_spec.specs.declared.limits.TheConstants.{MAX_KEYS};
 
     ghost Value = { Bdz };
 
     ghost view = { λ f. record { keys = f.built.m; ratio = f.built.c; seed = f.built.seed; shift = f.b; cells = ⟦<Crumbs as Cells>⟧.cells f.built.cells } };
 
     ghost invariant = { λ f. record {
-      many : (1 ≤ f.built.m) × (f.built.m ≤ 16777216);
+      many : (1 ≤ f.built.m) × (f.built.m ≤ MAX_KEYS);
       ratio : IsRatio f.built.c;
       size : length (⟦<Crumbs as Cells>⟧.cells f.built.cells) ≡ bdz_size f.built.m f.built.c;
       third : f.third ≡ length (⟦<Crumbs as Cells>⟧.cells f.built.cells) / 3;
@@ -81,7 +83,7 @@ impl Bdz {
     /// as the graph has vertices, with ranks of every `2^b`-th cell, with b from 3 to 10. Returns `BadCount` exactly if the number of
     /// cells that are not 3 differs from the number of keys.
     pub fn from_built(alloc: Global, built: Built<Crumbs>, b: u8) -> Result<Bdz, PartsFault>
-        requires keys { (1 ≤ built.m) × (built.m ≤ 16777216) }
+        requires keys { (1 ≤ built.m) × (built.m ≤ MAX_KEYS) }
         requires ratio { IsRatio built.c }
         requires size { length (⟦<Crumbs as Cells>⟧.cells built.cells) ≡ bdz_size built.m built.c }
         requires b { (3 ≤ b) × (b ≤ 10) }
@@ -112,7 +114,7 @@ impl Bdz {
     /// How many keys the function was built over.
     pub fn keys(&self) -> u32
         ensures keys { result ≡ self.now.keys }
-        ensures within { (1 ≤ result) × (result ≤ 16777216) }
+        ensures within { (1 ≤ result) × (result ≤ MAX_KEYS) }
     {
         self.built.m
     }

@@ -4,6 +4,7 @@ ghost use Rattle.cm_bdz.specs.Functions.{IsThirds};
 ghost use Rattle.cm_bits.specs.declared.TheConstants.{MAX_CELLS};
 ghost use Rattle.cm_spec.specs.Bdz.{bdz_size};
 ghost use Rattle.cm_spec.specs.Rule.{IsRatio};
+ghost use Rattle.cm_spec.specs.declared.limits.TheConstants.{MAX_KEYS};
 
 use cm_algo_scheme::{Built, Divisor};
 use cm_bits::{Cells, Trits};
@@ -22,13 +23,14 @@ impl Model for BdzPh {
     ghost use Rattle.cm_bdz.specs.Functions.{BdzPh};
     ghost use Rattle.cm_spec.specs.Bdz.{bdz_size};
     ghost use Rattle.cm_spec.specs.Rule.{IsRatio};
+    ghost use Rattle.cm_spec.specs.declared.limits.TheConstants.{MAX_KEYS};
 
     ghost Value = { BdzPh };
 
     ghost view = { λ f. record { keys = f.built.m; ratio = f.built.c; seed = f.built.seed; cells = ⟦<Trits as Cells>⟧.cells f.built.cells } };
 
     ghost invariant = { λ f. record {
-      many : (1 ≤ f.built.m) × (f.built.m ≤ 16777216);
+      many : (1 ≤ f.built.m) × (f.built.m ≤ MAX_KEYS);
       ratio : IsRatio f.built.c;
       size : length (⟦<Trits as Cells>⟧.cells f.built.cells) ≡ bdz_size f.built.m f.built.c;
       third : f.third ≡ length (⟦<Trits as Cells>⟧.cells f.built.cells) / 3;
@@ -39,7 +41,7 @@ impl BdzPh {
     /// The function of a build's result: from 1 to 16,777,216 keys, a ratio from 1,000,000 to 10,000,000 millionths, and as many cells
     /// as the graph has vertices.
     pub fn from_built(built: Built<Trits>) -> BdzPh
-        requires keys { (1 ≤ built.m) × (built.m ≤ 16777216) }
+        requires keys { (1 ≤ built.m) × (built.m ≤ MAX_KEYS) }
         requires ratio { IsRatio built.c }
         requires size { length (⟦<Trits as Cells>⟧.cells built.cells) ≡ bdz_size built.m built.c }
         ensures keys { result.keys ≡ built.m }
@@ -54,7 +56,7 @@ impl BdzPh {
     /// How many keys the function was built over.
     pub fn keys(&self) -> u32
         ensures keys { result ≡ self.now.keys }
-        ensures within { (1 ≤ result) × (result ≤ 16777216) }
+        ensures within { (1 ≤ result) × (result ≤ MAX_KEYS) }
     {
         self.built.m
     }

@@ -18,6 +18,7 @@ use Rattle.cm_spec.specs.Rounds.{rest_of}
 use Rattle.cm_spec.specs.Rule.{IsCount}
 use Rattle.cm_peel.specs.CoreLaws.{empty_rest}
 use Rattle.cm_brz_split.specs.SizesLaws.{length_filter-cons}
+use Rattle.cm_spec.specs.declared.limits.TheConstants.{MAX_EDGES}
 
 -- of n numbers from a on, one is b if b is among them, and else none
 count_past : (b a n : ℕ) → b < a → sum_by (λ (j : ℕ). cond (eqb b j) 1 0) (range_with_len a n) ≡ 0
@@ -142,7 +143,7 @@ filter_within p [] = omega arith
 filter_within p (x ∷ xs) = elim (p x) as (λ b. length (cond b (x ∷ filter p xs) (filter p xs)) ≤ suc (length xs)) [ true ↦ omega (arith, filter_within p xs) | false ↦ omega (arith, filter_within p xs) ]
 
 -- the keys of a bucket have the numbers below its size
-bucket_apart : (kb : List (ℕ × List ℕ)) (c place : ℕ) (seeds : List ℕ) (bucket : Bucket) → BucketsApart c → IsBucketOf kb c seeds bucket → IsFirst bdz_rule kb c seeds place bucket.seed → 0 < length kb → length kb ≤ 67108864 → AnswersApart kb (answer_in bucket) (length kb)
+bucket_apart : (kb : List (ℕ × List ℕ)) (c place : ℕ) (seeds : List ℕ) (bucket : Bucket) → BucketsApart c → IsBucketOf kb c seeds bucket → IsFirst bdz_rule kb c seeds place bucket.seed → 0 < length kb → length kb ≤ MAX_EDGES → AnswersApart kb (answer_in bucket) (length kb)
 bucket_apart kb c place seeds bucket apart of first some few =
     let is : bucket ≡ bucket_under kb c bucket.seed = of.built (λ none. absurd (omega (arith, some, ap length none))) in
     let cells : bucket.cells ≡ cells_under bdz_rule kb c bucket.seed = ap (λ (x : Bucket). x.cells) is in
@@ -156,7 +157,7 @@ record AreNumbered (keys : List (ℕ × List ℕ)) (f : Brz) (j : ℕ) : Type 0 
   each : (i : ℕ) → i < length keys → bucket_of (key_at keys i) f.split (length f.buckets) ≡ j → (n : ℕ) × (answer_in (get_or f.buckets j no_bucket) (key_at keys i) ≡ Some n) × (n < (get_or f.buckets j no_bucket).size)
   apart : (i h : ℕ) → i < length keys → h < length keys → bucket_of (key_at keys i) f.split (length f.buckets) ≡ j → bucket_of (key_at keys h) f.split (length f.buckets) ≡ j → answer_in (get_or f.buckets j no_bucket) (key_at keys i) ≡ answer_in (get_or f.buckets j no_bucket) (key_at keys h) → i ≡ h
 
-are_numbered : (keys : List (ℕ × List ℕ)) (c b : ℕ) (seeds : List ℕ) (f : Brz) (j : ℕ) → BucketsApart c → IsBrzOf keys c b seeds f → length keys ≤ 67108864 → j < length f.buckets → AreNumbered keys f j
+are_numbered : (keys : List (ℕ × List ℕ)) (c b : ℕ) (seeds : List ℕ) (f : Brz) (j : ℕ) → BucketsApart c → IsBrzOf keys c b seeds f → length keys ≤ MAX_EDGES → j < length f.buckets → AreNumbered keys f j
 are_numbered keys c b seeds f j apart of few low =
     let k : ℕ = length f.buckets in
     let p : ℕ × List ℕ → Bool = λ (x : ℕ × List ℕ). eqb (bucket_of x.1 f.split k) j in
@@ -211,7 +212,7 @@ pub few_buckets : (m b : ℕ) → 1 ≤ m → 1 ≤ b → bucket_count m b ≤ m
 few_buckets zero b some wide = absurd (omega arith)
 few_buckets (suc n) b some wide = div-le_of_le-mul b (omega (arith, mul-le-mul_left n wide))
 
-pub numbers_apart : (keys : List (ℕ × List ℕ)) (c b : ℕ) (seeds : List ℕ) (f : Brz) → BucketsApart c → IsBrzOf keys c b seeds f → 1 ≤ length keys → length keys ≤ 67108864 → 1 ≤ b → AnswersApart keys (brz_answer f) (length keys)
+pub numbers_apart : (keys : List (ℕ × List ℕ)) (c b : ℕ) (seeds : List ℕ) (f : Brz) → BucketsApart c → IsBrzOf keys c b seeds f → 1 ≤ length keys → length keys ≤ MAX_EDGES → 1 ≤ b → AnswersApart keys (brz_answer f) (length keys)
 numbers_apart keys c b seeds f apart of some few wide =
     let k : ℕ = length f.buckets in
     let buckets : 0 < k = subst (λ (n : ℕ). 0 < n) (sym of.count) (some_buckets (length keys) b some wide) in

@@ -8,7 +8,7 @@ use Rattle.cm_brz_split.specs.Split.{IsLowestOver, split_of}
 use Rattle.cm_brz_split.specs.declared.fault.BrzFault.{BrzFault}
 use Rattle.cm_brz_split.specs.declared.fault.BrzFault.TheVariants.{Memory, NoKeys, Overfull, Cored, Key, Changed, SpillFailed, SpillDamaged}
 use Rattle.cm_brz_func.specs.Functions.{bucket_count}
-use Rattle.cm_brz_func.specs.declared.limits.TheConstants.{MAX_BUCKET}
+use Rattle.cm_spec.specs.declared.limits.TheConstants.{MAX_BUCKET}
 use Rattle.cm_io.specs.Passes.{Told}
 use Rattle.cm_algo_seeds.specs.Fails.{ShowsCore}
 use Rattle.cm_spec.specs.Bdz.{bdz_rule}

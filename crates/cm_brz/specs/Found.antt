@@ -7,7 +7,7 @@ use Rattle.cm_brz.specs.Reports.{overfull_text}
 use Rattle.cm_brz_func.specs.Splitting.{keys_of_bucket}
 use Rattle.cm_brz_split.specs.Split.{size_of_bucket}
 use Rattle.cm_brz_func.specs.Functions.{Brz, Bucket, bucket_count, no_bucket}
-use Rattle.cm_brz_func.specs.declared.limits.TheConstants.{MAX_BUCKET}
+use Rattle.cm_spec.specs.declared.limits.TheConstants.{MAX_BUCKET}
 use Rattle.cm_spec.specs.Bdz.{bdz_rule}
 use Rattle.cm_witness.specs.Cores.{edges_left, pairs_left}
 use Rattle.cm_witness.specs.Pairs.{pairs}

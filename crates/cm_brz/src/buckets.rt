@@ -12,8 +12,7 @@ ghost use Rattle.cm_brz_split.specs.declared.fault.BrzFault.TheVariants as brz_f
 ghost use Rattle.cm_spill.specs.declared.fault.SpillError.TheVariants as spill_error;
 ghost use Rattle.cm_brz_func.specs.Functions.{bucket_cells, bucket_count, keys_in};
 ghost use Rattle.cm_brz_func.specs.Pushing.{with_bucket};
-ghost use Rattle.cm_brz_func.specs.declared.limits.TheConstants.{MAX_BUCKET};
-ghost use Rattle.cm_io.specs.declared.key_pass.TheConstants.{MAX_KEYS};
+ghost use Rattle.cm_spec.specs.declared.limits.TheConstants.{MAX_BUCKET, MAX_KEYS};
 ghost use Rattle.cm_spec.specs.Bdz.{bdz_rule, bdz_size};
 ghost use Rattle.cm_spec.specs.Built.{IsFirst};
 ghost use Rattle.cm_spec.specs.Cells.{is_busy};

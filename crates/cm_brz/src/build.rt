@@ -10,7 +10,7 @@ ghost use Rattle.cm_brz_split.specs.Puts.{records_under};
 ghost use Rattle.cm_brz_split.specs.Spilled.{AreSpilled};
 ghost use Rattle.cm_brz_split.specs.Split.{split_of};
 ghost use Rattle.cm_brz_func.specs.Functions.{bucket_count};
-ghost use Rattle.cm_brz_func.specs.declared.limits.TheConstants.{MAX_WIDTH, MIN_WIDTH};
+ghost use Rattle.cm_spec.specs.declared.limits.TheConstants.{MAX_WIDTH, MIN_WIDTH};
 ghost use Rattle.cm_spec.specs.Rule.{IsRatio};
 ghost use Rattle.cm_witness.specs.Gathers.{HasPassed, IsOther};
 ghost use Rattle.cm_spill.specs.Damage.{IsDamageOf};

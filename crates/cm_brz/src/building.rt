@@ -1,7 +1,7 @@
 //! From keys to buckets, through a store.
 ghost use Rattle.std.specs.Prelude.{◌≡◌, ◌≢◌, ◌⊎◌, ℕ, ◌+◌, ◌*◌, ◌<◌, ◌≤◌, [], length, slice_index, sum, IfOk, IfErr, IsTrue, OnOk, Contains, None, Some, Ok, Err, true, false};
 ghost use Rattle.std.specs.Option.{ForSome};
-ghost use Rattle.cm_io.specs.declared.key_pass.TheConstants.{MAX_KEYS};
+ghost use Rattle.cm_spec.specs.declared.limits.TheConstants.{MAX_BUCKET, MAX_KEYS, MAX_WIDTH, MIN_WIDTH};
 ghost use Rattle.cm_brz.specs.AnyKeys.{HasDamage, IsDamageIn, IsOtherBucket};
 ghost use Rattle.cm_brz.specs.BrzOf.{IsBrzOf};
 ghost use Rattle.cm_brz.specs.Fails.{FailsBrz, FailsKeys, HasBrzForm, IsDamage, IsOfOverfull, RefusesOverfull};
@@ -11,7 +11,6 @@ ghost use Rattle.cm_brz_split.specs.Passes.{AreCounted};
 ghost use Rattle.cm_brz_split.specs.Puts.{records_under};
 ghost use Rattle.cm_brz_split.specs.Split.{AreSizes, size_of_bucket, split_of};
 ghost use Rattle.cm_brz_func.specs.Functions.{bucket_count};
-ghost use Rattle.cm_brz_func.specs.declared.limits.TheConstants.{MAX_BUCKET, MAX_WIDTH, MIN_WIDTH};
 ghost use Rattle.cm_spec.specs.Rule.{IsRatio};
 ghost use Rattle.cm_witness.specs.Gathers.{HasPassed, IsOther};
 

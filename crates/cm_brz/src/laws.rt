@@ -12,6 +12,7 @@ ghost use Rattle.cm_spec.specs.Rule.{IsRatio};
 ghost use Rattle.cm_witness.specs.Reports.{report_text};
 ghost use Rattle.cm_witness.specs.declared.certificate.Certificate.{Certificate};
 ghost use Rattle.cm_witness.specs.declared.certificate.Pair.{Pair};
+ghost use Rattle.cm_spec.specs.declared.limits.TheConstants.{MAX_EDGES};
 
 use cm_algo_cells::cells_solve;
 use cm_bdz::answers_apart;
@@ -19,7 +20,7 @@ use cm_bdz::answers_apart;
 /// The function of keys returns different numbers for any two of them, and all numbers are below the number of keys. Its buckets have
 /// all of the keys.
 pub fn numbers_apart()
-    ensures apart { (keys : List (ℕ × List ℕ)) (c b : ℕ) (seeds : List ℕ) (f : Brz) → 1 ≤ length keys → length keys ≤ 67108864 → IsRatio c → 1 ≤ b → IsBrzOf keys c b seeds f → AnswersApart keys (brz_answer f) (length keys) }
+    ensures apart { (keys : List (ℕ × List ℕ)) (c b : ℕ) (seeds : List ℕ) (f : Brz) → 1 ≤ length keys → length keys ≤ MAX_EDGES → IsRatio c → 1 ≤ b → IsBrzOf keys c b seeds f → AnswersApart keys (brz_answer f) (length keys) }
     ensures all { (keys : List (ℕ × List ℕ)) (c b : ℕ) (seeds : List ℕ) (f : Brz) → 1 ≤ length keys → 1 ≤ b → IsBrzOf keys c b seeds f → keys_in f.buckets ≡ length keys }
 {
     cells_solve();

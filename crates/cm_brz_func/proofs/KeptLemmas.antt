@@ -10,7 +10,7 @@ use Rattle.std.proofs.Math.ListN.{get_or-append}
 use Rattle.std.proofs.Math.Seq.{get_or-append_seam, take-length}
 use Rattle.cm_brz_func.specs.Functions.{Brz, Bucket, IsBrz, IsBucket, bucket_cells, bucket_count, keys_in, no_bucket, offset_of}
 use Rattle.cm_bits.specs.Bound.{AllBelow}
-use Rattle.cm_brz_func.specs.declared.limits.TheConstants.{MAX_BUCKET}
+use Rattle.cm_spec.specs.declared.limits.TheConstants.{MAX_BUCKET, MAX_KEYS}
 use Rattle.cm_brz_func.specs.Pushing.{Counts}
 use Rattle.cm_brz_func.specs.Kept.{AreKept, IsSized, LiesIn, all_held, bucket_in, buckets_of, none_held, offset_at}
 use Rattle.cm_brz_func.specs.declared.held.Held.{Held}
@@ -18,7 +18,6 @@ use Rattle.cm_brz_func.specs.declared.held.Kept.{Kept}
 use Rattle.cm_brz_func.proofs.HeldLemmas.{held_is, length_all_held, none_kept}
 use Rattle.cm_brz_func.proofs.SizeLemmas.{few_cells, some_third}
 use Rattle.cm_brz_func.proofs.TableLemmas.{IsNext, buckets_then, length-cells_in, length-with_cells, lie_then, with_cells}
-use Rattle.cm_io.specs.declared.key_pass.TheConstants.{MAX_KEYS}
 
 -- the function of buckets as they are kept
 abbrev pub first_of : ℕ → ℕ → ℕ → ℕ → List ℕ → List Held → Brz

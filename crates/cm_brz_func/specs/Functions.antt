@@ -4,12 +4,11 @@ use Rattle.std.specs.Prelude.{◌≡◌, ℕ, ◌+◌, ◌-◌, ◌/◌, ◌%◌
 use Rattle.std.specs.List.{sum_by}
 use Rattle.cm_bdz.specs.Functions.{chosen_of, ranked}
 use Rattle.cm_bits.specs.Bound.{AllBelow}
-use Rattle.cm_io.specs.declared.key_pass.TheConstants.{MAX_KEYS}
+use Rattle.cm_spec.specs.declared.limits.TheConstants.{MAX_BUCKET, MAX_KEYS, MAX_WIDTH, MIN_WIDTH}
 use Rattle.cm_spec.specs.Bdz.{bdz_size}
 use Rattle.cm_spec.specs.Cells.{is_busy}
 use Rattle.cm_spec.specs.Lookup2.{words}
 use Rattle.cm_spec.specs.Rule.{IsRatio}
-use Rattle.cm_brz_func.specs.declared.limits.TheConstants.{MAX_BUCKET, MIN_WIDTH, MAX_WIDTH}
 
 -- a bucket: its number of keys, the seed of their hash, and the cells of their function by BDZ; an empty one has the seed 0 and
 -- no cells

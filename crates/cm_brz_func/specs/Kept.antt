@@ -1,13 +1,12 @@
 -- How buckets are kept: their cells in one table, and beside it for each bucket where its cells begin there, how many keys lie in the
 -- buckets before it, and its seed. Its number of keys follows from the next bucket, and its number of cells from that.
 use Rattle.std.specs.Prelude.{◌≡◌, ℕ, ◌+◌, ◌-◌, ◌*◌, ◌/◌, ◌%◌, ◌^◌, ◌<◌, ◌≤◌, List, [], ◌∷◌, All, drop, length, map, slice_index, slice_index_or, take}
-use Rattle.cm_io.specs.declared.key_pass.TheConstants.{MAX_KEYS}
+use Rattle.cm_spec.specs.declared.limits.TheConstants.{MAX_BUCKET, MAX_KEYS, MAX_WIDTH, MIN_WIDTH}
 use Rattle.cm_spec.specs.Image.{packed_len}
 use Rattle.cm_spec.specs.Rule.{IsRatio}
 use Rattle.cm_brz_func.specs.Functions.{Brz, Bucket, IsBucket, bucket_cells, bucket_count, keys_in, offset_of}
 use Rattle.cm_brz_func.specs.declared.held.Held.{Held}
 use Rattle.cm_brz_func.specs.declared.held.Kept.{Kept}
-use Rattle.cm_brz_func.specs.declared.limits.TheConstants.{MAX_BUCKET, MIN_WIDTH, MAX_WIDTH}
 
 -- how many keys lie in the buckets before bucket j, or n if it is past the last one
 abbrev pub offset_at : List Kept → ℕ → ℕ → ℕ

@@ -2,8 +2,7 @@
 ghost use Rattle.std.specs.Prelude.{◌≡◌, ◌<◌, ◌≤◌, ℕ, List, Option, IfSome, length, slice_index_or};
 ghost use Rattle.cm_brz_func.specs.Functions.{IsBrz, IsBucket, brz_answer, bucket_count, bucket_of, flipped, no_bucket};
 ghost use Rattle.cm_brz_func.specs.Places.{brz_place};
-ghost use Rattle.cm_io.specs.declared.key_pass.TheConstants.{MAX_KEYS};
-ghost use Rattle.cm_brz_func.specs.declared.limits.TheConstants.{MIN_WIDTH, MAX_WIDTH};
+ghost use Rattle.cm_spec.specs.declared.limits.TheConstants.{MAX_KEYS, MAX_WIDTH, MIN_WIDTH};
 ghost use Rattle.cm_spec.specs.Image.{packed_byte, packed_len};
 ghost use Rattle.cm_spec.specs.Lists.{list_of};
 ghost use Rattle.cm_spec.specs.Lookup2.{words};

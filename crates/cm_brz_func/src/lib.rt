@@ -6,12 +6,11 @@ mod brz;
 mod buckets;
 mod held;
 mod laws;
-mod limits;
 mod parts;
 
 pub use crate::brz::Brz;
 pub use crate::buckets::{bucket_of_hashed, flip};
 pub use crate::laws::answers_apart;
-pub use crate::limits::{MAX_BUCKET, MAX_WIDTH, MIN_WIDTH, ranges};
 pub use crate::parts::BrzParts;
 pub use cm_bdz::PartsFault;
+pub use cm_spec::{MAX_BUCKET, MAX_WIDTH, MIN_WIDTH};

@@ -11,7 +11,7 @@ use Rattle.std.proofs.lemmas.List.FromFn.{get_or-range_with_len, length-range_wi
 use Rattle.std.proofs.lemmas.List.Sums.{get_or-le-sum_by, length-filter, list_all-from_AllPass, sum-map, sum_by-set, sum_by_more}
 use Rattle.std.proofs.lemmas.Simd.{map-map}
 use Rattle.cm_brz_func.specs.Functions.{bucket_by, bucket_of, flipped}
-use Rattle.cm_brz_func.specs.declared.limits.TheConstants.{MAX_BUCKET}
+use Rattle.cm_spec.specs.declared.limits.TheConstants.{MAX_BUCKET}
 use Rattle.cm_spec.specs.Lookup2.{words}
 use Rattle.cm_brz_split.specs.Split.{AreSizes, CountsPassed, IsFirstOver, IsLowestOver, size_by_words, size_of_bucket, is_split}
 

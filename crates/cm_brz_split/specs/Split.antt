@@ -3,7 +3,7 @@ use Rattle.std.specs.Prelude.{◌≡◌, ℕ, ◌+◌, ◌<◌, ◌≤◌, ◌==
 use Rattle.std.specs.List.{list_all, range_with_len}
 use Rattle.cm_brz_func.specs.Functions.{bucket_by, bucket_of}
 use Rattle.cm_brz_func.specs.Splitting.{keys_of_bucket}
-use Rattle.cm_brz_func.specs.declared.limits.TheConstants.{MAX_BUCKET}
+use Rattle.cm_spec.specs.declared.limits.TheConstants.{MAX_BUCKET}
 use Rattle.cm_io.specs.Passes.{Told, Ends, GivesKey}
 use Rattle.cm_io.specs.declared.key_pass.KeyFault.{KeyFault}
 

@@ -6,11 +6,12 @@ ghost use Rattle.cm_brz_split.specs.BucketPass.{BucketPass, last_line};
 use arrayvec::ArrayVec;
 use cm_io::{KeyBuf, KeyFault, KeyPass, MAX_KEY_LEN};
 use cm_lookup2::{FourWords, words_under_four};
+use cm_spec::MAX_BUCKET;
 use std::alloc::{AllocError, Global};
 use std::marker::Model;
 
 /// How many keys a bucket has at most.
-const MOST: usize = 255;
+const MOST: usize = MAX_BUCKET as usize;
 
 /// Where the bytes of a key stand, with its line.
 #[derive(Clone, Copy, Default)]
@@ -102,7 +103,7 @@ impl BucketKeys {
         Ok(())
     }
 
-    /// How many keys there are: 255 at most.
+    /// How many keys there are: `MAX_BUCKET` at most.
     pub fn len(&self) -> usize
         ensures len { result ≡ length self.now.keys }
         ensures few { result ≤ MOST }

@@ -2,7 +2,7 @@
 ghost use Rattle.std.specs.Prelude.{◌≡◌, ◌≢◌, ◌⊎◌, ℕ, ◌+◌, ◌≤◌, List, [], ◌∷◌, ◌++◌, drop, IfOk, IfErr, IfSome, IfNone, IsTrue, OnOk, None, true};
 ghost use Rattle.std.specs.Option.{ForSome};
 ghost use Rattle.cm_io.specs.Passes.{Ends};
-ghost use Rattle.cm_io.specs.declared.key_pass.TheConstants.{MAX_KEYS};
+ghost use Rattle.cm_spec.specs.declared.limits.TheConstants.{MAX_KEYS};
 ghost use Rattle.cm_witness.specs.Gathers.{HasFailure, HasGatherCause, IsOther};
 ghost use Rattle.cm_witness.specs.Pairs.{pairs};
 ghost use Rattle.cm_brz_split.specs.Given.{GaveCount, GaveEqual};

@@ -2,7 +2,7 @@
 ghost use Rattle.std.specs.Prelude.{◌≡◌, ◌≢◌, ◌⊎◌, ℕ, ◌+◌, ◌*◌, ◌<◌, ◌≤◌, List, [], length, slice_index, IfOk, IfErr, IfSome, IfNone, IsTrue, OnOk, None, Some, Ok, Err, true, false};
 ghost use Rattle.std.specs.Option.{ForSome};
 ghost use Rattle.cm_io.specs.Passes.{Ends};
-ghost use Rattle.cm_io.specs.declared.key_pass.TheConstants.{MAX_KEYS};
+ghost use Rattle.cm_spec.specs.declared.limits.TheConstants.{MAX_KEYS};
 ghost use Rattle.cm_witness.specs.Gathers.{IsOther};
 ghost use Rattle.cm_brz_split.specs.Faults.{FailsPassing, HasFailure, HasKeysCause, HasPutFailure, HasSpillCause, IfChanged, IsOfPassing};
 ghost use Rattle.cm_brz_split.specs.Given.{GaveNext, GaveOther, GaveSizes};

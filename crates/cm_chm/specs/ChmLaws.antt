@@ -7,20 +7,21 @@ use Rattle.std.proofs.lemmas.Bool.{cases_eq, cases_lt, eq-eqb, ne_eqb}
 use Rattle.cm_spec.specs.Chm.{chm_second, chm_edge, chm_rule}
 use Rattle.cm_spec.specs.Graph.{IsEdge}
 use Rattle.cm_spec.specs.Rule.{IsSize, IsRule}
+use Rattle.cm_spec.specs.declared.limits.TheConstants.{MAX_EDGES, MAX_VERTICES}
 
 size_least : (n : ℕ) → IsSize chm_rule n → 2 ≤ n
 size_least n s = omega (arith, s.is)
 
-size_most : (n : ℕ) → IsSize chm_rule n → n ≤ 671088645
+size_most : (n : ℕ) → IsSize chm_rule n → n ≤ MAX_VERTICES
 size_most n s =
     let most : s.ratio * s.keys ≤ 671088640000000 = go (mul-le-mul s.ratio s.keys s.within.1 s.many.1) in
-    let few : (s.ratio * s.keys + 999999) / 1000000 < 671088645 = div_below (s.ratio * s.keys + 999999) 1000000 671088645 (omega arith) (omega arith) in
+    let few : (s.ratio * s.keys + 999999) / 1000000 < MAX_VERTICES = div_below (s.ratio * s.keys + 999999) 1000000 MAX_VERTICES (omega arith) (omega arith) in
     omega (arith, s.is) where
-      go : {x : ℕ} → x ≤ 10000000 * 67108864 → x ≤ 671088640000000
+      go : {x : ℕ} → x ≤ 10000000 * MAX_EDGES → x ≤ 671088640000000
       go h = omega arith
 
-      mul-le-mul : (a b : ℕ) → a ≤ 10000000 → b ≤ 67108864 → a * b ≤ 10000000 * 67108864
-      mul-le-mul a b l m = omega (arith, mul-le-mul_left a m, mul-le-mul_left 67108864 l, mul_comm a 67108864)
+      mul-le-mul : (a b : ℕ) → a ≤ 10000000 → b ≤ MAX_EDGES → a * b ≤ 10000000 * MAX_EDGES
+      mul-le-mul a b l m = omega (arith, mul-le-mul_left a m, mul-le-mul_left MAX_EDGES l, mul_comm a MAX_EDGES)
 
 next_other : (a n : ℕ) → a < n → 2 ≤ n → (a + 1) % n ≢ a
 next_other a n l h e = go (cases_lt (a + 1) n) where

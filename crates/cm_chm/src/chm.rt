@@ -2,6 +2,7 @@
 ghost use Rattle.std.specs.Prelude.{◌≡◌, ◌≤◌, length};
 ghost use Rattle.cm_spec.specs.Chm.{chm_size, chm_rule};
 ghost use Rattle.cm_spec.specs.Rule.{IsRatio, IsSize};
+ghost use Rattle.cm_spec.specs.declared.limits.TheConstants.{MAX_KEYS};
 
 use cm_algo_scheme::{Built, Divisor};
 use cm_bits::{Cells, Fields};
@@ -20,13 +21,14 @@ impl Model for Chm {
     ghost use Rattle.std.specs.Prelude.{◌≡◌, ◌≤◌, length};
     ghost use Rattle.cm_spec.specs.Chm.{Chm, chm_size};
     ghost use Rattle.cm_spec.specs.Rule.{IsRatio};
+    ghost use Rattle.cm_spec.specs.declared.limits.TheConstants.{MAX_KEYS};
 
     ghost Value = { Chm };
 
     ghost view = { λ f. record { keys = f.built.m; ratio = f.built.c; seed = f.built.seed; cells = ⟦<Fields as Cells>⟧.cells f.built.cells } };
 
     ghost invariant = { λ f. record {
-      many : (1 ≤ f.built.m) × (f.built.m ≤ 16777216);
+      many : (1 ≤ f.built.m) × (f.built.m ≤ MAX_KEYS);
       ratio : IsRatio f.built.c;
       bound : ⟦<Fields as Cells>⟧.bound_of f.built.cells ≡ f.built.m;
       size : length (⟦<Fields as Cells>⟧.cells f.built.cells) ≡ chm_size f.built.m f.built.c;
@@ -39,7 +41,7 @@ impl Chm {
     /// The function of a build's result: from 1 to 16,777,216 keys, a ratio from 1,000,000 to 10,000,000 millionths, and as many cells
     /// below the number of keys as the graph has vertices.
     pub fn from_built(built: Built<Fields>) -> Chm
-        requires keys { (1 ≤ built.m) × (built.m ≤ 16777216) }
+        requires keys { (1 ≤ built.m) × (built.m ≤ MAX_KEYS) }
         requires ratio { IsRatio built.c }
         requires bound { ⟦<Fields as Cells>⟧.bound_of built.cells ≡ built.m }
         requires size { length (⟦<Fields as Cells>⟧.cells built.cells) ≡ chm_size built.m built.c }
@@ -60,7 +62,7 @@ impl Chm {
     /// How many keys the function was built over.
     pub fn keys(&self) -> u32
         ensures keys { result ≡ self.now.keys }
-        ensures within { (1 ≤ result) × (result ≤ 16777216) }
+        ensures within { (1 ≤ result) × (result ≤ MAX_KEYS) }
     {
         self.built.m
     }

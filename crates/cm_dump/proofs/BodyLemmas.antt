@@ -5,7 +5,7 @@ use Rattle.cm_bits.specs.Bound.{AllBelow}
 use Rattle.cm_dump_images.specs.Images.{fields_at, packed_at}
 use Rattle.cm_dump_images.specs.ImageLaws.{cells_of_image, packed_of_image}
 use Rattle.cm_dump_items.specs.Reading.{◌>>=◌, end_at}
-use Rattle.cm_io.specs.declared.key_pass.TheConstants.{MAX_KEYS}
+use Rattle.cm_spec.specs.declared.limits.TheConstants.{MAX_KEYS}
 use Rattle.cm_rank.specs.Ranks.{sampled}
 use Rattle.cm_spec.specs.Bdz.{bdz_size}
 use Rattle.cm_spec.specs.Chm.{Chm, chm_size}

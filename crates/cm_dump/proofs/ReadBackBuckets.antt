@@ -13,7 +13,7 @@ use Rattle.cm_bits.specs.Fault.{packed_fault}
 use Rattle.cm_bits.specs.Held.{packed_cells}
 use Rattle.cm_brz_func.specs.Functions.{Brz, Bucket, IsBucket, bucket_cells, bucket_count, keys_in}
 use Rattle.cm_brz_func.specs.Pushing.{with_bucket}
-use Rattle.cm_brz_func.specs.declared.limits.TheConstants.{MAX_BUCKET, MIN_WIDTH, MAX_WIDTH}
+use Rattle.cm_spec.specs.declared.limits.TheConstants.{MAX_BUCKET, MIN_WIDTH, MAX_WIDTH}
 use Rattle.cm_dump_images.specs.Images.{packed_at}
 use Rattle.cm_dump_items.specs.declared.fault.LoadFault.{LoadFault}
 use Rattle.cm_dump_items.specs.declared.fault.LoadFault.TheVariants as faults

@@ -24,7 +24,7 @@ use Rattle.cm_dump_items.specs.declared.fault.LoadFault.TheVariants as faults
 use Rattle.cm_dump_items.specs.Reading.{item_at, field_at, zeros_at, end_at}
 use Rattle.cm_dump_items.specs.ItemLaws.{whole_or, ge_of}
 use Rattle.cm_dump_items.specs.StepLaws.{if_next, if_ok, ok_err, ok_same, step}
-use Rattle.cm_io.specs.declared.key_pass.TheConstants.{MAX_KEYS}
+use Rattle.cm_spec.specs.declared.limits.TheConstants.{MAX_KEYS}
 use Rattle.cm_spec.specs.Dump.{magic, fields_image}
 use Rattle.cm_dump.specs.Dumps.{header, packed_image, ranks_image, dump_of}
 use Rattle.cm_spec.specs.Image.{digits_sum, width_of, fields_len, fields_byte, fields_number, packed_byte, packed_len}

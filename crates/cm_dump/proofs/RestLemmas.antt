@@ -19,7 +19,7 @@ use Rattle.cm_bits.specs.Bound.{AllBelow}
 use Rattle.cm_spec.specs.Image.{packed_byte, packed_len}
 use Rattle.cm_spec.specs.Lists.{list_of}
 use Rattle.cm_dump.specs.Forms.{version_1}
-use Rattle.cm_io.specs.declared.key_pass.TheConstants.{MAX_KEYS}
+use Rattle.cm_spec.specs.declared.limits.TheConstants.{MAX_KEYS}
 
 -- a bucket of which each item was read
 pub bucket_known : (bytes : List ℕ) (at : ℕ) (f : Brz) (left size seed : ℕ) (cells : List ℕ) → size_at version_1 bytes at f left ≡ Ok size → field_at w32 bytes (at + 1) 0 (most_seed size) ≡ Ok seed → crumbs_at bytes (at + 5) size (bucket_cells size f.ratio) ≡ Ok cells
@@ -65,7 +65,7 @@ never_miscounts f b left busy fits many (inr (inr last)) =
     false≢true (sym (rw (test, fewer) at off))
 
 -- there are not many buckets
-pub few_buckets : (m b : ℕ) → m ≤ MAX_KEYS → b ≤ 255 → bucket_count m b ≤ 16777471
+pub few_buckets : (m b : ℕ) → m ≤ MAX_KEYS → b < 256 → bucket_count m b ≤ 16777471
 few_buckets m b few wide = omega (arith, div-le_self (m + (b - 1)) b, few, wide)
 
 -- no bucket is to come

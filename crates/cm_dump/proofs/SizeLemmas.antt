@@ -6,6 +6,7 @@ use Rattle.cm_brz_func.specs.Functions.{bucket_cells}
 use Rattle.cm_spec.specs.Bdz.{bdz_size, made_odd, third_of}
 use Rattle.cm_spec.specs.Image.{packed_len}
 use Rattle.cm_spec.specs.Rule.{IsRatio}
+use Rattle.cm_spec.specs.declared.limits.TheConstants.{MAX_BUCKET}
 
 odd_near : (q : ℕ) → made_odd q ≤ q + 1
 odd_near q = go (eqb (q % 2) 0) where
@@ -19,18 +20,18 @@ third_near q = go (eqb (made_odd q) 1) where
   go true = omega arith
   go false = omega (arith, odd_near q)
 
-products : (a b : ℕ) → a ≤ 10000000 → b ≤ 255 → a * b ≤ 2550000000
+products : (a b : ℕ) → a ≤ 10000000 → b ≤ MAX_BUCKET → a * b ≤ MAX_BUCKET0000000
 products a b l m = omega (arith, mul-le-mul_left a m, l)
 
 -- a bucket has few cells
-few_cells : (size ratio : ℕ) → size ≤ 255 → IsRatio ratio → bdz_size size ratio ≤ 2559
+few_cells : (size ratio : ℕ) → size ≤ MAX_BUCKET → IsRatio ratio → bdz_size size ratio ≤ 2559
 few_cells size ratio few within =
-    let most : ratio * size ≤ 2550000000 = products ratio size within.1 few in
+    let most : ratio * size ≤ MAX_BUCKET0000000 = products ratio size within.1 few in
     let third : (ratio * size + 2999999) / 3000000 < 851 = div_below (ratio * size + 2999999) 3000000 851 (omega arith) (omega (arith, most)) in
     omega (arith, third, third_near ((ratio * size + 2999999) / 3000000))
 
 -- and so it has few bytes
-pub bucket_short : (size ratio : ℕ) → size ≤ 255 → IsRatio ratio → 5 + packed_len 4 (bucket_cells size ratio) ≤ 1024
+pub bucket_short : (size ratio : ℕ) → size ≤ MAX_BUCKET → IsRatio ratio → 5 + packed_len 4 (bucket_cells size ratio) ≤ 1024
 bucket_short size ratio few within = go (eqb size 0) where
   go : (b : Bool) → 5 + packed_len 4 (if b then 0 else bdz_size size ratio) ≤ 1024
   go true = lit≤ tt

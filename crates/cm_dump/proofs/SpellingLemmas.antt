@@ -15,14 +15,13 @@ use Rattle.cm_bits.specs.PackedLaws.{packed_fault-image}
 use Rattle.cm_bits.specs.declared.fault.ImageFault.{ImageFault}
 use Rattle.cm_brz_func.specs.Functions.{Brz, Bucket, IsBrz, IsBucket, bucket_cells, keys_in}
 use Rattle.cm_brz_func.specs.Pushing.{with_bucket}
-use Rattle.cm_brz_func.specs.declared.limits.TheConstants.{MAX_BUCKET}
+use Rattle.cm_spec.specs.declared.limits.TheConstants.{MAX_BUCKET, MAX_KEYS}
 use Rattle.cm_dump_images.specs.Images.{image_at, fields_at, packed_at}
 use Rattle.cm_dump_images.specs.ImageLaws.{image_read, packed_of_image}
 use Rattle.cm_dump_items.specs.declared.fault.LoadFault.{LoadFault}
 use Rattle.cm_dump_items.specs.Reading.{item_at, field_at, zeros_at, end_at}
 use Rattle.cm_dump_items.specs.StepLaws.{ok_same}
 use Rattle.cm_dump_items.specs.ItemLaws.{item_there, ltb_no}
-use Rattle.cm_io.specs.declared.key_pass.TheConstants.{MAX_KEYS}
 use Rattle.cm_rank.specs.Ranks.{sampled}
 use Rattle.cm_spec.specs.Cells.{is_busy}
 use Rattle.cm_spec.specs.Bdz.{bdz_size}

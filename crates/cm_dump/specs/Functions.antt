@@ -5,7 +5,7 @@ use Rattle.cm_bdz.specs.Places.{bdz_place}
 use Rattle.cm_bits.specs.Bound.{AllBelow}
 use Rattle.cm_brz_func.specs.Functions.{IsBrz, brz_answer}
 use Rattle.cm_brz_func.specs.Places.{brz_place}
-use Rattle.cm_io.specs.declared.key_pass.TheConstants.{MAX_KEYS}
+use Rattle.cm_spec.specs.declared.limits.TheConstants.{MAX_KEYS}
 use Rattle.cm_chm.specs.Places.{chm_place}
 use Rattle.cm_spec.specs.Bdz.{bdz_size}
 use Rattle.cm_spec.specs.Cells.{is_busy}

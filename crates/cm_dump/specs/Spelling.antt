@@ -23,18 +23,19 @@ use Rattle.cm_dump.specs.declared.writer.Func.{Func}
 use Rattle.cm_dump.specs.declared.writer.Func.TheVariants as func
 use Rattle.cm_dump.specs.Forms.{Form, version_1}
 use Rattle.cm_dump.specs.Headings.{heading_at}
+use Rattle.cm_dump.specs.declared.header.TheConstants.{HEADER_LEN}
 
 -- the CHM function of a header and the cells after it
 unfoldable pub chm_at : List ℕ → Header → Result Chm LoadFault
 chm_at bytes h = do
-  image ← fields_at bytes 24 (chm_size h.keys h.ratio) h.keys
-  ended ← end_at bytes (24 + fields_len (width_of h.keys) (chm_size h.keys h.ratio))
+  image ← fields_at bytes HEADER_LEN (chm_size h.keys h.ratio) h.keys
+  ended ← end_at bytes (HEADER_LEN + fields_len (width_of h.keys) (chm_size h.keys h.ratio))
   Ok (record { keys = h.keys; ratio = h.ratio; seed = h.seed; cells = field_cells (width_of h.keys) (chm_size h.keys h.ratio) (bytes_number image) })
 
 -- the BDZ function of a header and cells, of which as many are not 3 as there are keys
 unfoldable pub counted : Header → List ℕ → Result Bdz LoadFault
 counted h cells =
-    if count_by (is_busy 3) cells == h.keys then Ok (record { keys = h.keys; ratio = h.ratio; seed = h.seed; shift = h.b; cells = cells }) else Err (faults.BadCount 24)
+    if count_by (is_busy 3) cells == h.keys then Ok (record { keys = h.keys; ratio = h.ratio; seed = h.seed; shift = h.b; cells = cells }) else Err (faults.BadCount HEADER_LEN)
 
 -- the ranks are there one after another, four bytes each
 unfoldable pub ranks_at : List ℕ → ℕ → List ℕ → Result (Unit {0}) LoadFault
@@ -47,21 +48,21 @@ ranks_at bytes at (rank ∷ ranks) = do
 unfoldable pub ranked_at : List ℕ → Header → List ℕ → Result Bdz LoadFault
 ranked_at bytes h cells = do
   f ← counted h cells
-  ranked ← ranks_at bytes (24 + packed_len 4 (length cells)) (sampled 3 f.shift f.cells)
-  ended ← end_at bytes (24 + packed_len 4 (length cells) + 4 * length (sampled 3 f.shift f.cells))
+  ranked ← ranks_at bytes (HEADER_LEN + packed_len 4 (length cells)) (sampled 3 f.shift f.cells)
+  ended ← end_at bytes (HEADER_LEN + packed_len 4 (length cells) + 4 * length (sampled 3 f.shift f.cells))
   Ok f
 
 -- the BDZ function of a header, and the cells and ranks after it
 unfoldable pub bdz_at : List ℕ → Header → Result Bdz LoadFault
 bdz_at bytes h = do
-  image ← packed_at bytes 24 4 4 (bdz_size h.keys h.ratio)
+  image ← packed_at bytes HEADER_LEN 4 4 (bdz_size h.keys h.ratio)
   ranked_at bytes h (packed_cells 4 4 (bdz_size h.keys h.ratio) image)
 
 -- the BDZ_PH function of a header and the cells after it
 unfoldable pub bdz_ph_at : List ℕ → Header → Result BdzPh LoadFault
 bdz_ph_at bytes h = do
-  image ← packed_at bytes 24 3 5 (bdz_size h.keys h.ratio)
-  ended ← end_at bytes (24 + packed_len 5 (bdz_size h.keys h.ratio))
+  image ← packed_at bytes HEADER_LEN 3 5 (bdz_size h.keys h.ratio)
+  ended ← end_at bytes (HEADER_LEN + packed_len 5 (bdz_size h.keys h.ratio))
   Ok (record { keys = h.keys; ratio = h.ratio; seed = h.seed; cells = packed_cells 3 5 (bdz_size h.keys h.ratio) image })
 
 -- whether a function has too many keys in its buckets, or too few if none of its buckets is left
@@ -115,7 +116,7 @@ no_buckets h = record { keys = h.keys; ratio = h.ratio; width = h.b; split = h.s
 
 -- the BRZ function of a header and the buckets after it
 unfoldable pub brz_at : Form → List ℕ → Header → Result Brz LoadFault
-brz_at v bytes h = rest_at v bytes 24 (bucket_count h.keys h.b) (no_buckets h)
+brz_at v bytes h = rest_at v bytes HEADER_LEN (bucket_count h.keys h.b) (no_buckets h)
 
 -- the function of a header and what is after it
 abbrev pub body_at : Form → List ℕ → Header → Algorithm → Result Func LoadFault

@@ -3,10 +3,11 @@ ghost use Rattle.std.specs.Prelude.{◌≡◌, ◌≢◌, ◌<◌, ◌≤◌, Er
 ghost use Rattle.std.specs.Option.{ForSome};
 ghost use Rattle.cm_dump_items.specs.Reading.{Answers, IsAt, HasLoadCause};
 ghost use Rattle.cm_dump_items.specs.declared.fault.LoadFault.{LoadFault};
-ghost use Rattle.cm_io.specs.declared.key_pass.TheConstants.{MAX_KEYS};
+ghost use Rattle.cm_spec.specs.declared.limits.TheConstants.{MAX_KEYS};
 ghost use Rattle.cm_spec.specs.Rule.{IsRatio};
 ghost use Rattle.cm_dump.specs.Forms.{version_1};
 ghost use Rattle.cm_dump.specs.Headings.{IsParameter, algorithm_at, heading_at, kind_at, least_b, magic_at, most_b};
+ghost use Rattle.cm_dump.specs.declared.header.TheConstants.{HEADER_LEN};
 
 use crate::LoadFault;
 use cm_brz_func::{MAX_WIDTH, MIN_WIDTH};
@@ -35,7 +36,7 @@ pub enum Algorithm {
 #[derive(Clone, Copy, Drop)]
 pub struct Kind {
     pub algorithm: Algorithm,
-    /// Every `2^b`-th cell of BDZ has its rank kept, with b from 3 to 10; a bucket of BRZ has b keys on average, with b from 64 to 175;
+    /// Every `2^b`-th cell of BDZ has its rank kept, with b from 3 to 10; a bucket of BRZ has b keys on average, from `MIN_WIDTH` to `MAX_WIDTH`;
     /// 0 for the others.
     pub b: u8,
 }
@@ -44,7 +45,7 @@ pub struct Kind {
 #[derive(Clone, Copy, Drop)]
 pub struct Header {
     pub algorithm: Algorithm,
-    /// Every `2^b`-th cell of BDZ has its rank kept, with b from 3 to 10; a bucket of BRZ has b keys on average, with b from 64 to 175;
+    /// Every `2^b`-th cell of BDZ has its rank kept, with b from 3 to 10; a bucket of BRZ has b keys on average, from `MIN_WIDTH` to `MAX_WIDTH`;
     /// 0 for the others.
     pub b: u8,
     /// How many keys the function was built over, from 1 to `MAX_KEYS`.
@@ -132,7 +133,7 @@ fn read_kind<S: Source>(source: &mut S) -> Result<Kind, LoadFault>
 pub(crate) fn read_header<S: Source>(source: &mut S) -> Result<Header, LoadFault>
     requires at { IsAt (S.told source.old) (S.place source.old) 0 }
     ensures told { S.told source.new ≡ S.told source.old }
-    ensures at { OnOk result (IsAt (S.told source.new) (S.place source.new) 24) }
+    ensures at { OnOk result (IsAt (S.told source.new) (S.place source.new) HEADER_LEN) }
     ensures parameter { IfOk result (λ h. IsParameter version_1 h.algorithm h.b) }
     ensures keys { IfOk result (λ h. (1 ≤ h.keys) × (h.keys ≤ MAX_KEYS)) }
     ensures ratio { IfOk result (λ h. IsRatio h.ratio) }

@@ -5,6 +5,7 @@ mod answers;
 mod buckets;
 pub mod examples;
 mod front;
+mod header;
 pub mod laws;
 mod ranks;
 mod reader;

@@ -3,7 +3,7 @@ ghost use Rattle.std.specs.Prelude.{◌≡◌, ◌+◌, ◌*◌, ◌<◌, ◌≤
 ghost use Rattle.std.specs.Option.{ForSome};
 ghost use Rattle.cm_dump_items.specs.Reading.{Answers, IsAt, HasLoadCause};
 ghost use Rattle.cm_dump_items.specs.declared.fault.LoadFault.{LoadFault};
-ghost use Rattle.cm_io.specs.declared.key_pass.TheConstants.{MAX_KEYS};
+ghost use Rattle.cm_spec.specs.declared.limits.TheConstants.{MAX_KEYS};
 ghost use Rattle.cm_spec.specs.Bdz.{bdz_size};
 ghost use Rattle.cm_spec.specs.Cells.{is_busy};
 ghost use Rattle.cm_spec.specs.Image.{packed_len};
@@ -12,7 +12,9 @@ ghost use Rattle.cm_dump.specs.Forms.{version_1};
 ghost use Rattle.cm_dump.specs.Headings.{heading_at};
 ghost use Rattle.cm_dump.specs.Functions.{IsBdz, IsBdzPh, IsChm, IsFunction};
 ghost use Rattle.cm_dump.specs.Spelling.{bdz_at, bdz_ph_at, chm_at, counted, ranked_at, spelling_of};
+ghost use Rattle.cm_dump.specs.declared.header.TheConstants.{HEADER_LEN};
 
+use crate::header::HEADER_LEN;
 use crate::front::{Algorithm, Header, read_header};
 use crate::ranks::read_ranks;
 use crate::rest::load_brz;
@@ -31,18 +33,18 @@ use std::alloc::Global;
 fn load_chm<S: Source>(alloc: Global, source: &mut S, header: Header) -> Result<Chm, LoadFault>
     requires keys { (1 ≤ header.keys) × (header.keys ≤ MAX_KEYS) }
     requires ratio { IsRatio header.ratio }
-    requires at { IsAt (S.told source.old) (S.place source.old) 24 }
+    requires at { IsAt (S.told source.old) (S.place source.old) HEADER_LEN }
     ensures told { S.told source.new ≡ S.told source.old }
     ensures exact { ForSome (S.told source.old) (λ bytes. Answers (λ f. f) result (chm_at bytes header)) }
     ensures valid { IfOk result (λ f. IsChm f) }
     ensures cause { HasLoadCause (S.faults source.old) (S.faults source.new) result }
 {
     let n = ChmScheme {}.size(header.keys, header.ratio);
-    let cells: Fields = match read_cells(alloc, source, 24, n, header.keys) {
+    let cells: Fields = match read_cells(alloc, source, HEADER_LEN, n, header.keys) {
         Ok(cells) => cells,
         Err(fault) => return Err(fault),
     };
-    match end(source, 24 + Fields::image_len(n, header.keys)) {
+    match end(source, HEADER_LEN + Fields::image_len(n, header.keys)) {
         Ok(()) => Ok(Chm::from_built(Built {
             m: header.keys,
             c: header.ratio,
@@ -74,7 +76,7 @@ fn count_cells(alloc: Global, header: Header, cells: Crumbs) -> Result<Bdz, Load
     match Bdz::from_built(alloc, built, header.b) {
         Ok(bdz) => Ok(bdz),
         Err(PartsFault::Memory) => Err(LoadFault::Memory),
-        Err(PartsFault::BadCount) => Err(LoadFault::BadCount { at: 24 }),
+        Err(PartsFault::BadCount) => Err(LoadFault::BadCount { at: HEADER_LEN }),
     }
 }
 
@@ -91,14 +93,14 @@ fn load_ranked<S: Source>(
     requires ratio { IsRatio header.ratio }
     requires b { (3 ≤ header.b) × (header.b ≤ 10) }
     requires size { length (⟦<Crumbs as Cells>⟧.cells cells) ≡ bdz_size header.keys header.ratio }
-    requires at { IsAt (S.told source.old) (S.place source.old) (24 + packed_len 4 (length (⟦<Crumbs as Cells>⟧.cells cells))) }
+    requires at { IsAt (S.told source.old) (S.place source.old) (HEADER_LEN + packed_len 4 (length (⟦<Crumbs as Cells>⟧.cells cells))) }
     ensures told { S.told source.new ≡ S.told source.old }
     ensures exact { ForSome (S.told source.old) (λ bytes. Answers (λ f. f) result (ranked_at bytes header (⟦<Crumbs as Cells>⟧.cells cells))) }
     ensures valid { IfOk result (λ f. IsBdz f) }
     ensures cause { HasLoadCause (S.faults source.old) (S.faults source.new) result }
     ensures memory { result ≡ Err LoadFault.Memory → count_by (is_busy 3) (⟦<Crumbs as Cells>⟧.cells cells) ≡ header.keys }
 {
-    let at = 24 + Crumbs::image_len(cells.len(), 4);
+    let at = HEADER_LEN + Crumbs::image_len(cells.len(), 4);
     let bdz = match count_cells(alloc, header, cells) {
         Ok(bdz) => bdz,
         Err(fault) => return Err(fault),
@@ -120,14 +122,14 @@ fn load_bdz<S: Source>(alloc: Global, source: &mut S, header: Header) -> Result<
     requires keys { (1 ≤ header.keys) × (header.keys ≤ MAX_KEYS) }
     requires ratio { IsRatio header.ratio }
     requires b { (3 ≤ header.b) × (header.b ≤ 10) }
-    requires at { IsAt (S.told source.old) (S.place source.old) 24 }
+    requires at { IsAt (S.told source.old) (S.place source.old) HEADER_LEN }
     ensures told { S.told source.new ≡ S.told source.old }
     ensures exact { ForSome (S.told source.old) (λ bytes. Answers (λ f. f) result (bdz_at bytes header)) }
     ensures valid { IfOk result (λ f. IsBdz f) }
     ensures cause { HasLoadCause (S.faults source.old) (S.faults source.new) result }
 {
     let n = BdzScheme {}.size(header.keys, header.ratio);
-    match read_cells(alloc, source, 24, n, 4) {
+    match read_cells(alloc, source, HEADER_LEN, n, 4) {
         Ok(cells) => load_ranked(alloc, source, header, cells),
         Err(fault) => Err(fault),
     }
@@ -138,18 +140,18 @@ fn load_bdz<S: Source>(alloc: Global, source: &mut S, header: Header) -> Result<
 fn load_bdz_ph<S: Source>(alloc: Global, source: &mut S, header: Header) -> Result<BdzPh, LoadFault>
     requires keys { (1 ≤ header.keys) × (header.keys ≤ MAX_KEYS) }
     requires ratio { IsRatio header.ratio }
-    requires at { IsAt (S.told source.old) (S.place source.old) 24 }
+    requires at { IsAt (S.told source.old) (S.place source.old) HEADER_LEN }
     ensures told { S.told source.new ≡ S.told source.old }
     ensures exact { ForSome (S.told source.old) (λ bytes. Answers (λ f. f) result (bdz_ph_at bytes header)) }
     ensures valid { IfOk result (λ f. IsBdzPh f) }
     ensures cause { HasLoadCause (S.faults source.old) (S.faults source.new) result }
 {
     let n = BdzPhScheme {}.size(header.keys, header.ratio);
-    let cells: Trits = match read_cells(alloc, source, 24, n, 3) {
+    let cells: Trits = match read_cells(alloc, source, HEADER_LEN, n, 3) {
         Ok(cells) => cells,
         Err(fault) => return Err(fault),
     };
-    match end(source, 24 + Trits::image_len(n, 3)) {
+    match end(source, HEADER_LEN + Trits::image_len(n, 3)) {
         Ok(()) => Ok(BdzPh::from_built(Built {
             m: header.keys,
             c: header.ratio,

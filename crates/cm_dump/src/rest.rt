@@ -2,15 +2,16 @@
 ghost use Rattle.std.specs.Prelude.{◌≡◌, ◌+◌, ◌<◌, ◌≤◌, ◌^◌, ℕ, List, OnOk, IfOk, IfErr, false, count_by, length};
 ghost use Rattle.std.specs.Option.{ForSome};
 ghost use Rattle.cm_brz_func.specs.Functions.{IsBrz, bucket_cells, bucket_count, keys_in};
-ghost use Rattle.cm_brz_func.specs.declared.limits.TheConstants.{MAX_BUCKET, MIN_WIDTH, MAX_WIDTH};
+ghost use Rattle.cm_spec.specs.declared.limits.TheConstants.{MAX_BUCKET, MAX_KEYS, MAX_VERTICES, MAX_WIDTH, MIN_WIDTH};
 ghost use Rattle.cm_dump_items.specs.Reading.{Answers, Fails, IsAt, IsPart, HasLoadCause};
-ghost use Rattle.cm_io.specs.declared.key_pass.TheConstants.{MAX_KEYS};
 ghost use Rattle.cm_spec.specs.Cells.{is_busy};
 ghost use Rattle.cm_spec.specs.Image.{packed_len};
 ghost use Rattle.cm_spec.specs.Rule.{IsRatio};
 ghost use Rattle.cm_dump.specs.Forms.{version_1};
 ghost use Rattle.cm_dump.specs.Spelling.{bucket_at, brz_at, crumbs_at, is_off, left_of, most_seed, rest_at, size_at};
+ghost use Rattle.cm_dump.specs.declared.header.TheConstants.{HEADER_LEN};
 
+use crate::header::HEADER_LEN;
 use crate::LoadFault;
 use crate::buckets::FRONT;
 use crate::front::Header;
@@ -84,7 +85,7 @@ fn cells_of(size: u8, c: u32) -> u32
 #[tactic(auto, unfolding(crate::specs::Spelling::crumbs_at), using(cm_dump_images::specs::ImageLaws::packed_near))]
 fn read_crumbs(alloc: Global, part: &[u8], at: u64, size: u8, n: u32) -> Result<Crumbs, LoadFault>
     requires room { at + length part.now < 2 ^ 60 }
-    requires few { n ≤ 671088645 }
+    requires few { n ≤ MAX_VERTICES }
     ensures inside { OnOk result (packed_len 4 n ≤ length part.now) }
     ensures size { IfOk result (λ t. length (⟦<Crumbs as Cells>⟧.cells t) ≡ n) }
     ensures busy { IfOk result (λ t. count_by (is_busy 3) (⟦<Crumbs as Cells>⟧.cells t) ≡ size) }
@@ -174,7 +175,7 @@ pub(crate) fn load_brz<S: Source>(
     requires keys { (1 ≤ header.keys) × (header.keys ≤ MAX_KEYS) }
     requires ratio { IsRatio header.ratio }
     requires b { (MIN_WIDTH ≤ header.b) × (header.b ≤ MAX_WIDTH) }
-    requires at { IsAt (S.told source.old) (S.place source.old) 24 }
+    requires at { IsAt (S.told source.old) (S.place source.old) HEADER_LEN }
     ensures told { S.told source.new ≡ S.told source.old }
     ensures exact { ForSome (S.told source.old) (λ bytes. Answers (λ f. f) result (brz_at version_1 bytes header)) }
     ensures valid { IfOk result (λ f. IsBrz f) }
@@ -185,7 +186,7 @@ pub(crate) fn load_brz<S: Source>(
         Err(_) => return Err(LoadFault::Memory),
     };
     let mut parts = BrzParts::new(alloc, header.keys, header.ratio, header.b, header.seed);
-    let mut at = 24;
+    let mut at = HEADER_LEN;
     'buckets: while parts.left() > 0 {
         match piece.refill(source, at) {
             Ok(()) => {}

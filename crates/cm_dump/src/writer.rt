@@ -5,6 +5,7 @@ ghost use Rattle.cm_io.specs.Writing.{Writes};
 ghost use Rattle.cm_dump.specs.Dumps.{bdz_dump, bdz_ph_dump, brz_dump, chm_dump, dump_of, header};
 ghost use Rattle.cm_dump.specs.Forms.{version_1};
 
+use crate::header::HEADER_LEN;
 use crate::buckets::{buckets_len, save_buckets};
 use crate::front::MAGIC;
 use crate::ranks::save_ranks;
@@ -110,7 +111,7 @@ fn chm_len(chm: &Chm) -> u64
     ensures { result ≡ length (chm_dump version_1 chm.now) }
 {
     let cells = chm.cells();
-    24 + Fields::image_len(cells.len(), cells.bound())
+    HEADER_LEN + Fields::image_len(cells.len(), cells.bound())
 }
 
 /// How many bytes the dump of a BDZ function has.
@@ -118,7 +119,7 @@ fn chm_len(chm: &Chm) -> u64
 fn bdz_len(bdz: &Bdz) -> u64
     ensures { result ≡ length (bdz_dump version_1 bdz.now) }
 {
-    24 + Crumbs::image_len(bdz.cells().len(), 4) + 4 * bdz.ranks().entries() as u64
+    HEADER_LEN + Crumbs::image_len(bdz.cells().len(), 4) + 4 * bdz.ranks().entries() as u64
 }
 
 /// How many bytes the dump of a BDZ_PH function has.
@@ -126,7 +127,7 @@ fn bdz_len(bdz: &Bdz) -> u64
 fn bdz_ph_len(bdz_ph: &BdzPh) -> u64
     ensures { result ≡ length (bdz_ph_dump version_1 bdz_ph.now) }
 {
-    24 + Trits::image_len(bdz_ph.cells().len(), 3)
+    HEADER_LEN + Trits::image_len(bdz_ph.cells().len(), 3)
 }
 
 /// How many bytes the dump of a BRZ function has.
@@ -134,7 +135,7 @@ fn bdz_ph_len(bdz_ph: &BdzPh) -> u64
 fn brz_len(brz: &Brz) -> u64
     ensures { result ≡ length (brz_dump version_1 brz.now) }
 {
-    24 + buckets_len(brz)
+    HEADER_LEN + buckets_len(brz)
 }
 
 /// How many bytes the dump of a function has. Allocates no memory.

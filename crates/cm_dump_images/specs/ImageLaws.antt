@@ -12,14 +12,14 @@ use Rattle.cm_bits.specs.declared.fault.ImageFault.{ImageFault}
 use Rattle.cm_bits.specs.declared.fault.ImageFault.TheVariants as image
 use Rattle.cm_dump_items.specs.Reading.{item_at}
 use Rattle.cm_dump_items.specs.ItemLaws.{lt_of}
-use Rattle.cm_io.specs.declared.key_pass.TheConstants.{MAX_KEYS}
+use Rattle.cm_spec.specs.declared.limits.TheConstants.{MAX_EDGES, MAX_KEYS, MAX_VERTICES}
 use Rattle.cm_spec.specs.Image.{width_of, fields_len, fields_byte, packed_len, packed_byte}
 use Rattle.cm_spec.specs.Lists.{list_of}
 use Rattle.cm_dump_images.specs.Places.{AreNear, IsPlace}
 use Rattle.cm_dump_images.specs.Images.{image_at}
 
 -- an image of cells is short enough to be counted
-pub cells_near : (m n : ℕ) → m ≤ 67108864 → n ≤ 671088645 → fields_len (width_of m) n < 2 ^ 33
+pub cells_near : (m n : ℕ) → m ≤ MAX_EDGES → n ≤ MAX_VERTICES → fields_len (width_of m) n < 2 ^ 33
 cells_near m n small few =
     let w = width-fits m small in
     let le : n * width_of m ≤ n * 26 = mul-le-mul_left n w.1 in
@@ -61,7 +61,7 @@ place_or place false true lowest last f few small is = subst (IsPlace place) (so
 place_or place false false lowest last f few small is = absurd (none_some f is)
 
 -- the faults of an image of fields are near enough to be counted
-pub fields_near : (m n : ℕ) → m ≤ MAX_KEYS → n ≤ 671088645 → AreNear (fields_len (width_of m) n) (λ i. i * width_of m / 8) (fields_fault (width_of m) n m)
+pub fields_near : (m n : ℕ) → m ≤ MAX_KEYS → n ≤ MAX_VERTICES → AreNear (fields_len (width_of m) n) (λ i. i * width_of m / 8) (fields_fault (width_of m) n m)
 unfolding fields_fault
 fields_near m n small few bytes f long is =
     let w = width-fits m (omega (arith, small)) in
@@ -70,7 +70,7 @@ fields_near m n small few bytes f long is =
     place_or _ _ _ _ (length bytes - 1) f (λ t. (omega (arith, lt_of _ _ t, few), near _ (lt_of _ _ t))) (omega (arith, short, long)) is
 
 -- and so are those of cells that are digits
-pub packed_near : (d p n : ℕ) → n ≤ 671088645 → packed_len p n < 2 ^ 33 → AreNear (packed_len p n) (λ i. i / p) (packed_fault d p n)
+pub packed_near : (d p n : ℕ) → n ≤ MAX_VERTICES → packed_len p n < 2 ^ 33 → AreNear (packed_len p n) (λ i. i / p) (packed_fault d p n)
 unfolding packed_fault
 packed_near d p n few short bytes f long is =
     let near : (i : ℕ) → i < n → i / p < 2 ^ 62 = λ i l. omega (arith, div-le_self i p, few, l) in

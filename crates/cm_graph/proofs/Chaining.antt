@@ -13,6 +13,7 @@ use Rattle.cm_graph.specs.declared.linked.Chain.{Chain}
 use Rattle.cm_graph.proofs.Chains.{times-cons, one_same, chain_kept, chain_cut, before_is_there}
 use Rattle.cm_graph.proofs.Places.{place_same_vertex, place_free, place_taken, place_here, place_other, place_half, place_within, count_at, position_of_one}
 use Rattle.cm_graph.proofs.Positions.{long, apart_less, place_is, touches_at, touched_at, bare_half, bare_count, count_here, count_other}
+use Rattle.cm_spec.specs.declared.limits.TheConstants.{MAX_EDGES}
 
 -- what is kept when the chain of one vertex changes
 chained_at : (chains : List Chain) (next next' : List ℕ) (old new : List (List (Option ℕ))) (v : ℕ) (y : Chain)
@@ -239,7 +240,7 @@ lone_first l chains next slots v x is a h read free =
     (p.0 ∙ ap (λ l. place_of l v) is, p.1 ∙ ap (λ l. sole_of l v) is)
 
 -- if nothing is linked yet
-pub chained_none : (n m : ℕ) (chains : List Chain) (next : List ℕ) → chains ≡ replicate n (record { degree = 0; first = 0 }) → length next ≡ 4 * m → m ≤ 67108864 → n < 4294967296 → AreChained chains next (replicate m [])
+pub chained_none : (n m : ℕ) (chains : List Chain) (next : List ℕ) → chains ≡ replicate n (record { degree = 0; first = 0 }) → length next ≡ 4 * m → m ≤ MAX_EDGES → n < 4294967296 → AreChained chains next (replicate m [])
 chained_none n m chains next are long few fits = record {
   few = rw length-replicate few;
   fits = subst (λ k. k < 4294967296) (sym (ap length are ∙ length-replicate n (let z : Chain = record { degree = 0; first = 0 } in z))) fits;

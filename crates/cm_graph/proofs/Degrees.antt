@@ -13,6 +13,7 @@ use Rattle.cm_graph_edges.specs.declared.incidence.Half.{Half}
 use Rattle.cm_graph.proofs.Linking.{linked_first, relinked}
 use Rattle.cm_graph.proofs.Positions.{bare_count, count_new, touched_at, touches_at}
 use Rattle.cm_graph.proofs.Splitting.{apart, next, popped, vertex}
+use Rattle.cm_spec.specs.declared.limits.TheConstants.{MAX_EDGES}
 
 abbrev one_if : Bool → ℕ
 one_if b = cond b 1 0
@@ -35,7 +36,7 @@ count_le f (x ∷ xs) (y ∷ ys) d h pass = omega (
 )
 
 -- no degree is greater than the number of edges
-pub within_edges : (l : Links) → length l.slots ≤ 67108864 → AreDegreesWithin 67108864 l
+pub within_edges : (l : Links) → length l.slots ≤ MAX_EDGES → AreDegreesWithin MAX_EDGES l
 within_edges l few v below = omega (arith, count_by-le-length (slot_touches v) l.slots, few)
 
 -- the first edges

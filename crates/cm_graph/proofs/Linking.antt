@@ -12,6 +12,7 @@ use Rattle.cm_spec.specs.Graph.{touches}
 use Rattle.cm_graph_edges.specs.Graph.{Links, IsFree, IsLinked, linked, halves_of, slot_touches}
 use Rattle.cm_graph.specs.Next.{halves_at, half_at, AreNext}
 use Rattle.cm_graph_edges.specs.declared.incidence.Half.{Half}
+use Rattle.cm_spec.specs.declared.limits.TheConstants.{MAX_EDGES}
 
 pub links_eq : (a b : ℕ) (s t : List (List (Option ℕ))) → a ≡ b → s ≡ t → ◌≡◌ {A = Links} (record { vertices = a; slots = s }) (record { vertices = b; slots = t })
 links_eq a b s t p q = λ i. record { vertices = p i; slots = q i }
@@ -87,7 +88,7 @@ linked_apart l e j q ends within apart position edge =
     ap (λ i. slot_touches (get_or ends j 0) (halves_at (linked l e (take j ends)).slots i)) edge ∙ (ap (slot_touches (get_or ends j 0)) (get_or-set_same l.slots e (halves_of (take j ends)) [] within) ∙ (touches_halves (get_or ends j 0) (take j ends) ∙ touches_before ends j apart position))
 
 -- the number of an edge is in range
-pub few_edges : (l now : Links) (e : ℕ) (ends : List ℕ) (slots : List (List (Option ℕ))) → e < length l.slots → now ≡ linked l e ends → slots ≡ now.slots → length slots ≤ 67108864 → e < 67108864
+pub few_edges : (l now : Links) (e : ℕ) (ends : List ℕ) (slots : List (List (Option ℕ))) → e < length l.slots → now ≡ linked l e ends → slots ≡ now.slots → length slots ≤ MAX_EDGES → e < MAX_EDGES
 few_edges l now e ends slots within is same most = omega (arith, within, ap length same, ap (λ (x : Links). length x.slots) is, length-set l.slots e (halves_of ends), most)
 
 -- the first e edges linked, of all

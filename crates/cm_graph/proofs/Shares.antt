@@ -14,6 +14,7 @@ use Rattle.cm_graph.specs.Kept.{AreKept, with_place, without_place, share_of, xo
 use Rattle.cm_graph_edges.specs.declared.incidence.Half.{Half}
 use Rattle.cm_graph.specs.declared.wide.Vertex.{Vertex}
 use Rattle.cm_graph.proofs.Positions.{touched_at, place_is, long, in_more, apart_less, apart_more, touches_less, touches_more, touches_other, count_here, count_other, bare_half, bare_count}
+use Rattle.cm_spec.specs.declared.limits.TheConstants.{MAX_EDGES}
 
 swap_ends : (a w b : ℕ) → bit_xor (bit_xor a w) b ≡ bit_xor (bit_xor b w) a
 swap_ends a w b = ap (λ x. bit_xor x b) (xor_comm a w) ∙ (xor_assoc w a b ∙ (ap (bit_xor w) (xor_comm a b) ∙ (sym (xor_assoc w b a) ∙ ap (λ x. bit_xor x a) (xor_comm w b))))
@@ -163,7 +164,7 @@ pub some_degree : (vertices : List Vertex) (less more : List (List (Option ℕ))
 some_degree vertices less more h x k n within is = omega (arith, word_degree vertices more h.vertex x k within is, count_here n k.apart)
 
 -- no degree is greater than the number of edges
-pub few_degree : (vertices : List Vertex) (slots : List (List (Option ℕ))) (u : ℕ) (x : Vertex) → AreKept vertices slots → u < length vertices → x ≡ get_or vertices u x → x.degree ≤ 67108864
+pub few_degree : (vertices : List Vertex) (slots : List (List (Option ℕ))) (u : ℕ) (x : Vertex) → AreKept vertices slots → u < length vertices → x ≡ get_or vertices u x → x.degree ≤ MAX_EDGES
 few_degree vertices slots u x k within is = omega (arith, word_degree vertices slots u x k within is, count_by-le-length (slot_touches u) slots, k.few)
 
 -- the place and the edge at degree one
@@ -178,7 +179,7 @@ place_one vertices slots u x k within is one =
     (all, omega (arith, all, few))
 
 -- if nothing is linked yet
-pub kept_none : (n m : ℕ) (vertices : List Vertex) → vertices ≡ replicate n (record { degree = 0; places = 0 }) → m ≤ 67108864 → n < 4294967296 → AreKept vertices (replicate m [])
+pub kept_none : (n m : ℕ) (vertices : List Vertex) → vertices ≡ replicate n (record { degree = 0; places = 0 }) → m ≤ MAX_EDGES → n < 4294967296 → AreKept vertices (replicate m [])
 kept_none n m vertices are few fits = record {
   few = rw length-replicate few;
   fits = subst (λ k. k < 4294967296) (sym (ap length are ∙ length-replicate n (let z : Vertex = record { degree = 0; places = 0 } in z))) fits;

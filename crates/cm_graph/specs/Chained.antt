@@ -3,6 +3,7 @@ use Rattle.std.specs.Prelude.{◌≡◌, ℕ, zero, suc, ◌-◌, ◌*◌, ◌/�
 use Rattle.cm_graph_edges.specs.Graph.{lies_in, slot_touches}
 use Rattle.cm_graph.specs.Next.{half_at, AreApart}
 use Rattle.cm_graph.specs.declared.linked.Chain.{Chain}
+use Rattle.cm_spec.specs.declared.limits.TheConstants.{MAX_EDGES}
 
 -- n places from q on, each followed by what `next` has for it
 abbrev pub chain_of : List ℕ → ℕ → ℕ → List ℕ
@@ -36,7 +37,7 @@ is_place slots v q = lies_in v (half_at slots (q / 4) (q % 4))
 
 -- each vertex has its degree, and a chain that has each of its places once, and no other; `next` has a number for each place
 pub record AreChained (chains : List Chain) (next : List ℕ) (slots : List (List (Option ℕ))) : Type 0 where
-  pub few : length slots ≤ 67108864
+  pub few : length slots ≤ MAX_EDGES
   pub fits : length chains < 4294967296
   pub long : length next ≡ 4 * length slots
   pub apart : AreApart slots

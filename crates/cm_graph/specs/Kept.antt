@@ -4,6 +4,7 @@ use Rattle.std.specs.List.{position_or_len}
 use Rattle.cm_graph_edges.specs.Graph.{lies_in, slot_touches}
 use Rattle.cm_graph.specs.Next.{AreApart}
 use Rattle.cm_graph.specs.declared.wide.Vertex.{Vertex}
+use Rattle.cm_spec.specs.declared.limits.TheConstants.{MAX_EDGES}
 
 -- what the slot of number e adds to the xor of v: the place of its half-edge in v
 abbrev pub share_of : ℕ → ℕ → List (Option ℕ) → ℕ
@@ -16,7 +17,7 @@ xor_of v e (s ∷ ss) = bit_xor (share_of v e s) (xor_of v (suc e) ss)
 
 -- each vertex has its degree, and the xor of the places of its half-edges
 pub record AreKept (vertices : List Vertex) (slots : List (List (Option ℕ))) : Type 0 where
-  pub few : length slots ≤ 67108864
+  pub few : length slots ≤ MAX_EDGES
   pub fits : length vertices < 4294967296
   pub apart : AreApart slots
   pub degree : (v : ℕ) (x : Vertex) → v < length vertices → (slice_index_or vertices v x).degree ≡ count_by (slot_touches v) slots

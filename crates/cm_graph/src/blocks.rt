@@ -2,6 +2,7 @@
 ghost use Rattle.std.specs.Prelude.{◌≡◌, ◌≢◌, ◌+◌, ◌*◌, ◌<◌, ◌≤◌, true, [], IfOk, length, replicate};
 ghost use Rattle.cm_graph_edges.specs.Graph.{AreDegreesWithin, all_linked};
 ghost use Rattle.cm_graph.specs.Waiting.{AreSplit, IsEnd, IsSame, IsMore, AreFirst, count_waiting, times_of, waiting_in};
+ghost use Rattle.cm_spec.specs.declared.limits.TheConstants.{MAX_EDGES};
 
 use crate::halves::{Halves, link_each};
 use cm_graph_edges::{Edges, Half, Steps};
@@ -101,7 +102,7 @@ fn add_edge<const K: usize, S: Halves, L: Ledger>(
     steps: &mut Steps<L>,
 ) -> Result<bool, AllocError>
     requires edge { e < length edges.now.edges }
-    requires few { length edges.now.edges ≤ 67108864 }
+    requires few { length edges.now.edges ≤ MAX_EDGES }
     requires many { edges.now.vertices < 65536 * length buckets.old.items }
     requires split { AreSplit K edges.now.vertices edges.now.edges (S.kept store.old) buckets.old.items }
     requires first { AreFirst K (4 * e) (S.kept store.old).slots buckets.old.items }

@@ -3,6 +3,7 @@ ghost use Rattle.std.specs.Prelude.{◌≡◌, ◌↔◌, ℕ, ◌+◌, ◌*◌,
 ghost use Rattle.cm_spec.specs.Graph.{IsEdge};
 ghost use Rattle.cm_graph_edges.specs.Graph.{Links, IsFree, IsLinked, IsWidth, AreDegreesWithin, AreHalves, all_linked, linked, unlinked, removed_all, places_of, alone_from, place_of, degree_of, sole_of, is_free, slot_touches};
 ghost use Rattle.cm_graph.specs.Next.{AreNext, halves_at};
+ghost use Rattle.cm_spec.specs.declared.limits.TheConstants.{MAX_EDGES};
 
 use crate::slots::Slots;
 use cm_graph_edges::{Edges, Half, Steps};
@@ -19,7 +20,7 @@ pub(crate) trait Halves: Sized {
     /// The slots, for proofs.
     fn slots(&self) -> Slots
         ensures slots { result.each ≡ (kept self.now).slots }
-        ensures few { length result.each ≤ 67108864 }
+        ensures few { length result.each ≤ MAX_EDGES }
         ensures vertices { (kept self.now).vertices < 4294967296 };
 
     /// Adds a half-edge, with which the slots are `more`. Returns false, and changes nothing, if its vertex has the greatest degree

@@ -3,6 +3,7 @@ ghost use Rattle.std.specs.Prelude.{◌≡◌, ◌+◌, ◌<◌, ◌≤◌, [], 
 ghost use Rattle.cm_spec.specs.Graph.{IsEdge};
 ghost use Rattle.cm_graph_edges.specs.Graph.{IsFree, IsLinked, linked, unlinked};
 ghost use Rattle.cm_graph.specs.Chained.{chain_from, before_in, chain_without, next_without};
+ghost use Rattle.cm_spec.specs.declared.limits.TheConstants.{MAX_EDGES};
 
 use crate::halves::{Halves, link_each, link_edge, list_from, remove_all, unlink_edge};
 use crate::slots::Slots;
@@ -78,7 +79,7 @@ fn cut(next: &mut [u32], chain: Chain, place: u32) -> Chain
 impl Chains {
     /// No half-edge, over `vertices` vertices, with edge numbers below `edges`.
     fn empty(alloc: Global, vertices: u32, edges: u32) -> Result<Self, AllocError>
-        requires edges { edges ≤ 67108864 }
+        requires edges { edges ≤ MAX_EDGES }
         ensures { IfOk result (λ made. made ≡ record { vertices = vertices; slots = replicate edges [] }) }
     {
         let none = Chain {
@@ -97,7 +98,7 @@ impl Halves for Chains {
     ghost kept = { λ x. x };
 
     // No more edges than that can be linked.
-    ghost most_degree = { 67108864 };
+    ghost most_degree = { MAX_EDGES };
 
     fn slots(&self) -> Slots {
         self.slots.same()

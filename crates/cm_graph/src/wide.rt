@@ -1,6 +1,7 @@
 //! A degree and a xor of places for each vertex, in 8 bytes.
 ghost use Rattle.std.specs.Prelude.{◌≡◌, ◌≤◌, IfOk, [], replicate, length};
 ghost use Rattle.cm_graph_edges.specs.Graph.{Links};
+ghost use Rattle.cm_spec.specs.declared.limits.TheConstants.{MAX_EDGES};
 
 use crate::halves::Halves;
 use crate::slots::Slots;
@@ -37,7 +38,7 @@ impl Model for Wide {
 impl Wide {
     /// No half-edge, over `vertices` vertices, with edge numbers below `edges`.
     pub(crate) fn empty(alloc: Global, vertices: u32, edges: u32) -> Result<Self, AllocError>
-        requires edges { edges ≤ 67108864 }
+        requires edges { edges ≤ MAX_EDGES }
         ensures { IfOk result (λ made. made ≡ record { vertices = vertices; slots = replicate edges [] }) }
     {
         let none = Vertex {
@@ -55,7 +56,7 @@ impl Halves for Wide {
     ghost kept = { λ x. x };
 
     // No more edges than that can be linked.
-    ghost most_degree = { 67108864 };
+    ghost most_degree = { MAX_EDGES };
 
     fn slots(&self) -> Slots {
         self.slots.same()

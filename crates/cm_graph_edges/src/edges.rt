@@ -2,6 +2,7 @@
 ghost use Rattle.std.specs.Prelude.{◌≡◌, ◌<◌, ◌≤◌, [], ◌∷◌, ◌++◌, length, map, All, IfOk, IsOk, OnOk, OnErr, slice_get, Some};
 ghost use Rattle.cm_spec.specs.Graph.{IsEdge, AreEdges, ends_at};
 ghost use Rattle.cm_graph_edges.specs.Graph.{Graph, IsWidth};
+ghost use Rattle.cm_spec.specs.declared.limits.TheConstants.{MAX_EDGES, MAX_VERTICES};
 
 use std::alloc::{AllocError, Global};
 use std::marker::Model;
@@ -19,12 +20,13 @@ impl<const K: usize> Model for Edges<K> {
     ghost use Rattle.std.specs.Prelude.{ℕ, ◌≤◌, length, vec_capacity};
     ghost use Rattle.cm_spec.specs.Graph.{AreEdges};
     ghost use Rattle.cm_graph_edges.specs.Graph.{Graph, IsWidth};
+    ghost use Rattle.cm_spec.specs.declared.limits.TheConstants.{MAX_EDGES, MAX_VERTICES};
 
     ghost Value = { Graph };
 
     ghost view = { λ g. record { vertices = g.vertices; room = g.room; edges = g.ends.items } };
 
-    ghost invariant = { λ g. IsWidth K × (g.vertices ≤ 671088645) × (length g.ends.items ≤ 67108864) × (g.room ≤ 67108864) × (g.room ≤ vec_capacity g.ends) × AreEdges K g.vertices g.ends.items };
+    ghost invariant = { λ g. IsWidth K × (g.vertices ≤ MAX_VERTICES) × (length g.ends.items ≤ MAX_EDGES) × (g.room ≤ MAX_EDGES) × (g.room ≤ vec_capacity g.ends) × AreEdges K g.vertices g.ends.items };
 }
 
 /// What lends a list of edges. `Incidence::from_edges` asks for one by this bound, since no impl at a type that has `K` itself is proved
@@ -50,7 +52,7 @@ impl<const K: usize> Edges<K> {
     /// No edge yet, over `n` vertices, and room for none.
     pub fn new(alloc: Global, n: u32) -> Self
         requires width { IsWidth K }
-        requires few { n ≤ 671088645 }
+        requires few { n ≤ MAX_VERTICES }
         ensures vertices { result.vertices ≡ n }
         ensures room { result.room ≡ 0 }
         ensures edges { result.edges ≡ [] }
@@ -65,8 +67,8 @@ impl<const K: usize> Edges<K> {
     /// No edge yet, over `n` vertices, and room for `room` edges. Their memory is taken here, so `push` doesn't fail within this room.
     pub fn with_capacity(alloc: Global, n: u32, room: u32) -> Result<Self, AllocError>
         requires width { IsWidth K }
-        requires few { n ≤ 671088645 }
-        requires room { room ≤ 67108864 }
+        requires few { n ≤ MAX_VERTICES }
+        requires room { room ≤ MAX_EDGES }
         ensures vertices { IfOk result (λ made. made.vertices ≡ n) }
         ensures room { IfOk result (λ made. made.room ≡ room) }
         ensures edges { IfOk result (λ made. made.edges ≡ []) }
@@ -80,7 +82,7 @@ impl<const K: usize> Edges<K> {
 
     /// Adds an edge. If memory runs out, nothing changes. It doesn't run out while there is room.
     pub fn push(&mut self, ends: [u32; K]) -> Result<(), AllocError>
-        requires room { length self.old.edges < 67108864 }
+        requires room { length self.old.edges < MAX_EDGES }
         requires edge { IsEdge self.old.vertices ends }
         ensures ok { OnOk result (self.new ≡ record self.old { edges = self.old.edges ++ ends.entry ∷ [] }) }
         ensures err { OnErr result (self.new ≡ self.old) }
@@ -102,7 +104,7 @@ impl<const K: usize> Edges<K> {
     /// How many edges there are.
     pub fn len(&self) -> u32
         ensures count { result ≡ length self.now.edges }
-        ensures bound { result ≤ 67108864 }
+        ensures bound { result ≤ MAX_EDGES }
         ensures width { IsWidth K }
         ensures edges { AreEdges K self.now.vertices self.now.edges }
     {
@@ -112,7 +114,7 @@ impl<const K: usize> Edges<K> {
     /// How many vertices there are.
     pub fn vertices(&self) -> u32
         ensures count { result ≡ self.now.vertices }
-        ensures bound { result ≤ 671088645 }
+        ensures bound { result ≤ MAX_VERTICES }
     {
         self.vertices
     }

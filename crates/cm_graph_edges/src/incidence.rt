@@ -2,6 +2,7 @@
 ghost use Rattle.std.specs.Prelude.{◌≡◌, ◌<◌, ◌≤◌, ◌+◌, ◌*◌, Bool, true, [], All, IfOk, length, replicate, take};
 ghost use Rattle.cm_spec.specs.Graph.{IsEdge};
 ghost use Rattle.cm_graph_edges.specs.Graph.{Links, IsLinked, IsFree, IsWidth, AreHalves, all_linked, linked, unlinked, removed_all, places_of, alone_from, degree_of, sole_of};
+ghost use Rattle.cm_spec.specs.declared.limits.TheConstants.{MAX_EDGES, MAX_VERTICES};
 
 use crate::edges::EdgeList;
 use crate::steps::Steps;
@@ -27,8 +28,8 @@ pub trait Incidence<const K: usize>: Sized {
     /// No edge linked, over `vertices` vertices, with edge numbers below `edges`. Fails only if memory runs out.
     fn empty(alloc: Global, vertices: u32, edges: u32) -> Result<Self, AllocError>
         requires width { IsWidth K }
-        requires vertices { vertices ≤ 671088645 }
-        requires edges { edges ≤ 67108864 }
+        requires vertices { vertices ≤ MAX_VERTICES }
+        requires edges { edges ≤ MAX_EDGES }
         ensures links { IfOk result (λ made. links made ≡ record { vertices = vertices; slots = replicate edges [] }) }
         ensures takes { IfOk result (λ made. takes made ≡ true) };
 

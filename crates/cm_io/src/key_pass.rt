@@ -2,12 +2,10 @@ ghost use Rattle.std.specs.Prelude.{◌≡◌, ◌<◌, ◌≤◌, ◌+◌, ◌+
 ghost use Rattle.std.specs.Option.{ForSome};
 ghost use Rattle.cm_io.specs.Passes.{Told, HasKeyCause, GivesFour, GivesKey, PassesKeys, failure_of};
 ghost use Rattle.cm_spec.specs.Lookup2.{words};
+ghost use Rattle.cm_spec.specs.declared.limits.TheConstants.{MAX_KEYS};
 
 use arrayvec::ArrayVec;
 use thiserror::Error;
-
-/// How many keys a pass yields at most.
-pub const MAX_KEYS: u32 = 16_777_216;
 
 /// How many bytes a key has at most.
 pub const MAX_KEY_LEN: usize = 65_535;
@@ -32,6 +30,7 @@ pub enum KeyFault {
 /// A list of keys that can be passed again.
 pub trait KeyPass {
     ghost use Rattle.cm_io.specs.declared.key_pass.KeyFault.{KeyFault};
+    ghost use Rattle.cm_spec.specs.declared.limits.TheConstants.{MAX_KEYS};
 
     /// The keys with their lines and the fault at their end, if they are known.
     ghost told: { Self → Option Told };

@@ -1,12 +1,7 @@
 //! Numbers that the formats and messages rest on. Each function has an empty body, and its clause is checked by the prover.
 ghost use Rattle.std.specs.Prelude.{◌≡◌};
 
-use crate::{MAX_KEY_LEN, MAX_KEYS};
-
-/// A pass yields at most 2^24 keys.
-pub fn max_keys()
-    ensures { MAX_KEYS ≡ 16777216 }
-{}
+use crate::MAX_KEY_LEN;
 
 /// A key has at most 65,535 bytes, so that its length is a `u16`.
 pub fn max_key_len()

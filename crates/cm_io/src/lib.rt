@@ -12,8 +12,9 @@ mod spill;
 
 pub use disk::Disk;
 pub use fault::{DiskFault, Failed};
-pub use key_pass::{KeyBuf, KeyFault, KeyPass, MAX_KEY_LEN, MAX_KEYS};
+pub use key_pass::{KeyBuf, KeyFault, KeyPass, MAX_KEY_LEN};
 pub use notes::Notes;
 pub use sink::{Sink, write_pieces};
 pub use source::Source;
 pub use spill::Spill;
+pub use cm_spec::MAX_KEYS;

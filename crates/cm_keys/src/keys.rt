@@ -32,7 +32,8 @@ impl<S: Source> Model for Keys<S> {
     ghost use Rattle.cm_keys.specs.Leaving.{IsPassing};
     ghost use Rattle.cm_keys.specs.Buffering.{ready_in};
     ghost use Rattle.cm_keys.specs.declared.keys.TheConstants.{LINE_END};
-    ghost use Rattle.cm_io.specs.declared.key_pass.TheConstants.{MAX_KEYS, MAX_KEY_LEN};
+    ghost use Rattle.cm_io.specs.declared.key_pass.TheConstants.{MAX_KEY_LEN};
+    ghost use Rattle.cm_spec.specs.declared.limits.TheConstants.{MAX_KEYS};
 
     ghost Value = { LinePass };
 
@@ -135,7 +136,8 @@ fn may_give_many(first: Option<u32>, given: u32, many: u32) -> bool
 
 impl<S: Source> KeyPass for Keys<S> {
     ghost use Rattle.cm_keys.specs.declared.keys.TheConstants.{LINE_END};
-    ghost use Rattle.cm_io.specs.declared.key_pass.TheConstants.{MAX_KEYS, MAX_KEY_LEN};
+    ghost use Rattle.cm_io.specs.declared.key_pass.TheConstants.{MAX_KEY_LEN};
+    ghost use Rattle.cm_spec.specs.declared.limits.TheConstants.{MAX_KEYS};
 
     ghost told = { λ k. keys_of MAX_KEYS MAX_KEY_LEN LINE_END k };
 

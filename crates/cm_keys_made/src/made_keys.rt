@@ -21,7 +21,7 @@ pub struct MadeKeys {
 
 impl Model for MadeKeys {
     ghost use Rattle.std.specs.Prelude.{◌≤◌, ◌*◌};
-    ghost use Rattle.cm_io.specs.declared.key_pass.TheConstants.{MAX_KEYS};
+    ghost use Rattle.cm_spec.specs.declared.limits.TheConstants.{MAX_KEYS};
     ghost use Rattle.cm_keys_made.specs.Sources.{MadeSource};
 
     ghost Value = { MadeSource };

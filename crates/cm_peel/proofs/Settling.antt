@@ -21,6 +21,7 @@ use Rattle.cm_peel.proofs.Marking.{unmarked}
 use Rattle.cm_peel.proofs.Sets.{and_true, same_from}
 use Rattle.cm_peel.proofs.Taking.{AreApart-append, has-append, least-le, least-low, least-unlisted, or_none}
 use Rattle.cm_peel.proofs.Waits.{piece_set}
+use Rattle.cm_spec.specs.declared.limits.TheConstants.{MAX_EDGES}
 
 -- the places of a block as they are read
 pub block_read : (blocks each : ℕ) (freed : List ℕ) (b : ℕ) → b < blocks → take (blocks + b * each + get_or freed b 0 - (blocks + b * each)) (drop (blocks + b * each) (set freed b 0)) ≡ freed_in blocks each freed b
@@ -249,7 +250,7 @@ marked_count t blocks each b count marks marks' bytes bytes' freed after next lo
       inside e (inr m) = omega (arith, below e m, r.all_marks, long)
 
 -- before a place waits, and once none waits
-pub leads_begun : (t blocks each : ℕ) (marks bytes freed : List ℕ) → blocks + blocks * each ≤ length freed → length freed ≤ 67109056 → each ≤ 16384 → length bytes ≤ 131072 * blocks → length bytes ≤ 64 * length marks → 64 * length marks ≤ 67108864 → marks ≡ replicate (length marks) 0 → ((b : ℕ) → b < blocks → get_or freed b 0 ≡ 0) → Leads t blocks each marks bytes freed bytes []
+pub leads_begun : (t blocks each : ℕ) (marks bytes freed : List ℕ) → blocks + blocks * each ≤ length freed → length freed ≤ 67109056 → each ≤ 16384 → length bytes ≤ 131072 * blocks → length bytes ≤ 64 * length marks → 64 * length marks ≤ MAX_EDGES → marks ≡ replicate (length marks) 0 → ((b : ℕ) → b < blocks → get_or freed b 0 ≡ 0) → Leads t blocks each marks bytes freed bytes []
 leads_begun t blocks each marks bytes freed within few short all room fits clear empty = record {
   all_marks = room;
   few_marks = fits;

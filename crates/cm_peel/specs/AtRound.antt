@@ -8,11 +8,12 @@ use Rattle.cm_graph_edges.specs.Graph.{Graph, Links}
 use Rattle.cm_peel.specs.Incident.{AreLinked, is_half_left, is_picked, free_position, other_halves_all}
 use Rattle.cm_peel.specs.Peeling.{is_taken}
 use Rattle.cm_peel.specs.SetLaws.{AreApart}
+use Rattle.cm_spec.specs.declared.limits.TheConstants.{MAX_EDGES}
 
 -- the edges have k ends each, and k and their number are within the limits
 pub record IsSmall (k : ℕ) (graph : Graph) : Type 0 where
   pub ends : k ≤ 3
-  pub fits : length graph.edges ≤ 67108864
+  pub fits : length graph.edges ≤ MAX_EDGES
   pub edges : AreEdges k graph.vertices graph.edges
 
 -- what an edge that the round after t rounds removes has in its byte beside its position

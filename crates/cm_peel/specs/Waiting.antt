@@ -10,6 +10,7 @@ use Rattle.cm_peel.specs.AtRound.{AreTaken, InRound, IsOtherPlace, IsSmall}
 use Rattle.cm_peel.specs.Marks.{IsUnmarked, is_marked}
 use Rattle.cm_peel.specs.Peeling.{is_taken}
 use Rattle.cm_peel.specs.SetLaws.{AreApart}
+use Rattle.cm_spec.specs.declared.limits.TheConstants.{MAX_EDGES}
 
 -- the marked edges
 abbrev pub marked_of : List ℕ → List ℕ
@@ -48,7 +49,7 @@ pub record AreWaiting (many blocks each : ℕ) (freed waiting : List ℕ) : Type
 -- once the edges of all places that wait are taken, the bytes are those in `after`, and the marked edges are those in `next`
 pub record Leads (t blocks each : ℕ) (marks bytes freed after next : List ℕ) : Type 0 where
   pub all_marks : length bytes ≤ 64 * length marks
-  pub few_marks : 64 * length marks ≤ 67108864
+  pub few_marks : 64 * length marks ≤ MAX_EDGES
   pub old : (e : ℕ) → is_marked marks e ≡ true → is_taken bytes e ≡ true
   pub waiting : List ℕ
   pub waits : AreWaiting (length bytes) blocks each freed waiting

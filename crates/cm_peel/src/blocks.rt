@@ -7,6 +7,7 @@ ghost use Rattle.cm_graph_edges.specs.Graph.{Graph};
 ghost use Rattle.cm_peel.specs.AtRound.{InRound, IsSmall, other_places};
 ghost use Rattle.cm_peel.specs.Marks.{IsUnmarked};
 ghost use Rattle.cm_peel.specs.Waiting.{AreEmpty, AreTables, AtPart, CanWait, InTaking, IsOpen, IsSameTaking, AtTaking, halves_in, marked_of, put_room};
+ghost use Rattle.cm_spec.specs.declared.limits.TheConstants.{MAX_EDGES};
 
 use crate::chunk::{CHUNK, CHUNK_ENDS, list_halves};
 use crate::freed;
@@ -292,7 +293,7 @@ fn unlink_marked<const K: usize, I: Incidence<K>, L: Ledger>(
 /// places of `edges` edges.
 fn plan_round(rounds: u32, edges: u32, counts: usize, long: usize, space: usize) -> Plan
     requires some { 0 < edges }
-    requires fits { edges ≤ 67108864 }
+    requires fits { edges ≤ MAX_EDGES }
     requires counts { 0 < counts }
     requires long { long ≤ 67109056 }
     requires space { 1024 ≤ space }

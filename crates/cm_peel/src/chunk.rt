@@ -4,6 +4,7 @@ ghost use Rattle.std.specs.List.{position_or_len};
 ghost use Rattle.cm_graph_edges.specs.Graph.{degree_of};
 ghost use Rattle.cm_peel.specs.AtRound.{AreTaken};
 ghost use Rattle.cm_peel.specs.Incident.{other_halves, other_halves_all, pivot_in};
+ghost use Rattle.cm_spec.specs.declared.limits.TheConstants.{MAX_EDGES};
 
 use cm_graph_edges::{Edges, Half, Incidence, Steps};
 use std::sync::ledger::Ledger;
@@ -65,7 +66,7 @@ fn add_halves<const K: usize>(
     halves: &mut [Half],
 ) -> usize
     requires small { K ≤ 3 }
-    requires edge { e < 67108864 }
+    requires edge { e < MAX_EDGES }
     requires room { count + K ≤ length halves.old }
     ensures halves { take result halves.new ≡ take count halves.old ++ other_halves e pivot 0 ends.entry }
     ensures few { result ≤ count + K }
@@ -91,7 +92,7 @@ pub(crate) fn list_halves<const K: usize>(
     halves: &mut [Half],
 ) -> usize
     requires small { K ≤ 3 }
-    requires fits { length edges.now.edges ≤ 67108864 }
+    requires fits { length edges.now.edges ≤ MAX_EDGES }
     requires places { All (λ e. e < length edges.now.edges) chunk.now }
     requires long { length bytes.now ≡ length edges.now.edges }
     requires ends { length ends.old ≡ length chunk.now }
@@ -130,7 +131,7 @@ fn take_listed(
     list: &mut [u32],
     count: usize,
 ) -> usize
-    requires rounds { rounds < 67108864 }
+    requires rounds { rounds < MAX_EDGES }
     requires places { All (λ q. q / 4 < length bytes.old) places.now }
     requires marks { length places.now ≤ length marks.now }
     requires known { (i : ℕ) → i < length places.now → slice_index marks.now i ≡ slice_index bytes.old (slice_index places.now i / 4) }
@@ -163,7 +164,7 @@ pub(crate) fn take(
     list: &mut [u32],
     count: usize,
 ) -> usize
-    requires rounds { rounds < 67108864 }
+    requires rounds { rounds < MAX_EDGES }
     requires places { All (λ q. q / 4 < length bytes.old) places.now }
     requires marks { length places.now ≤ length marks.old }
     requires room { count + length places.now ≤ length list.old }

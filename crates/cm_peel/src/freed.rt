@@ -3,6 +3,7 @@
 ghost use Rattle.std.specs.Prelude.{◌≡◌, ◌≢◌, ℕ, List, ◌+◌, ◌*◌, ◌/◌, ◌<◌, ◌≤◌, length, All, slice_index, slice_set};
 ghost use Rattle.cm_peel.specs.AtRound.{AreTaken};
 ghost use Rattle.cm_peel.specs.Waiting.{AreMarked, AreOpen, Leads, marked_of, put_freed};
+ghost use Rattle.cm_spec.specs.declared.limits.TheConstants.{MAX_EDGES};
 
 use crate::chunk::{UNTAKEN, look_up_places};
 
@@ -69,7 +70,7 @@ fn mark_listed(
     bytes: &mut [u8],
     marks: &mut [u64],
 ) -> usize
-    requires rounds { rounds < 67108864 }
+    requires rounds { rounds < MAX_EDGES }
     requires places { All (λ q. q / 4 < length bytes.old) places.now }
     requires long { length places.now ≤ length known.now }
     requires known { (i : ℕ) → i < length places.now → slice_index known.now i ≡ slice_index bytes.old (slice_index places.now i / 4) }
@@ -115,7 +116,7 @@ fn put_place(place: u32, plan: Plan, freed: &mut [u32]) -> usize
 
 /// Takes the edges of the places that wait for a block of edges, and marks them. Returns how many are new.
 fn take_block(b: usize, plan: Plan, bytes: &mut [u8], freed: &mut [u32], marks: &mut [u64]) -> usize
-    requires rounds { plan.rounds < 67108864 }
+    requires rounds { plan.rounds < MAX_EDGES }
     requires there { b < plan.blocks }
     requires state { (after : List ℕ) × (next : List ℕ) × Leads plan.rounds plan.blocks plan.each marks.old bytes.old freed.old after next }
     ensures room { freed.new ≡ slice_set freed.old b 0 }
@@ -133,7 +134,7 @@ fn take_block(b: usize, plan: Plan, bytes: &mut [u8], freed: &mut [u32], marks: 
 
 /// Takes the edges of the places that wait for a block of edges if its part is full. Returns how many are new.
 fn settle(b: usize, plan: Plan, bytes: &mut [u8], freed: &mut [u32], marks: &mut [u64]) -> usize
-    requires rounds { plan.rounds < 67108864 }
+    requires rounds { plan.rounds < MAX_EDGES }
     requires there { b < plan.blocks }
     requires state { (after : List ℕ) × (next : List ℕ) × Leads plan.rounds plan.blocks plan.each marks.old bytes.old freed.old after next }
     requires others { (k : ℕ) → k < plan.blocks → k ≢ b → slice_index freed.old k < plan.each }
@@ -156,7 +157,7 @@ pub(crate) fn wait(
     freed: &mut [u32],
     marks: &mut [u64],
 ) -> usize
-    requires rounds { plan.rounds < 67108864 }
+    requires rounds { plan.rounds < MAX_EDGES }
     requires places { All (λ q. q / 4 < length bytes.old) places.now }
     requires free { AreOpen plan.blocks plan.each freed.old }
     requires state { (after : List ℕ) × (next : List ℕ) × Leads plan.rounds plan.blocks plan.each marks.old bytes.old freed.old after next }
@@ -174,7 +175,7 @@ pub(crate) fn wait(
 
 /// Takes the edges of all places that wait. Returns how many are new.
 pub(crate) fn take_all(plan: Plan, bytes: &mut [u8], freed: &mut [u32], marks: &mut [u64]) -> usize
-    requires rounds { plan.rounds < 67108864 }
+    requires rounds { plan.rounds < MAX_EDGES }
     requires state { (after : List ℕ) × (next : List ℕ) × Leads plan.rounds plan.blocks plan.each marks.old bytes.old freed.old after next }
     ensures none { (b : ℕ) → b < plan.blocks → slice_index freed.new b ≡ 0 }
     ensures state { (after next : List ℕ) → Leads plan.rounds plan.blocks plan.each marks.old bytes.old freed.old after next → Leads plan.rounds plan.blocks plan.each marks.new bytes.new freed.new after next }

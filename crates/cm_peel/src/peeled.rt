@@ -3,6 +3,7 @@ ghost use Rattle.std.specs.Prelude.{◌≡◌, ℕ, ◌+◌, ◌*◌, ◌<◌, �
 ghost use Rattle.cm_spec.specs.Core.{IsCore};
 ghost use Rattle.cm_spec.specs.Rounds.{level_of};
 ghost use Rattle.cm_peel.specs.Peeling.{IsPeelingOf, levels_of, untaken_of};
+ghost use Rattle.cm_spec.specs.declared.limits.TheConstants.{MAX_EDGES};
 
 use crate::blocks::count_blocks;
 use crate::chunk::{CHUNK_ENDS, Scratch, UNTAKEN};
@@ -75,7 +76,7 @@ impl<const K: usize> Peeled<K> {
 
 /// The edges that aren't taken by rising number. There are `many`.
 fn untaken(alloc: Global, bytes: &Vec<u8>, many: usize) -> Result<Vec<u32>, AllocError>
-    requires few { length bytes.now.items ≤ 67108864 }
+    requires few { length bytes.now.items ≤ MAX_EDGES }
     requires many { many ≡ length (untaken_of bytes.now.items) }
     ensures { IfOk result (λ v. v.items ≡ untaken_of bytes.now.items) }
 {

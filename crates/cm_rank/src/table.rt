@@ -26,7 +26,7 @@ impl Model for RankTable {
 
     ghost view = { λ t. record { idle = t.idle; shift = t.b; ranks = t.ranks.items } };
 
-    ghost invariant = { λ t. (t.b ≤ 10) × (length t.ranks.items ≤ 671088645) };
+    ghost invariant = { λ t. (t.b ≤ 10) × (length t.ranks.items ≤ MAX_CELLS) };
 }
 
 /// How many cells are not idle, from a sampled cell on. Reads at most `2^b` cells.

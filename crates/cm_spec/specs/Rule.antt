@@ -1,6 +1,7 @@
 -- The rule of an algorithm: what it takes from the hash values of a key, and what it puts into cells.
 use Rattle.std.specs.Prelude.{◌≡◌, ℕ, ◌%◌, ◌<◌, ◌≤◌, List, length}
 use Rattle.cm_spec.specs.Graph.{IsEdge}
+use Rattle.cm_spec.specs.declared.limits.TheConstants.{MAX_EDGES, MAX_VERTICES}
 
 -- the number of vertices for m keys and the ratio c in millionths; the ends for the hash values of a key over n vertices; the tag; for
 -- m keys the modulus and the bound of cells; the value of an untouched cell; what the cells of a key's ends add up to, by the key's
@@ -16,7 +17,7 @@ pub record Rule : Type 0 where
 
 -- a number of keys
 abbrev pub IsCount : ℕ → Type 0
-IsCount m = (1 ≤ m) × (m ≤ 67108864)
+IsCount m = (1 ≤ m) × (m ≤ MAX_EDGES)
 
 -- a ratio in millionths
 abbrev pub IsRatio : ℕ → Type 0
@@ -33,7 +34,7 @@ pub record IsSize (r : Rule) (n : ℕ) : Type 0 where
 -- what every rule over edges of k ends keeps
 pub record IsRule (k : ℕ) (r : Rule) : Type 0 where
   pub two_or_three : (2 ≤ k) × (k ≤ 3)
-  pub few : (n : ℕ) → IsSize r n → n ≤ 671088645
+  pub few : (n : ℕ) → IsSize r n → n ≤ MAX_VERTICES
   pub ends : (w : List ℕ) (n : ℕ) → IsSize r n → (length (r.edge w n) ≡ k) × IsEdge n (r.edge w n)
   pub target_below : (m i p t : ℕ) → IsCount m → i < m → p < k → r.target i p t < r.modulus m
   pub modulus_within : (m : ℕ) → IsCount m → r.modulus m ≤ r.bound m

@@ -3,3 +3,6 @@
 #![tactic(auto)]
 
 pub mod examples;
+pub mod limits;
+
+pub use limits::{MAX_BUCKET, MAX_EDGES, MAX_KEYS, MAX_VERTICES, MAX_WIDTH, MIN_WIDTH};

@@ -22,7 +22,7 @@ use Rattle.cm_io.specs.Causes.{Collects}
 use Rattle.cm_io.specs.Files.{Files, file_at, with_file}
 use Rattle.cm_io.specs.Passes.{Told}
 use Rattle.cm_io.specs.declared.key_pass.KeyFault.TheVariants as key_fault
-use Rattle.cm_io.specs.declared.key_pass.TheConstants.{MAX_KEYS}
+use Rattle.cm_spec.specs.declared.limits.TheConstants.{MAX_KEYS}
 use Rattle.cm_peel.specs.CoreLaws.{rest_is_core}
 use Rattle.cm_algo_seeds.specs.Fails.{FailsBuild, HasBuildCause, HasForm, HasNumbers, ShowsCore}
 use Rattle.cm_algo_seeds.specs.declared.fault.BuildFault.{BuildFault}

@@ -1,7 +1,8 @@
 -- How a function is built.
 use Rattle.std.specs.Prelude.{◌≡◌}
 use Rattle.cm_algo_names.specs.declared.algorithm.Algorithm.TheVariants.{Bdz, Brz}
-use Rattle.cm_words_values.specs.Limits.{IsBuffer, IsRatio, IsSampling, IsWidth}
+use Rattle.cm_spec.specs.Rule.{IsRatio}
+use Rattle.cm_words_values.specs.Limits.{IsBuffer, IsSampling, IsWidth}
 use Rattle.cm_tool.specs.declared.plan.Plan.{Plan}
 use Rattle.cm_words.specs.declared.jobs.BuildJob.{BuildJob}
 

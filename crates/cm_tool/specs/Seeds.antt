@@ -22,7 +22,7 @@ abbrev pub TakesFirst : Rule → List (ℕ × List ℕ) → ℕ → List ℕ →
 TakesFirst r keys c seeds seed = (place : ℕ) × IsFirst r keys c seeds place seed
 
 -- the function is that of the keys by the algorithm, with its parameter b, under the first seed of the list that works. By BRZ the
--- first that works splits the keys into buckets of at most 255, and each bucket with keys has a first seed of its own.
+-- first that works splits the keys into buckets of at most MAX_BUCKET, and each bucket with keys has a first seed of its own.
 abbrev pub IsMadeBy : Algorithm → ℕ → List (ℕ × List ℕ) → ℕ → List ℕ → Func → Type 0
 IsMadeBy Chm b keys c seeds (func.Chm f) = (f ≡ chm_under keys c f.seed) × TakesFirst chm_rule keys c seeds f.seed
 IsMadeBy Bdz b keys c seeds (func.Bdz f) = (f ≡ bdz_under keys c f.seed b) × TakesFirst bdz_rule keys c seeds f.seed

@@ -10,7 +10,7 @@ ghost use Rattle.cm_tool.specs.Faults.{FailsFunc, HasFuncCause, HasStopForm, sto
 ghost use Rattle.cm_tool.specs.Leaves.{IsBuiltFrom, IsFuncOf};
 ghost use Rattle.cm_tool.specs.Plans.{IsPlan};
 ghost use Rattle.cm_tool.specs.Spills.{HasSpilled, UnlessSpilled};
-ghost use Rattle.cm_io.specs.declared.key_pass.TheConstants.{MAX_KEYS};
+ghost use Rattle.cm_spec.specs.declared.limits.TheConstants.{MAX_KEYS};
 
 use crate::fault::{FuncFault, fault_of_brz};
 use crate::plan::Plan;

@@ -8,7 +8,7 @@ ghost use Rattle.cm_words_values.specs.Limits.{IsBuffer};
 ghost use Rattle.cm_words_values.specs.Options.{bits_value, usual_ratio};
 ghost use Rattle.cm_io.specs.Causes.{HasCause, IsSent};
 ghost use Rattle.cm_io.specs.Writing.{Writes};
-ghost use Rattle.cm_io.specs.declared.key_pass.TheConstants.{MAX_KEYS};
+ghost use Rattle.cm_spec.specs.declared.limits.TheConstants.{MAX_KEYS};
 ghost use Rattle.cm_query.specs.Sums.{answer_sum};
 ghost use Rattle.cm_tool_files.specs.Ends.{Says};
 ghost use Rattle.cm_tool.specs.Faults.{HasFuncCause, HasStopForm, stop_for};

@@ -6,6 +6,7 @@ use Rattle.cm_algo_names.specs.declared.algorithm.Algorithm.TheVariants.{Brz}
 use Rattle.cm_dump_items.specs.declared.fault.LoadFault.{LoadFault}
 use Rattle.cm_dump_items.specs.declared.fault.LoadFault.TheVariants as faults
 use Rattle.cm_io.specs.Writing.{joined}
+use Rattle.cm_spec.specs.declared.limits.TheConstants.{MAX_BUCKET, MAX_KEYS}
 use Rattle.cm_tool_files.specs.declared.built.Summary.{Summary}
 use Rattle.cm_tool_files.specs.declared.stop.Reason.{Reason}
 use Rattle.cm_tool_files.specs.declared.stop.Reason.TheVariants.{NoSeed, NoSeedFor, NoSplit}
@@ -27,7 +28,7 @@ usage_message usage.NoFile = joined (codes "cmph: no keys file\n" ∷ [])
 abbrev pub reason_message : Reason → List ℕ
 reason_message NoSeed = joined (codes "cmph: no seed of the list gives an empty core\n" ∷ [])
 reason_message (NoSeedFor bucket) = joined (codes "cmph: bucket " ∷ decimal bucket ∷ codes " has no seed with an empty core\n" ∷ [])
-reason_message NoSplit = joined (codes "cmph: every split has a bucket with more than 255 keys\n" ∷ [])
+reason_message NoSplit = joined (codes "cmph: every split has a bucket with more than " ∷ decimal MAX_BUCKET ∷ codes " keys\n" ∷ [])
 
 abbrev pub cannot_read : List ℕ → List ℕ
 cannot_read file = joined (codes "cmph: " ∷ file ∷ codes ": cannot read\n" ∷ [])
@@ -90,7 +91,7 @@ abbrev pub line_too_long : List ℕ → ℕ → List ℕ
 line_too_long file line = joined (codes "cmph: " ∷ file ∷ codes ": line " ∷ decimal line ∷ codes " is too long\n" ∷ [])
 
 abbrev pub too_many_keys : List ℕ → List ℕ
-too_many_keys file = joined (codes "cmph: " ∷ file ∷ codes ": more than 16777216 keys\n" ∷ [])
+too_many_keys file = joined (codes "cmph: " ∷ file ∷ codes ": more than " ∷ decimal MAX_KEYS ∷ codes " keys\n" ∷ [])
 
 -- what is counted beside the keys
 abbrev pub counted : Algorithm → List ℕ

@@ -11,6 +11,7 @@ use crate::stop::{QueryStop, Reason, Stop};
 use cm_algo_names::Algorithm;
 use cm_dump::LoadFault;
 use cm_io::{Notes, Sink};
+use cm_spec::{MAX_BUCKET, MAX_KEYS};
 use cm_words::{BuildJob, QueryJob, UsageFault};
 use itoa::Buffer;
 
@@ -228,9 +229,11 @@ fn note_reason<E: Sink>(reason: Reason, err: &mut E, notes: &mut Notes)
             );
         }
         Reason::NoSplit => {
+            let mut buffer = Buffer::new();
+            let text = buffer.format(MAX_BUCKET).as_bytes();
             notes.note_pieces(
                 err,
-                &[b"cmph: every split has a bucket with more than 255 keys\n"],
+                &[b"cmph: every split has a bucket with more than ", text, b" keys\n"],
             );
         }
     }
@@ -332,7 +335,9 @@ fn note_many_keys<E: Sink>(file: &[u8], err: &mut E, notes: &mut Notes)
     ensures noted { Noted notes.old notes.new (E.written err.old) (E.written err.new) (E.faults err.old) (E.faults err.new) (too_many_keys file.now) }
     ensures sent { notes.new ≡ false → E.waits err.new ≡ 0 }
 {
-    notes.note_pieces(err, &[b"cmph: ", file, b": more than 16777216 keys\n"]);
+    let mut buffer = Buffer::new();
+    let text = buffer.format(MAX_KEYS).as_bytes();
+    notes.note_pieces(err, &[b"cmph: ", file, b": more than ", text, b" keys\n"]);
 }
 
 /// Notes why the function file is no dump.

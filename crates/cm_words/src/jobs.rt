@@ -15,8 +15,8 @@ pub struct BuildJob {
     pub algorithm: Algorithm,
     /// The ratio of vertices to keys in millionths, from 1,000,000 to 10,000,000.
     pub c: u32,
-    /// BDZ: each 2^b-th vertex has a sampled rank, with b from 3 to 10. BRZ: how many keys a bucket has on average, from 64
-    /// to 175. For the other algorithms 0.
+    /// BDZ: each 2^b-th vertex has a sampled rank, with b from 3 to 10. BRZ: how many keys a bucket has on average, from
+    /// `MIN_WIDTH` to `MAX_WIDTH`. For the other algorithms 0.
     pub b: u8,
     /// The first seed that is tried.
     pub seed: u32,

@@ -6,7 +6,8 @@ use Rattle.cm_algo_names.specs.declared.algorithm.Algorithm.{Algorithm}
 use Rattle.cm_algo_names.specs.declared.algorithm.Algorithm.TheVariants.{Chm, Bdz, BdzPh, Brz}
 use Rattle.cm_words_values.specs.Digits.{millionths_of, whole_of}
 use Rattle.cm_words_values.specs.declared.fault.BadValue.{BadValue}
-use Rattle.cm_words_values.specs.Limits.{least_width, megabyte, most_test_keys, most_width}
+use Rattle.cm_spec.specs.declared.limits.TheConstants.{MAX_WIDTH, MIN_WIDTH}
+use Rattle.cm_words_values.specs.declared.limits.TheConstants.{MAX_TEST_KEYS, MEGABYTE}
 
 abbrev pub Text : Type 0
 Text = List ℕ
@@ -48,7 +49,7 @@ algorithm_value = value_or 97 named Chm
 -- counts for nothing
 abbrev pub bits_value : Bool → Algorithm → Option Text → Checked ℕ
 bits_value true Bdz = number_value 98 3 10 7
-bits_value true Brz = number_value 98 least_width most_width 128
+bits_value true Brz = number_value 98 MIN_WIDTH MAX_WIDTH 128
 bits_value _ _ = λ text. and_then (number_value 98 0 4294967295 0 text) (λ _. Ok 0)
 
 -- the ratio in millionths if -c isn't given
@@ -74,7 +75,7 @@ first_value = optional_value 107 1 4294967295
 
 -- -M, in bytes
 abbrev pub buffer_value : Option Text → Checked ℕ
-buffer_value text = and_then (number_value 77 1 1024 1 text) (λ megabytes. Ok (megabytes * megabyte))
+buffer_value text = and_then (number_value 77 1 1024 1 text) (λ megabytes. Ok (megabytes * MEGABYTE))
 
 -- -r
 abbrev pub count_value : Option Text → Checked ℕ
@@ -86,4 +87,4 @@ seed_value = number_value 115 0 4294967295 1
 
 -- -T
 abbrev pub test_value : Option Text → Checked (Option ℕ)
-test_value = optional_value 84 1 most_test_keys
+test_value = optional_value 84 1 MAX_TEST_KEYS

@@ -2,12 +2,13 @@
 #![tactic(auto)]
 
 mod fault;
+mod limits;
 mod numbers;
 mod options;
 
 pub use fault::BadValue;
+pub use limits::{MAX_TEST_KEYS, MEGABYTE};
 pub use numbers::{millionths, whole};
 pub use options::{
-    MAX_TEST_KEYS, MAX_WIDTH, MEGABYTE, MIN_WIDTH, algorithm, bits, buffer, count, first, hash,
-    number, optional, ratio, seed, test,
+    algorithm, bits, buffer, count, first, hash, number, optional, ratio, seed, test,
 };

@@ -2,23 +2,13 @@
 ghost use Rattle.std.specs.Prelude.{◌≡◌, ◌≤◌, IfOk, IsNone, max, min, option_map, true};
 ghost use Rattle.std.specs.Option.{ForSome};
 ghost use Rattle.cm_algo_names.specs.declared.algorithm.Algorithm.TheVariants.{Bdz, Brz};
-ghost use Rattle.cm_words_values.specs.Limits.{IsBuffer, IsCount, IsFirst, IsRatio, IsSampling, IsTestSize, IsWidth};
+ghost use Rattle.cm_spec.specs.Rule.{IsRatio};
+ghost use Rattle.cm_words_values.specs.Limits.{IsBuffer, IsCount, IsFirst, IsSampling, IsTestSize, IsWidth};
 ghost use Rattle.cm_words_values.specs.Options.{algorithm_value, bits_value, buffer_value, count_value, first_value, hash_value, number_value, optional_value, ratio_value, seed_value, test_value};
 
-use crate::{BadValue, millionths, whole};
+use crate::{BadValue, MAX_TEST_KEYS, MEGABYTE, millionths, whole};
 use cm_algo_names::Algorithm;
-
-/// The bytes of a megabyte.
-pub const MEGABYTE: u32 = 1_048_576;
-
-/// The least number of keys that a bucket of BRZ may have on average.
-pub const MIN_WIDTH: u32 = 64;
-
-/// The greatest number of keys that a bucket of BRZ may have on average.
-pub const MAX_WIDTH: u32 = 175;
-
-/// The greatest number of generated keys that a test may have.
-pub const MAX_TEST_KEYS: u32 = 16_777_216;
+use cm_spec::{MAX_WIDTH, MIN_WIDTH};
 
 /// The whole number of an option, from `least` to `most`, or `missing` if it isn't given.
 pub fn number(
@@ -75,7 +65,7 @@ pub fn bits(text: Option<&str>, builds: bool, algorithm: Algorithm) -> Result<u8
 {
     match algorithm {
         Algorithm::Bdz if builds => Ok(number(text, b'b', 3, 10, 7)? as u8),
-        Algorithm::Brz if builds => Ok(number(text, b'b', MIN_WIDTH, MAX_WIDTH, 128)? as u8),
+        Algorithm::Brz if builds => Ok(number(text, b'b', MIN_WIDTH as u32, MAX_WIDTH as u32, 128)? as u8),
         _ => {
             number(text, b'b', 0, u32::MAX, 0)?;
             Ok(0)

@@ -1,5 +1,6 @@
 ghost use Rattle.std.specs.Prelude.{◌≡◌, ◌⊎◌, ◌<◌, ◌≤◌, ◌+◌, None, length, slice_index_or, true};
 ghost use Rattle.test_commands.specs.Changing.{letter_at};
+ghost use Rattle.cm_spec.specs.declared.limits.TheConstants.{MAX_KEYS};
 
 use crate::equal::{expect_equal, expect_true};
 use cm_algo::{BuildFault, Built, assign, build};
@@ -8,6 +9,7 @@ use cm_chm::ChmScheme;
 use cm_graph::{Edges, Steps, Xored};
 use cm_io::{KeyBuf, KeyFault, KeyPass, MAX_KEYS};
 use cm_peel::peel;
+use cm_spec::MAX_EDGES;
 use std::alloc::{AllocError, Global};
 use std::marker::Brand;
 use std::process::Abort;
@@ -30,7 +32,7 @@ struct Changing<'a> {
     faults: u64,
     letter: [u8; 1],
     buffered: bool,
-    ghost few: { given ≤ 16777216 },
+    ghost few: { given ≤ MAX_KEYS },
     ghost next: { buffered ≡ true → letter ≡ letter_at given },
 }
 
@@ -51,6 +53,7 @@ fn keys_of<'a>(refusals: usize, counts: &'a [u32]) -> Changing<'a> {
 
 impl KeyPass for Changing<'_> {
     ghost use Rattle.test_commands.specs.Changing.{letter_at, letters_up_to};
+    ghost use Rattle.cm_spec.specs.declared.limits.TheConstants.{MAX_KEYS};
 
     ghost told = { λ _. None };
 
@@ -66,9 +69,9 @@ impl KeyPass for Changing<'_> {
 
     ghost gave = { λ p keys. keys ≡ letters_up_to p.given };
 
-    ghost at_end = { λ p. slice_index_or p.counts.now p.pass 0 ≤ p.given ⊎ (p.given ≡ 16777216) };
+    ghost at_end = { λ p. slice_index_or p.counts.now p.pass 0 ≤ p.given ⊎ (p.given ≡ MAX_KEYS) };
 
-    ghost stands = { λ p key. (p.buffered ≡ true) × (p.given < 16777216) × (key ≡ letter_at p.given) };
+    ghost stands = { λ p key. (p.buffered ≡ true) × (p.given < MAX_KEYS) × (key ≡ letter_at p.given) };
 
     ghost next_line = { λ p. p.given + 1 };
 
@@ -166,7 +169,7 @@ fn listed(alloc: Global, cells: &Fields) -> Result<Vec<u32>, AllocError> {
 /// Adds an edge, unless it isn't one over the vertices.
 fn add(edges: &mut Edges<2>, first: u32, second: u32) -> Result<bool, AllocError> {
     let n = edges.vertices();
-    if first < n && second < n && first != second && edges.len() < 67108864 {
+    if first < n && second < n && first != second && edges.len() < MAX_EDGES {
         edges.push([first, second])?;
         Ok(true)
     } else {

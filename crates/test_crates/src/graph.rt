@@ -2,6 +2,7 @@ ghost use Rattle.std.specs.Prelude.{◌≡◌, ◌<◌};
 
 use crate::equal::expect_equal;
 use cm_graph::{Edges, Half, Incidence, Linked, Steps, Xored};
+use cm_spec::MAX_VERTICES;
 use std::alloc::{AllocError, Global};
 use std::marker::Brand;
 use std::process::Abort;
@@ -148,9 +149,9 @@ fn edges(rt: HostRuntime) -> Result<(), Fail> {
     let mut gathered = [[0; 2]; 3];
     pairs.gather(&[1, 0, 1], &mut gathered);
     expect_equal(&rt, &gathered, &[[3, 1], [0, 1], [3, 1]]);
-    let mut triples = Edges::<3>::with_capacity(rt.alloc(), 671088645, 1)?;
-    triples.push([671088644, 0, 7])?;
+    let mut triples = Edges::<3>::with_capacity(rt.alloc(), MAX_VERTICES, 1)?;
+    triples.push([MAX_VERTICES - 1, 0, 7])?;
     expect_equal(&rt, &triples.len(), &1);
-    expect_equal(&rt, &triples.ends(0), &[671088644, 0, 7]);
+    expect_equal(&rt, &triples.ends(0), &[MAX_VERTICES - 1, 0, 7]);
     Ok(())
 }

@@ -3,6 +3,7 @@ ghost use Rattle.std.specs.Prelude.{◌≡◌, ◌<◌, length, IfOk};
 use crate::equal::{expect_equal, expect_true};
 use cm_graph::{Edges, Incidence, Linked, Steps, Xored};
 use cm_peel::{Peeled, peel, peel_without_levels};
+use cm_spec::MAX_EDGES;
 use std::alloc::{AllocError, Global};
 use std::marker::Brand;
 use std::process::Abort;
@@ -79,7 +80,7 @@ fn bare_pairs(alloc: Global, edges: &Edges<2>) -> Result<Peeled<2>, AllocError>
 /// Adds an edge, unless it isn't one over the vertices.
 fn add(edges: &mut Edges<2>, first: u32, second: u32) -> Result<bool, AllocError> {
     let n = edges.vertices();
-    if first < n && second < n && first != second && edges.len() < 67108864 {
+    if first < n && second < n && first != second && edges.len() < MAX_EDGES {
         edges.push([first, second])?;
         Ok(true)
     } else {

@@ -7,7 +7,7 @@ use crate::dumps::{check_changes, is_saved_again};
 use crate::equal::{expect_bytes, expect_equal, expect_true};
 use crate::listed::Listed;
 use cm_brz::build::brz;
-use cm_brz::{BrzFault, MAX_WIDTH, MIN_BYTES, MIN_WIDTH};
+use cm_brz::{BrzFault, MIN_BYTES};
 use cm_dump::{Func, LoadFault, save};
 use cm_graph::Steps;
 use cm_io::Spill;
@@ -44,11 +44,6 @@ const CHANGES: [(usize, usize, u8, LoadFault); 14] = [
     (32, 12, 0, LoadFault::BadField { at: 12 }),
     (32, 15, 2, LoadFault::BadField { at: 12 }),
 ];
-
-// The command line and builds by BRZ have the same limits of the average size of a bucket.
-const _: () = prove!(cm_words_values::MIN_WIDTH == MIN_WIDTH as u32);
-
-const _: () = prove!(cm_words_values::MAX_WIDTH == MAX_WIDTH as u32);
 
 /// The seeds of every build here.
 const SEEDS: [u32; 8] = [0, 1, 2, 3, 4, 5, 6, 7];

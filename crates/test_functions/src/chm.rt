@@ -2,6 +2,7 @@ ghost use Rattle.std.specs.Prelude.{◌≡◌, ◌<◌, ◌≤◌};
 ghost use Rattle.std.specs.Option.{ForSome};
 ghost use Rattle.cm_spec.specs.Chm.{chm_size};
 ghost use Rattle.cm_spec.specs.Rule.{IsRatio};
+ghost use Rattle.cm_spec.specs.declared.limits.TheConstants.{MAX_KEYS, MAX_VERTICES};
 
 use crate::answering::expect_answers;
 use crate::equal::expect_equal;
@@ -21,10 +22,10 @@ fn function(
     n: u32,
     one: Option<u32>,
 ) -> Result<Chm, AllocError>
-    requires keys { (1 ≤ m) × (m ≤ 16777216) }
+    requires keys { (1 ≤ m) × (m ≤ MAX_KEYS) }
     requires ratio { IsRatio c }
     requires size { n ≡ chm_size m c }
-    requires room { n ≤ 671088645 }
+    requires room { n ≤ MAX_VERTICES }
     requires one { ForSome one (λ v. (v < n) × (1 < m)) }
 {
     let mut cells = Fields::zeroed(alloc, n, m)?;

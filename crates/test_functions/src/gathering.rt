@@ -4,6 +4,7 @@ use crate::equal::{expect_equal, expect_true};
 use crate::listed::Listed;
 use cm_graph::Edges;
 use cm_io::KeyFault;
+use cm_spec::MAX_EDGES;
 use cm_witness::{Algorithm, CoreEdge, GatherFault, Pair, count_candidates, gather};
 use std::alloc::{AllocError, Global};
 use std::process::Abort;
@@ -16,7 +17,7 @@ fn pair(first: u32, again: u32) -> Pair {
 /// Adds an edge, unless it isn't one over the vertices.
 fn add(edges: &mut Edges<2>, first: u32, second: u32) -> Result<bool, AllocError> {
     let n = edges.vertices();
-    if first < n && second < n && first != second && edges.len() < 67108864 {
+    if first < n && second < n && first != second && edges.len() < MAX_EDGES {
         edges.push([first, second])?;
         Ok(true)
     } else {

@@ -1,5 +1,6 @@
 //! A pass over the keys of a list.
 ghost use Rattle.std.specs.Prelude.{◌≡◌, ◌⊎◌, ◌<◌, ◌≤◌, ◌+◌, None, length, true};
+ghost use Rattle.cm_spec.specs.declared.limits.TheConstants.{MAX_KEYS};
 
 use cm_io::{KeyBuf, KeyFault, KeyPass, MAX_KEY_LEN, MAX_KEYS};
 
@@ -14,7 +15,7 @@ pub struct Listed<'a> {
     usable: bool,
     failure: Option<KeyFault>,
     faults: u64,
-    ghost few: { given ≤ 16777216 },
+    ghost few: { given ≤ MAX_KEYS },
 }
 
 impl<'a> Listed<'a> {
@@ -53,9 +54,9 @@ impl KeyPass for Listed<'_> {
 
     ghost gave = { λ _ _. Unit {0} };
 
-    ghost at_end = { λ p. length p.keys.now ≤ p.given ⊎ (p.given ≡ 16777216) };
+    ghost at_end = { λ p. length p.keys.now ≤ p.given ⊎ (p.given ≡ MAX_KEYS) };
 
-    ghost stands = { λ p _. (0 < p.ready) × (p.given < length p.keys.now) × (p.given < 16777216) };
+    ghost stands = { λ p _. (0 < p.ready) × (p.given < length p.keys.now) × (p.given < MAX_KEYS) };
 
     ghost next_line = { λ p. p.given + 1 };
 

@@ -1,6 +1,6 @@
 use Rattle.std.proofs.Common.{◌≡◌, ◌≤◌, true, ℕ, List, length}
 use Rattle.cm_algo_seeds.proofs.passes.count_all.Given as goal
-use Rattle.cm_io.specs.declared.key_pass.TheConstants.{MAX_KEYS}
+use Rattle.cm_spec.specs.declared.limits.TheConstants.{MAX_KEYS}
 
 abbrev pub invariant-loop-turn : goal.invariant-loop-turn
 invariant-loop-turn g l =

@@ -7,10 +7,11 @@ use Rattle.cm_dump.specs.Spelling.{bdz_at}
 use Rattle.cm_dump.proofs.BodyLemmas.{bdz_known}
 use Rattle.cm_dump.proofs.CellLemmas.{few_vertices}
 use Rattle.cm_dump.proofs.reader.load_bdz.Goals as goal
+use Rattle.cm_spec.specs.declared.limits.TheConstants.{MAX_VERTICES}
 
 pub read_cells-requires-clause-near : goal.read_cells-requires-clause-near
 read_cells-requires-clause-near g c =
-    let few : c.size-n.result ≤ 671088645 = omega (arith, c.size-n.ensures.size, few_vertices c.args.header.keys c.args.header.ratio c.requires.keys.0 c.requires.keys.1 c.requires.ratio) in
+    let few : c.size-n.result ≤ MAX_VERTICES = omega (arith, c.size-n.ensures.size, few_vertices c.args.header.keys c.args.header.ratio c.requires.keys.0 c.requires.keys.1 c.requires.ratio) in
     packed_near 4 4 c.size-n.result few (omega (arith, few))
 
 pub load_ranked-requires-clause-at : goal.load_ranked-requires-clause-at

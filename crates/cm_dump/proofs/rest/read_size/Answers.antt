@@ -1,5 +1,5 @@
 use Rattle.std.specs.Int.{w8}
-use Rattle.cm_brz_func.specs.declared.limits.TheConstants.{MAX_BUCKET}
+use Rattle.cm_spec.specs.declared.limits.TheConstants.{MAX_BUCKET}
 use Rattle.cm_dump_items.specs.Reading.{field_at}
 use Rattle.cm_dump_items.specs.StepLaws.{fails_then}
 use Rattle.cm_dump.specs.Spelling.{size_at}

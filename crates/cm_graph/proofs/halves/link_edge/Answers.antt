@@ -7,6 +7,7 @@ use Rattle.cm_graph.proofs.Degrees.{room_at}
 use Rattle.cm_graph.proofs.Positions.{place_edge, place_position}
 use Rattle.cm_graph.proofs.Linking.{links_eq, relinked, linked_bare, linked_next, linked_apart, few_edges}
 use Rattle.cm_graph.proofs.halves.link_edge.Goals as goal
+use Rattle.cm_spec.specs.declared.limits.TheConstants.{MAX_EDGES}
 
 pub loop-j-init : goal.loop-j-init
 loop-j-init g c = record { end = refl; store = linked_bare _ _ c.requires.free; steps = omega arith }
@@ -14,13 +15,13 @@ loop-j-init g c = record { end = refl; store = linked_bare _ _ c.requires.free; 
 pub overflow_mul-half : goal.overflow_mul-half
 overflow_mul-half g c =
     let old : Links = g.S.Halves.kept c.args.store.now in
-    let small : c.args.e < 67108864 = few_edges old (g.S.Halves.kept c.loop-j.store) c.args.e (take c.loop-j.j c.args.ends) c.slots-slots.result.each (slice_get_within old.slots c.args.e [] c.requires.free) c.loop-j.invariant.store c.slots-slots.ensures.slots c.slots-slots.ensures.few in
+    let small : c.args.e < MAX_EDGES = few_edges old (g.S.Halves.kept c.loop-j.store) c.args.e (take c.loop-j.j c.args.ends) c.slots-slots.result.each (slice_get_within old.slots c.args.e [] c.requires.free) c.loop-j.invariant.store c.slots-slots.ensures.slots c.slots-slots.ensures.few in
     omega (arith, small)
 
 pub overflow_add-half : goal.overflow_add-half
 overflow_add-half g c =
     let old : Links = g.S.Halves.kept c.args.store.now in
-    let small : c.args.e < 67108864 = few_edges old (g.S.Halves.kept c.loop-j.store) c.args.e (take c.loop-j.j c.args.ends) c.slots-slots.result.each (slice_get_within old.slots c.args.e [] c.requires.free) c.loop-j.invariant.store c.slots-slots.ensures.slots c.slots-slots.ensures.few in
+    let small : c.args.e < MAX_EDGES = few_edges old (g.S.Halves.kept c.loop-j.store) c.args.e (take c.loop-j.j c.args.ends) c.slots-slots.result.each (slice_get_within old.slots c.args.e [] c.requires.free) c.loop-j.invariant.store c.slots-slots.ensures.slots c.slots-slots.ensures.few in
     omega (arith, small, c.loop-j-test.true, c.requires.width.1)
 
 pub put-requires-clause-next : goal.put-requires-clause-next

@@ -6,6 +6,7 @@ use Rattle.cm_graph_edges.specs.declared.incidence.Half.{Half}
 use Rattle.cm_graph.proofs.Positions.{place_edge, place_position}
 use Rattle.cm_graph.proofs.Linking.{links_eq, linked_whole, linked_next, few_edges}
 use Rattle.cm_graph.proofs.halves.unlink_edge.Goals as goal
+use Rattle.cm_spec.specs.declared.limits.TheConstants.{MAX_EDGES}
 
 pub loop-j-init : goal.loop-j-init
 loop-j-init g c =
@@ -15,13 +16,13 @@ loop-j-init g c =
 pub overflow_mul-place : goal.overflow_mul-place
 overflow_mul-place g c =
     let old : Links = g.S.Halves.kept c.args.store.now in
-    let small : c.args.e < 67108864 = few_edges old (g.S.Halves.kept c.loop-j.store) c.args.e (take c.loop-j.j c.args.ends) c.slots-slots.result.each (slice_get_within old.slots c.args.e (halves_of c.args.ends) c.requires.linked) c.loop-j.invariant.store c.slots-slots.ensures.slots c.slots-slots.ensures.few in
+    let small : c.args.e < MAX_EDGES = few_edges old (g.S.Halves.kept c.loop-j.store) c.args.e (take c.loop-j.j c.args.ends) c.slots-slots.result.each (slice_get_within old.slots c.args.e (halves_of c.args.ends) c.requires.linked) c.loop-j.invariant.store c.slots-slots.ensures.slots c.slots-slots.ensures.few in
     omega (arith, small)
 
 pub overflow_add-place : goal.overflow_add-place
 overflow_add-place g c =
     let old : Links = g.S.Halves.kept c.args.store.now in
-    let small : c.args.e < 67108864 = few_edges old (g.S.Halves.kept c.loop-j.store) c.args.e (take c.loop-j.j c.args.ends) c.slots-slots.result.each (slice_get_within old.slots c.args.e (halves_of c.args.ends) c.requires.linked) c.loop-j.invariant.store c.slots-slots.ensures.slots c.slots-slots.ensures.few in
+    let small : c.args.e < MAX_EDGES = few_edges old (g.S.Halves.kept c.loop-j.store) c.args.e (take c.loop-j.j c.args.ends) c.slots-slots.result.each (slice_get_within old.slots c.args.e (halves_of c.args.ends) c.requires.linked) c.loop-j.invariant.store c.slots-slots.ensures.slots c.slots-slots.ensures.few in
     omega (arith, small, c.loop-j-test.true, c.loop-j.auto.j, c.requires.width.1)
 
 pub take_out-requires-clause-next : goal.take_out-requires-clause-next

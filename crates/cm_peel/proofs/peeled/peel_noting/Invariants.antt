@@ -3,6 +3,7 @@ use Rattle.cm_spec.specs.Rounds.{order_upto}
 use Rattle.cm_peel.specs.AtRound.{AtRound}
 use Rattle.cm_peel.specs.Waiting.{AreTables}
 use Rattle.cm_peel.proofs.peeled.peel_noting.Given as goal
+use Rattle.cm_spec.specs.declared.limits.TheConstants.{MAX_EDGES}
 
 abbrev pub invariant-rounds : goal.invariant-rounds
 invariant-rounds g l = record {
@@ -13,7 +14,7 @@ invariant-rounds g l = record {
   start_is : l.start ≡ length (order_upto l.edges.edges l.rounds);
   end_is : l.end ≡ length (order_upto l.edges.edges (suc l.rounds));
   long : length l.tables.levels.items ≡ length l.fn.levels.items;
-  fits : length l.edges.edges ≤ 67108864;
+  fits : length l.edges.edges ≤ MAX_EDGES;
   tables : AreTables l.edges l.tables.counts.items l.tables.marks.items;
   steps : l.steps ≤ l.fn.steps + 4 * (g.row.K * length l.edges.edges) + 3 * (g.row.K * l.start);
 }

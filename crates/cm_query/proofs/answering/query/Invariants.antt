@@ -3,7 +3,7 @@ use Rattle.std.specs.Option.{ForSome}
 use Rattle.cm_bits.specs.Held.{packed_cells}
 use Rattle.cm_io.specs.Noting.{Noted}
 use Rattle.cm_io.specs.Writing.{then_bytes}
-use Rattle.cm_io.specs.declared.key_pass.TheConstants.{MAX_KEYS}
+use Rattle.cm_spec.specs.declared.limits.TheConstants.{MAX_KEYS}
 use Rattle.cm_query.proofs.ProgressLemmas.{SoFar}
 use Rattle.cm_query_batch.specs.Waiting.{AreAnswers}
 use Rattle.cm_query.proofs.answering.query.Given as goal

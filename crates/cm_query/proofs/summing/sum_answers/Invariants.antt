@@ -3,7 +3,7 @@ use Rattle.std.specs.Option.{ForSome}
 use Rattle.cm_query.specs.Sums.{answer_sum}
 use Rattle.cm_query_batch.specs.Waiting.{AreAnswers}
 use Rattle.cm_query.proofs.summing.sum_answers.Given as goal
-use Rattle.cm_io.specs.declared.key_pass.TheConstants.{MAX_KEYS}
+use Rattle.cm_spec.specs.declared.limits.TheConstants.{MAX_KEYS}
 
 abbrev pub invariant-loop-turn : goal.invariant-loop-turn
 invariant-loop-turn g l =

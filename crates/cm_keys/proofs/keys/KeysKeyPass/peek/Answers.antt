@@ -1,5 +1,6 @@
 use Rattle.std.proofs.Common.{[], ◌<◌, ◌∙◌, ap, refl, rules}
-use Rattle.cm_io.specs.declared.key_pass.TheConstants.{MAX_KEYS, MAX_KEY_LEN}
+use Rattle.cm_io.specs.declared.key_pass.TheConstants.{MAX_KEY_LEN}
+use Rattle.cm_spec.specs.declared.limits.TheConstants.{MAX_KEYS}
 use Rattle.cm_keys.specs.Buffering.{left_bytes, ready_in}
 use Rattle.cm_keys.specs.declared.keys.TheConstants.{LINE_END}
 use Rattle.cm_keys.proofs.PieceLemmas.{read_whole}

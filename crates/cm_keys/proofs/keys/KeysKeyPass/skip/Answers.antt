@@ -1,6 +1,7 @@
 use Rattle.std.proofs.Common.{◌∙◌, ap, arith, refl}
 use Rattle.std.specs.Option.{option_map}
-use Rattle.cm_io.specs.declared.key_pass.TheConstants.{MAX_KEYS, MAX_KEY_LEN}
+use Rattle.cm_io.specs.declared.key_pass.TheConstants.{MAX_KEY_LEN}
+use Rattle.cm_spec.specs.declared.limits.TheConstants.{MAX_KEYS}
 use Rattle.cm_keys.specs.declared.buffered.TheConstants.{ROOM}
 use Rattle.cm_keys.specs.Lines.{lines_of}
 use Rattle.cm_keys.specs.declared.keys.TheConstants.{LINE_END}

@@ -1,6 +1,6 @@
 use Rattle.std.proofs.Common.{◌≡◌, ◌+◌, ◌-◌, ◌≤◌, length, true}
 use Rattle.std.specs.Option.{ForSome}
-use Rattle.cm_io.specs.declared.key_pass.TheConstants.{MAX_KEYS}
+use Rattle.cm_spec.specs.declared.limits.TheConstants.{MAX_KEYS}
 use Rattle.cm_query_batch.specs.Waiting.{Takes}
 use Rattle.cm_query_batch.specs.declared.taken.TheConstants.{MOST}
 use Rattle.cm_query_batch.proofs.taken.Taken.gather.Given as goal
