@@ -21,6 +21,7 @@ pub struct RankTable {
 impl Model for RankTable {
     ghost use Rattle.std.specs.Prelude.{◌≤◌, length};
     ghost use Rattle.cm_rank.specs.Ranks.{Samples};
+    ghost use Rattle.cm_bits.specs.declared.TheConstants.{MAX_CELLS};
 
     ghost Value = { Samples };
 
