@@ -20,7 +20,7 @@ third_near q = go (eqb (made_odd q) 1) where
   go true = omega arith
   go false = omega (arith, odd_near q)
 
-products : (a b : ℕ) → a ≤ 10000000 → b ≤ MAX_BUCKET → a * b ≤ MAX_BUCKET0000000
+products : (a b : ℕ) → a ≤ 10000000 → b ≤ MAX_BUCKET → a * b ≤ 2550000000
 products a b l m = omega (arith, mul-le-mul_left a m, l)
 
 -- a bucket has few cells
