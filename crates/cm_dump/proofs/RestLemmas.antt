@@ -64,10 +64,6 @@ never_miscounts f b left busy fits many (inr (inr last)) =
     let off = subst (λ (k : ℕ). is_off f.keys held k ≡ false) none fits in
     false≢true (sym (rw (test, fewer) at off))
 
--- there are not many buckets
-pub few_buckets : (m b : ℕ) → m ≤ MAX_KEYS → b < 256 → bucket_count m b ≤ 16777471
-few_buckets m b few wide = omega (arith, div-le_self (m + (b - 1)) b, few, wide)
-
 -- no bucket is to come
 pub rest_ended : (bytes : List ℕ) (at k : ℕ) (u : Unit {0}) (f : Brz) → k ≡ 0 → end_at bytes at ≡ Ok u → rest_at version_1 bytes at k f ≡ Ok f
 unfolding rest_at

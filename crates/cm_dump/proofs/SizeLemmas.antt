@@ -26,7 +26,7 @@ products a b l m = omega (arith, mul-le-mul_left a m, l)
 -- a bucket has few cells
 few_cells : (size ratio : ℕ) → size ≤ MAX_BUCKET → IsRatio ratio → bdz_size size ratio ≤ 2559
 few_cells size ratio few within =
-    let most : ratio * size ≤ MAX_BUCKET0000000 = products ratio size within.1 few in
+    let most : ratio * size ≤ 2550000000 = products ratio size within.1 few in
     let third : (ratio * size + 2999999) / 3000000 < 851 = div_below (ratio * size + 2999999) 3000000 851 (omega arith) (omega (arith, most)) in
     omega (arith, third, third_near ((ratio * size + 2999999) / 3000000))
 
