@@ -25,7 +25,7 @@ use Rattle.cm_dump.specs.Dumps.{header, packed_image, bucket_image, buckets_imag
 use Rattle.cm_spec.specs.Image.{packed_len}
 use Rattle.cm_dump.specs.declared.front.Algorithm.TheVariants as algorithm
 use Rattle.cm_dump.specs.declared.front.Header.{Header}
-use Rattle.cm_dump.specs.declared.writer.Func.TheVariants as func
+use Rattle.cm_func.specs.declared.function.Func.TheVariants as func
 use Rattle.cm_dump.specs.Spelling.{is_off, most_seed, size_at, crumbs_at, bucket_at, bucket_len, rest_at, brz_at, no_buckets}
 use Rattle.cm_dump.specs.Forms.{version_1}
 use Rattle.cm_dump.proofs.ReadBackItems.{ReadsFunction, ReadsHeader, Small, Stands, byte_read, end_read, image_back, number_read, packed_read}

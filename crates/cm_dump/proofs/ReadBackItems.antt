@@ -33,8 +33,8 @@ use Rattle.cm_dump.specs.declared.front.Algorithm.{Algorithm}
 use Rattle.cm_dump.specs.declared.front.Algorithm.TheVariants as algorithm
 use Rattle.cm_dump.specs.declared.front.Header.{Header}
 use Rattle.cm_dump.specs.declared.front.Kind.{Kind}
-use Rattle.cm_dump.specs.declared.writer.Func.{Func}
-use Rattle.cm_dump.specs.Functions.{IsFunction}
+use Rattle.cm_func.specs.declared.function.Func.{Func}
+use Rattle.cm_func.specs.Functions.{IsFunction}
 use Rattle.cm_dump.specs.Headings.{IsParameter, magic_at, algorithm_of, algorithm_at, least_b, most_b, kind_at, heading_at}
 use Rattle.cm_dump.specs.Spelling.{ranks_at}
 use Rattle.cm_dump.proofs.FormLemmas.{parameter_fits}

@@ -18,9 +18,9 @@ use Rattle.cm_spec.specs.Image.{width_of, fields_len, packed_len}
 use Rattle.cm_dump.specs.declared.front.Algorithm.{Algorithm}
 use Rattle.cm_dump.specs.declared.front.Algorithm.TheVariants as algorithm
 use Rattle.cm_dump.specs.declared.front.Header.{Header}
-use Rattle.cm_dump.specs.declared.writer.Func.{Func}
-use Rattle.cm_dump.specs.declared.writer.Func.TheVariants as func
-use Rattle.cm_dump.specs.Functions.{IsFunction}
+use Rattle.cm_func.specs.declared.function.Func.{Func}
+use Rattle.cm_func.specs.declared.function.Func.TheVariants as func
+use Rattle.cm_func.specs.Functions.{IsFunction}
 use Rattle.cm_dump.specs.Headings.{heading_at}
 use Rattle.cm_dump.specs.Spelling.{chm_at, counted, ranks_at, ranked_at, bdz_at, bdz_ph_at, brz_at, body_at, spelling_of, spelling_by}
 use Rattle.cm_dump.proofs.ReadBackItems.{ReadsFunction, ReadsHeader, Small, end_read, fields_read, heading_read, image_back, last_item, packed_read, ranks_back, small_bytes, small_item}

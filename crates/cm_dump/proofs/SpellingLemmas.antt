@@ -33,9 +33,9 @@ use Rattle.cm_spec.specs.Lists.{list_of}
 use Rattle.cm_dump.specs.declared.front.Algorithm.{Algorithm}
 use Rattle.cm_dump.specs.declared.front.Algorithm.TheVariants as algorithm
 use Rattle.cm_dump.specs.declared.front.Header.{Header}
-use Rattle.cm_dump.specs.declared.writer.Func.{Func}
-use Rattle.cm_dump.specs.declared.writer.Func.TheVariants as func
-use Rattle.cm_dump.specs.Functions.{IsChm, IsBdz, IsBdzPh, IsFunction}
+use Rattle.cm_func.specs.declared.function.Func.{Func}
+use Rattle.cm_func.specs.declared.function.Func.TheVariants as func
+use Rattle.cm_func.specs.Functions.{IsChm, IsBdz, IsBdzPh, IsFunction}
 use Rattle.cm_dump.specs.Headings.{IsParameter, magic_at, algorithm_of, algorithm_at, least_b, most_b, kind_at, heading_at}
 use Rattle.cm_dump.specs.Spelling.{chm_at, counted, ranks_at, ranked_at, bdz_at, bdz_ph_at, is_off, most_seed, size_at, crumbs_at, bucket_at, bucket_len, rest_at, brz_at, no_buckets, spelling_of, spelling_by}
 use Rattle.cm_dump.proofs.BodyLemmas.{chm_known, bdz_known, bdz_ph_known}

@@ -10,8 +10,8 @@ use Rattle.cm_spec.specs.Chm.{Chm}
 use Rattle.cm_spec.specs.Dump.{fields_image}
 use Rattle.cm_spec.specs.Image.{packed_len, packed_byte}
 use Rattle.cm_spec.specs.Lists.{list_of}
-use Rattle.cm_dump.specs.declared.writer.Func.{Func}
-use Rattle.cm_dump.specs.declared.writer.Func.TheVariants as func
+use Rattle.cm_func.specs.declared.function.Func.{Func}
+use Rattle.cm_func.specs.declared.function.Func.TheVariants as func
 use Rattle.cm_dump.specs.Forms.{Form, version_1}
 
 -- the algorithm's number and its parameter b, in four bytes, of which the others are zero

@@ -1,6 +1,5 @@
 pub mod Forms
 pub mod Dumps
-pub mod Functions
 pub mod Headings
 pub mod Parts
 pub mod Spelling

@@ -19,8 +19,8 @@ use Rattle.cm_spec.specs.Image.{width_of, fields_len, packed_len}
 use Rattle.cm_dump.specs.declared.front.Algorithm.{Algorithm}
 use Rattle.cm_dump.specs.declared.front.Algorithm.TheVariants as algorithm
 use Rattle.cm_dump.specs.declared.front.Header.{Header}
-use Rattle.cm_dump.specs.declared.writer.Func.{Func}
-use Rattle.cm_dump.specs.declared.writer.Func.TheVariants as func
+use Rattle.cm_func.specs.declared.function.Func.{Func}
+use Rattle.cm_func.specs.declared.function.Func.TheVariants as func
 use Rattle.cm_dump.specs.Forms.{Form, version_1}
 use Rattle.cm_dump.specs.Headings.{heading_at}
 use Rattle.cm_dump.specs.declared.header.TheConstants.{HEADER_LEN}

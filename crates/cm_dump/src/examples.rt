@@ -3,7 +3,7 @@ ghost use Rattle.std.specs.Prelude.{◌≡◌, ◌++◌, [], ◌∷◌, Ok, Err,
 ghost use Rattle.cm_dump_items.specs.declared.fault.LoadFault.TheVariants.{Truncated, BadAlgorithm, BadField, BadPadding, BadCell, BadCount, BadRank, Trailing};
 ghost use Rattle.cm_dump.specs.Examples.{bdz_of_one, bdz_ph_of_two, brz_of_two, bucket_of_two, front, front_of, one_key, two_keys};
 ghost use Rattle.cm_dump.specs.Spelling.{spelling_of};
-ghost use Rattle.cm_dump.specs.declared.writer.Func.TheVariants.{Bdz, BdzPh, Brz, Chm};
+ghost use Rattle.cm_func.specs.declared.function.Func.TheVariants.{Bdz, BdzPh, Brz, Chm};
 ghost use Rattle.cm_brz_func.specs.Functions.{brz_answer};
 ghost use Rattle.cm_dump.specs.Dumps.{dump_of};
 

@@ -4,10 +4,10 @@ ghost use Rattle.cm_bits.specs.Bound.{AllBelow};
 ghost use Rattle.cm_spec.specs.Chm.{Chm};
 ghost use Rattle.cm_spec.specs.Dump.{chm_dump};
 ghost use Rattle.cm_dump.specs.Dumps.{dump_of};
-ghost use Rattle.cm_dump.specs.Functions.{IsFunction};
+ghost use Rattle.cm_func.specs.Functions.{IsFunction};
 ghost use Rattle.cm_dump.specs.Spelling.{spelling_of};
-ghost use Rattle.cm_dump.specs.declared.writer.Func.{Func};
-ghost use Rattle.cm_dump.specs.declared.writer.Func.TheVariants as func;
+ghost use Rattle.cm_func.specs.declared.function.Func.{Func};
+ghost use Rattle.cm_func.specs.declared.function.Func.TheVariants as func;
 
 /// The dump of a function spells this function, and so equal dumps come from equal functions. Bytes that spell a function are
 /// its dump, and what they spell keeps all that a function does.

@@ -1,7 +1,6 @@
 //! The dump of a function, as bytes that are written to a sink and read from a source.
 #![tactic(auto)]
 
-mod answers;
 mod buckets;
 pub mod examples;
 mod front;
@@ -13,5 +12,6 @@ mod rest;
 mod writer;
 
 pub use crate::reader::load;
-pub use crate::writer::{Func, save, saved_len};
+pub use crate::writer::{save, saved_len};
 pub use cm_dump_items::LoadFault;
+pub use cm_func::Func;

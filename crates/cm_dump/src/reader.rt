@@ -10,12 +10,12 @@ ghost use Rattle.cm_spec.specs.Image.{packed_len};
 ghost use Rattle.cm_spec.specs.Rule.{IsRatio};
 ghost use Rattle.cm_dump.specs.Forms.{version_1};
 ghost use Rattle.cm_dump.specs.Headings.{heading_at};
-ghost use Rattle.cm_dump.specs.Functions.{IsBdz, IsBdzPh, IsChm, IsFunction};
+ghost use Rattle.cm_func.specs.Functions.{IsBdz, IsBdzPh, IsChm, IsFunction};
 ghost use Rattle.cm_dump.specs.Spelling.{bdz_at, bdz_ph_at, chm_at, counted, ranked_at, spelling_of};
 ghost use Rattle.cm_dump.specs.declared.header.TheConstants.{HEADER_LEN};
 
-use crate::header::HEADER_LEN;
 use crate::front::{Algorithm, Header, read_header};
+use crate::header::HEADER_LEN;
 use crate::ranks::read_ranks;
 use crate::rest::load_brz;
 use crate::{Func, LoadFault};

@@ -11,10 +11,10 @@ ghost use Rattle.cm_dump.specs.Forms.{version_1};
 ghost use Rattle.cm_dump.specs.Spelling.{bucket_at, brz_at, crumbs_at, is_off, left_of, most_seed, rest_at, size_at};
 ghost use Rattle.cm_dump.specs.declared.header.TheConstants.{HEADER_LEN};
 
-use crate::header::HEADER_LEN;
 use crate::LoadFault;
 use crate::buckets::FRONT;
 use crate::front::Header;
+use crate::header::HEADER_LEN;
 use cm_algo_scheme::Scheme;
 use cm_bdz::{BdzScheme, PartsFault};
 use cm_bits::{Cells, Crumbs};

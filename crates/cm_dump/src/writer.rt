@@ -1,29 +1,21 @@
-//! A function of any algorithm, and its dump.
+//! The dump of a function, written.
 ghost use Rattle.std.specs.Prelude.{◌≡◌, length};
 ghost use Rattle.cm_io.specs.Causes.{HasCause};
 ghost use Rattle.cm_io.specs.Writing.{Writes};
 ghost use Rattle.cm_dump.specs.Dumps.{bdz_dump, bdz_ph_dump, brz_dump, chm_dump, dump_of, header};
 ghost use Rattle.cm_dump.specs.Forms.{version_1};
 
-use crate::header::HEADER_LEN;
 use crate::buckets::{buckets_len, save_buckets};
 use crate::front::MAGIC;
+use crate::header::HEADER_LEN;
 use crate::ranks::save_ranks;
 use cm_bdz::{Bdz, BdzPh};
 use cm_bits::{Cells, Crumbs, Fields, Trits};
 use cm_brz_func::Brz;
 use cm_chm::Chm;
 use cm_dump_images::save_image;
+use cm_func::Func;
 use cm_io::{Failed, Sink, write_pieces};
-
-/// A function of any algorithm.
-#[derive(Drop)]
-pub enum Func {
-    Chm(Chm),
-    Bdz(Bdz),
-    BdzPh(BdzPh),
-    Brz(Brz),
-}
 
 /// Writes the header of a dump: the algorithm's number, its parameter `b`, the number of keys, the ratio in millionths and the
 /// seed.

@@ -2,8 +2,8 @@
 use Rattle.std.proofs.Common.{◌≡◌, ◌≢◌, ◌∙◌, ◌⊎◌, ◌↔◌, ℕ, ◌+◌, ◌≤◌, List, [], ◌∷◌, ◌++◌, Option, None, Some, Ok, Err, inl, inr, refl, ap, sym, subst, arith, append-nil, Bool}
 use Rattle.std.specs.Option.{option_map}
 use Rattle.std.proofs.Math.Seq.{take-nil}
-use Rattle.cm_dump.specs.Functions.{answer_by}
-use Rattle.cm_dump.specs.declared.writer.Func.{Func}
+use Rattle.cm_func.specs.Functions.{answer_by}
+use Rattle.cm_func.specs.declared.function.Func.{Func}
 use Rattle.cm_dump_items.specs.declared.fault.LoadFault.{LoadFault}
 use Rattle.cm_io.specs.Files.{Files, file_at}
 use Rattle.cm_io.specs.Noting.{HasNoted}

@@ -3,8 +3,8 @@ use Rattle.std.proofs.Common.{◌≡◌, ◌≢◌, ◌∙◌, ◌⊎◌, ℕ, �
 use Rattle.cm_algo_names.specs.declared.algorithm.Algorithm.{Algorithm}
 use Rattle.cm_algo_names.specs.declared.algorithm.Algorithm.TheVariants.{Chm, Bdz, BdzPh, Brz}
 use Rattle.cm_dump.specs.Dumps.{dump_of}
-use Rattle.cm_dump.specs.Functions.{answer_by}
-use Rattle.cm_dump.specs.declared.writer.Func.{Func}
+use Rattle.cm_func.specs.Functions.{answer_by}
+use Rattle.cm_func.specs.declared.function.Func.{Func}
 use Rattle.cm_keys.specs.Lines.{lines_of}
 use Rattle.cm_keys_made.specs.Numbered.{AreMade}
 use Rattle.cm_keys_made.specs.Texts.{made_text}

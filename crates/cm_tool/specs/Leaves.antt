@@ -3,8 +3,8 @@ use Rattle.std.specs.Prelude.{◌≡◌, ◌⊎◌, ◌≤◌, ℕ, List, [], le
 use Rattle.std.specs.Option.{ForSome}
 use Rattle.cm_algo_names.specs.declared.algorithm.Algorithm.{Algorithm}
 use Rattle.cm_dump.specs.Dumps.{dump_of}
-use Rattle.cm_dump.specs.Functions.{IsFunction}
-use Rattle.cm_dump.specs.declared.writer.Func.{Func}
+use Rattle.cm_func.specs.Functions.{IsFunction}
+use Rattle.cm_func.specs.declared.function.Func.{Func}
 use Rattle.cm_io.specs.Causes.{Rose}
 use Rattle.cm_io.specs.Files.{Files, file_at, with_file}
 use Rattle.cm_io.specs.Passes.{Told}

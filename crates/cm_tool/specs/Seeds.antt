@@ -8,8 +8,8 @@ use Rattle.cm_brz.specs.Found.{AllOverfull, first_cored}
 use Rattle.cm_brz_func.specs.Splitting.{keys_of_bucket}
 use Rattle.cm_brz_split.specs.Split.{split_of}
 use Rattle.cm_brz_func.specs.Functions.{bucket_count}
-use Rattle.cm_dump.specs.declared.writer.Func.{Func}
-use Rattle.cm_dump.specs.declared.writer.Func.TheVariants as func
+use Rattle.cm_func.specs.declared.function.Func.{Func}
+use Rattle.cm_func.specs.declared.function.Func.TheVariants as func
 use Rattle.cm_spec.specs.Bdz.{bdz_rule, bdz_ph_rule}
 use Rattle.cm_spec.specs.Built.{AllCored, IsFirst, chm_under, graph_of}
 use Rattle.cm_spec.specs.Chm.{chm_rule}

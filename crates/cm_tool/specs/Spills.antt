@@ -4,8 +4,8 @@ use Rattle.cm_algo_names.specs.declared.algorithm.Algorithm.{Algorithm}
 use Rattle.cm_algo_names.specs.declared.algorithm.Algorithm.TheVariants.{Brz}
 use Rattle.cm_brz_split.specs.Puts.{records_under}
 use Rattle.cm_brz_split.specs.Spilled.{AreSpilled}
-use Rattle.cm_dump.specs.declared.writer.Func.{Func}
-use Rattle.cm_dump.specs.declared.writer.Func.TheVariants as func
+use Rattle.cm_func.specs.declared.function.Func.{Func}
+use Rattle.cm_func.specs.declared.function.Func.TheVariants as func
 use Rattle.cm_tool.specs.Tested.{generated, test_verdict}
 use Rattle.cm_words.specs.declared.jobs.TestJob.{TestJob}
 

@@ -4,8 +4,8 @@ use Rattle.cm_algo_names.specs.Names.{name_of}
 use Rattle.cm_algo_names.specs.declared.algorithm.Algorithm.{Algorithm}
 use Rattle.cm_algo_names.specs.declared.algorithm.Algorithm.TheVariants.{Bdz, Brz}
 use Rattle.cm_dump.specs.Dumps.{dump_of}
-use Rattle.cm_dump.specs.Functions.{answer_by}
-use Rattle.cm_dump.specs.declared.writer.Func.{Func}
+use Rattle.cm_func.specs.Functions.{answer_by}
+use Rattle.cm_func.specs.declared.function.Func.{Func}
 use Rattle.cm_keys_made.specs.Texts.{made_text}
 use Rattle.cm_words_values.specs.Options.{algorithms, usual_ratio}
 use Rattle.cm_io.specs.Files.{Files}

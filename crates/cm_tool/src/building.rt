@@ -1,7 +1,7 @@
 //! Builds.
 ghost use Rattle.std.specs.Prelude.{◌≡◌, ◌≢◌, ◌<◌, ◌≤◌, ◌⊎◌, ◌↔◌, ◌^◌, ℕ, List, Option, None, Some, Ok, IfOk, IfErr};
 ghost use Rattle.std.specs.Option.{ForSome};
-ghost use Rattle.cm_dump.specs.Functions.{IsFunction};
+ghost use Rattle.cm_func.specs.Functions.{IsFunction};
 ghost use Rattle.cm_io.specs.Causes.{HasCause, IsSent};
 ghost use Rattle.cm_io.specs.Files.{file_at};
 ghost use Rattle.cm_io.specs.Writing.{Writes};

@@ -3,7 +3,7 @@ ghost use Rattle.std.specs.Prelude.{◌≡◌, ◌≢◌, ◌<◌, ◌≤◌, �
 ghost use Rattle.std.specs.Option.{ForSome};
 ghost use Rattle.cm_algo_names.specs.declared.algorithm.Algorithm.{Algorithm};
 ghost use Rattle.cm_algo_names.specs.declared.algorithm.Algorithm.TheVariants.{Brz};
-ghost use Rattle.cm_dump.specs.Functions.{IsFunction, answer_by};
+ghost use Rattle.cm_func.specs.Functions.{IsFunction, answer_by};
 ghost use Rattle.cm_words_values.specs.Limits.{IsBuffer};
 ghost use Rattle.cm_words_values.specs.Options.{bits_value, usual_ratio};
 ghost use Rattle.cm_io.specs.Causes.{HasCause, IsSent};

@@ -1,9 +1,9 @@
 -- From the parts of a query to how it ends.
 use Rattle.std.proofs.Common.{◌≡◌, ◌∙◌, ℕ, ◌-◌, List, [], length, take, Option, Some, Result, Ok, Err, refl, ap, sym, arith, append-nil}
 use Rattle.std.proofs.lemmas.List.{take_all}
-use Rattle.cm_dump.specs.Functions.{answer_by}
+use Rattle.cm_func.specs.Functions.{answer_by}
 use Rattle.cm_dump.specs.Spelling.{spelling_of}
-use Rattle.cm_dump.specs.declared.writer.Func.{Func}
+use Rattle.cm_func.specs.declared.function.Func.{Func}
 use Rattle.cm_dump_items.specs.Reading.{Fails, HasLoadCause}
 use Rattle.cm_dump_items.specs.declared.fault.LoadFault.{LoadFault}
 use Rattle.cm_dump_items.specs.declared.fault.LoadFault.TheVariants as faults

@@ -1,8 +1,8 @@
 -- How a query ends.
 use Rattle.std.specs.Prelude.{◌≡◌, ◌≤◌, ℕ, List, [], ◌++◌, take, drop, Option, None, Some, Result, Ok, Err}
-use Rattle.cm_dump.specs.Functions.{answer_by}
+use Rattle.cm_func.specs.Functions.{answer_by}
 use Rattle.cm_dump.specs.Spelling.{spelling_of}
-use Rattle.cm_dump.specs.declared.writer.Func.{Func}
+use Rattle.cm_func.specs.declared.function.Func.{Func}
 use Rattle.cm_dump_items.specs.declared.fault.LoadFault.{LoadFault}
 use Rattle.cm_dump_items.specs.declared.fault.LoadFault.TheVariants as faults
 use Rattle.cm_io.specs.Causes.{Rose}

@@ -1,7 +1,7 @@
 -- What is said of a function.
 use Rattle.std.specs.Prelude.{length}
-use Rattle.cm_dump.specs.declared.writer.Func.{Func}
-use Rattle.cm_dump.specs.declared.writer.Func.TheVariants as func
+use Rattle.cm_func.specs.declared.function.Func.{Func}
+use Rattle.cm_func.specs.declared.function.Func.TheVariants as func
 use Rattle.cm_tool_files.specs.declared.built.Summary.{Summary}
 
 -- how many keys and cells a function has, or for BRZ keys and buckets, and its seed, for BRZ that of the split

@@ -1,7 +1,7 @@
 //! The keys of a file, answered by a function.
 ghost use Rattle.std.specs.Prelude.{◌≡◌, ◌+◌, ◌≤◌, ℕ, List, Err, IfOk, false};
 ghost use Rattle.std.specs.Option.{ForSome};
-ghost use Rattle.cm_dump.specs.Functions.{answer_by};
+ghost use Rattle.cm_func.specs.Functions.{answer_by};
 ghost use Rattle.cm_io.specs.Causes.{IsSent};
 ghost use Rattle.cm_io.specs.Noting.{Noted};
 ghost use Rattle.cm_tool_files.specs.Asked.{EndsKeys, HasQueryStopCause, stop_from_query};

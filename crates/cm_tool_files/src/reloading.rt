@@ -1,7 +1,7 @@
 //! A function, saved into memory and loaded from there.
 ghost use Rattle.std.specs.Prelude.{◌≡◌, IfOk};
 ghost use Rattle.cm_dump.specs.Dumps.{dump_of};
-ghost use Rattle.cm_dump.specs.Functions.{IsFunction};
+ghost use Rattle.cm_func.specs.Functions.{IsFunction};
 
 use cm_dump::laws::dumps_spell;
 use cm_dump::{Func, LoadFault, load, save, saved_len};

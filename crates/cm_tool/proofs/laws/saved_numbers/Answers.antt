@@ -10,8 +10,8 @@ use Rattle.cm_brz_func.specs.Functions as buckets
 use Rattle.cm_brz_func.specs.Functions.{brz_answer}
 use Rattle.cm_chm.specs.Numbering.{AnswersNumbers}
 use Rattle.cm_dump.specs.Spelling.{spelling_of}
-use Rattle.cm_dump.specs.declared.writer.Func.{Func}
-use Rattle.cm_dump.specs.declared.writer.Func.TheVariants as func
+use Rattle.cm_func.specs.declared.function.Func.{Func}
+use Rattle.cm_func.specs.declared.function.Func.TheVariants as func
 use Rattle.cm_io.specs.Files.{with_file}
 use Rattle.cm_spec.specs.Bdz.{bdz_ph_rule, bdz_rule}
 use Rattle.cm_spec.specs.Built.{cells_under, chm_under, graph_of}

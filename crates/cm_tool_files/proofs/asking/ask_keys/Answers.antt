@@ -1,6 +1,6 @@
 use Rattle.std.proofs.Common.{[], ◌≡◌, ◌∙◌, ℕ, List, Option, refl, ap}
 use Rattle.std.specs.Option.{option_map}
-use Rattle.cm_dump.specs.Functions.{answer_by}
+use Rattle.cm_func.specs.Functions.{answer_by}
 use Rattle.cm_io.specs.NotingLaws.{noted_nothing}
 use Rattle.cm_query.specs.QueryLaws.{stops_reached}
 use Rattle.cm_query.specs.Stops.{noted_keys}

@@ -1,5 +1,5 @@
 //! What a function of any algorithm answers.
-ghost use Rattle.cm_dump.specs.Functions.{answer_by, place_by, span_by};
+ghost use Rattle.cm_func.specs.Functions.{answer_by, place_by, span_by};
 
 use crate::Func;
 use cm_algo_scheme::{Answers, Place};

@@ -12,8 +12,8 @@ use Rattle.cm_spec.specs.Cells.{is_busy}
 use Rattle.cm_spec.specs.Chm.{Chm, chm_answer, chm_size}
 use Rattle.cm_spec.specs.Lookup2.{words}
 use Rattle.cm_spec.specs.Rule.{IsRatio}
-use Rattle.cm_dump.specs.declared.writer.Func.{Func}
-use Rattle.cm_dump.specs.declared.writer.Func.TheVariants as func
+use Rattle.cm_func.specs.declared.function.Func.{Func}
+use Rattle.cm_func.specs.declared.function.Func.TheVariants as func
 
 -- a CHM function: its numbers are in their ranges, and it has as many cells as its graph has vertices, each below the number of keys
 pub record IsChm (f : Chm) : Type 0 where
