@@ -30,7 +30,7 @@ pub fn numbers_apart()
 /// What a build returns or reports can be computed from the keys alone: the function of the seed that splits them; the lowest bucket
 /// for which no seed works, with its report; or, if no seed splits the keys, the lowest overfull bucket under the first seed, with its
 /// report. If no seed splits the keys, each leaves an overfull bucket. If there is a bucket, there are keys.
-pub fn verdicts()
+pub fn keys_determine_results()
     ensures function { (keys : List (ℕ × List ℕ)) (c b : ℕ) (seeds : List ℕ) (f : Brz) → IsBrzOf keys c b seeds f → f ≡ brz_under keys c b f.split seeds }
     ensures none { (keys : List (ℕ × List ℕ)) (c b : ℕ) (seeds : List ℕ) (f : Brz) → IsBrzOf keys c b seeds f → first_cored keys (bucket_count (length keys) b) c f.split seeds ≡ None }
     ensures cored { (keys : List (ℕ × List ℕ)) (k c : ℕ) (seeds : List ℕ) (made : Certificate) → 0 < length seeds → (cored : IsCoredBucket keys k c seeds made) → first_cored keys k c cored.place.split seeds ≡ Some cored.place.bucket }

@@ -8,7 +8,7 @@ pub mod examples;
 mod laws;
 mod report;
 
-pub use crate::laws::{numbers_apart, verdicts};
+pub use crate::laws::{keys_determine_results, numbers_apart};
 pub use crate::report::write_overfull;
 pub use cm_brz_func::{Brz, BrzParts, MAX_BUCKET, MAX_WIDTH, MIN_WIDTH};
 pub use cm_brz_split::BrzFault;

@@ -32,17 +32,17 @@ use Rattle.cm_spec.specs.Built.{IsFirst, cells_under, chm_under, first_seed}
 use Rattle.cm_spec.specs.Chm.{Chm, chm_rule}
 use Rattle.cm_spec.specs.Rule.{Rule}
 use Rattle.cm_tool_files.specs.EndLaws.{collected}
-use Rattle.cm_tool_files.specs.declared.stop.Reason.TheVariants.{NoSeed, NoSeedFor, NoSplit}
-use Rattle.cm_tool_files.specs.declared.stop.Reason.{Reason}
+use Rattle.cm_tool_files.specs.declared.stop.SeedFailure.TheVariants.{NoSeed, NoSeedFor, NoSplit}
+use Rattle.cm_tool_files.specs.declared.stop.SeedFailure.{SeedFailure}
 use Rattle.cm_tool_files.specs.declared.stop.Stop.TheVariants.{Memory, Read, Write, WriteOut, Refused, Changed, Spill, SpillDamaged, NoKeys, TooLong, TooMany}
 use Rattle.cm_tool_files.specs.declared.stop.Stop.{Stop}
-use Rattle.cm_tool.specs.Faults.{FailsFunc, HasFuncCause, HasNone, HasStopForm, IsChange, IsChangeBy, IsReasonBy, fault_from_brz, fault_from_build, reason_of, shown_core, shown_overfull, stop_for}
+use Rattle.cm_tool.specs.Faults.{FailsFunc, HasFuncCause, HasNone, HasStopForm, IsChange, IsChangeBy, IsSeedFailureBy, fault_from_brz, fault_from_build, seed_failure_of, shown_core, shown_overfull, stop_for}
 use Rattle.cm_tool.specs.Jobs.{seeds_tried}
 use Rattle.cm_tool.specs.Leaves.{GotReport, HasStopCause, IsBuiltFrom, IsFuncOf, IsRefused, Leaves, Refuses, Saves, StopsFor}
 use Rattle.cm_tool.specs.Outcome.{keys_in}
 use Rattle.cm_tool.specs.Seeds.{IsCoredUnder, IsMadeBy, NoneWorks, TakesFirst}
-use Rattle.cm_tool.specs.Verdict as verdicts
-use Rattle.cm_tool.specs.Verdict.{Shown, filled, seeded, split_into, verdict_by}
+use Rattle.cm_tool.specs.Results as results
+use Rattle.cm_tool.specs.Results.{FailureReport, filled, seeded, split_into, result_by}
 use Rattle.cm_tool.specs.declared.fault.FuncFault.{FuncFault}
 use Rattle.cm_tool.specs.declared.fault.FuncFault.TheVariants as func_fault
 use Rattle.cm_witness.specs.Reports.{report_text}
@@ -73,17 +73,17 @@ bdz_ph_by_parts f keys c seed m r s cells =
     ∙ ap (λ (k : ℕ). let g : BdzPh = record { keys = length keys; ratio = c; seed = k; cells = f.cells } in g) s
     ∙ ap (λ (xs : List ℕ). let g : BdzPh = record { keys = length keys; ratio = c; seed = seed; cells = xs } in g) cells
 
--- the verdict on keys that have no function
-abbrev shown_is : Reason → List ℕ → Result Func Shown
-shown_is reason report = Err (record { reason = reason; report = report })
+-- the result on keys that have no function
+abbrev shown_is : SeedFailure → List ℕ → Result Func FailureReport
+shown_is failure report = Err (record { failure = failure; report = report })
 
 -- a build under one seed gives the function of the keys
 func_from : (algorithm : Algorithm) (r : Rule) (b : ℕ) (told : Told) (c : ℕ) (seeds : List ℕ) (f : Func) (m seed : ℕ) (cells : List ℕ) → 1 ≤ m → m ≤ MAX_KEYS → IsBuiltFrom r told c seeds m seed cells
-    → verdict_by algorithm b told.keys c seeds ≡ Ok f → IsMadeBy algorithm b told.keys c seeds f → IsFuncOf algorithm b told c seeds f
-func_from algorithm r b told c seeds f m seed cells some few built verdict made = record {
+    → result_by algorithm b told.keys c seeds ≡ Ok f → IsMadeBy algorithm b told.keys c seeds f → IsFuncOf algorithm b told c seeds f
+func_from algorithm r b told c seeds f m seed cells some few built result_is made = record {
   no_fault = built.no_fault;
   many = (omega (arith, some, built.many), omega (arith, few, built.many));
-  verdict = verdict;
+  result_is = result_is;
   made = made;
 }
 
@@ -95,7 +95,7 @@ pub chm_from : (told : Told) (c b : ℕ) (seeds : List ℕ) (f : Chm) (m seed : 
 chm_from told c b seeds f m seed cells some few built keys_are ratio_is seed_is cells_are =
     let is : f ≡ chm_under told.keys c seed = chm_by_parts f told.keys c seed (keys_are ∙ built.many) ratio_is seed_is (cells_are ∙ built.cells_are) in
     func_from algorithms.Chm chm_rule b told c seeds (func.Chm f) m seed cells some few built
-    (ap (seeded (λ (s : ℕ). func.Chm (chm_under told.keys c s)) (verdicts.report_by algorithms.Chm chm_rule told.keys c seeds)) built.chosen ∙ ap (λ (g : Chm). let v : Result Func Shown = Ok (func.Chm g) in v) (sym is))
+    (ap (seeded (λ (s : ℕ). func.Chm (chm_under told.keys c s)) (results.report_by algorithms.Chm chm_rule told.keys c seeds)) built.chosen ∙ ap (λ (g : Chm). let v : Result Func FailureReport = Ok (func.Chm g) in v) (sym is))
     (is ∙ ap (chm_under told.keys c) (sym seed_is), takes_first chm_rule told c seeds m seed f.seed cells seed_is built)
 
 pub bdz_from : (told : Told) (c b : ℕ) (seeds : List ℕ) (f : Bdz) (m seed : ℕ) (cells : List ℕ) → 1 ≤ m → m ≤ MAX_KEYS → IsBuiltFrom bdz_rule told c seeds m seed cells
@@ -103,7 +103,7 @@ pub bdz_from : (told : Told) (c b : ℕ) (seeds : List ℕ) (f : Bdz) (m seed : 
 bdz_from told c b seeds f m seed cells some few built keys_are ratio_is seed_is shift_is cells_are =
     let is : f ≡ bdz_under told.keys c seed b = bdz_by_parts f told.keys c seed b (keys_are ∙ built.many) ratio_is seed_is shift_is (cells_are ∙ built.cells_are) in
     func_from algorithms.Bdz bdz_rule b told c seeds (func.Bdz f) m seed cells some few built
-    (ap (seeded (λ (s : ℕ). func.Bdz (bdz_under told.keys c s b)) (verdicts.report_by algorithms.Bdz bdz_rule told.keys c seeds)) built.chosen ∙ ap (λ (g : Bdz). let v : Result Func Shown = Ok (func.Bdz g) in v) (sym is))
+    (ap (seeded (λ (s : ℕ). func.Bdz (bdz_under told.keys c s b)) (results.report_by algorithms.Bdz bdz_rule told.keys c seeds)) built.chosen ∙ ap (λ (g : Bdz). let v : Result Func FailureReport = Ok (func.Bdz g) in v) (sym is))
     (is ∙ ap (λ (s : ℕ). bdz_under told.keys c s b) (sym seed_is), takes_first bdz_rule told c seeds m seed f.seed cells seed_is built)
 
 pub bdz_ph_from : (told : Told) (c b : ℕ) (seeds : List ℕ) (f : BdzPh) (m seed : ℕ) (cells : List ℕ) → 1 ≤ m → m ≤ MAX_KEYS → IsBuiltFrom bdz_ph_rule told c seeds m seed cells
@@ -111,29 +111,29 @@ pub bdz_ph_from : (told : Told) (c b : ℕ) (seeds : List ℕ) (f : BdzPh) (m se
 bdz_ph_from told c b seeds f m seed cells some few built keys_are ratio_is seed_is cells_are =
     let is : f ≡ bdz_ph_under told.keys c seed = bdz_ph_by_parts f told.keys c seed (keys_are ∙ built.many) ratio_is seed_is (cells_are ∙ built.cells_are) in
     func_from algorithms.BdzPh bdz_ph_rule b told c seeds (func.BdzPh f) m seed cells some few built
-    (ap (seeded (λ (s : ℕ). func.BdzPh (bdz_ph_under told.keys c s)) (verdicts.report_by algorithms.BdzPh bdz_ph_rule told.keys c seeds)) built.chosen ∙ ap (λ (g : BdzPh). let v : Result Func Shown = Ok (func.BdzPh g) in v) (sym is))
+    (ap (seeded (λ (s : ℕ). func.BdzPh (bdz_ph_under told.keys c s)) (results.report_by algorithms.BdzPh bdz_ph_rule told.keys c seeds)) built.chosen ∙ ap (λ (g : BdzPh). let v : Result Func FailureReport = Ok (func.BdzPh g) in v) (sym is))
     (is ∙ ap (bdz_ph_under told.keys c) (sym seed_is), takes_first bdz_ph_rule told c seeds m seed f.seed cells seed_is built)
 
 -- the certificate of a build under one seed shows what the keys have
 core_shown : (algorithm : Algorithm) (r : Rule) (keys : List (ℕ × List ℕ)) (c : ℕ) (seeds : List ℕ) (made : Certificate) → HasForm algorithm (slice_index seeds 0) (build_fault.Cored made) → ShowsCore r keys c (slice_index seeds 0) made
-    → shown_core made ≡ record { reason = NoSeed; report = verdicts.report_by algorithm r keys c seeds }
-unfolding verdicts.report_by
+    → shown_core made ≡ record { failure = NoSeed; report = results.report_by algorithm r keys c seeds }
+unfolding results.report_by
 core_shown algorithm r keys c seeds made form shows = rw (form.0, form.1, form.2, shows.edges, shows.equal) refl
 
 -- why there is no function under one seed
 fails_by : (algorithm : Algorithm) (r : Rule) (function : ℕ → Func) (b : ℕ) (told : Told) (c : ℕ) (seeds : List ℕ) (fault : BuildFault)
-    → verdict_by algorithm b told.keys c seeds ≡ seeded function (verdicts.report_by algorithm r told.keys c seeds) (first_seed r told.keys c seeds) → (IsCoredUnder r told.keys c seeds → NoneWorks algorithm b told.keys c seeds)
+    → result_by algorithm b told.keys c seeds ≡ seeded function (results.report_by algorithm r told.keys c seeds) (first_seed r told.keys c seeds) → (IsCoredUnder r told.keys c seeds → NoneWorks algorithm b told.keys c seeds)
     → FailsBuild r told c seeds fault → HasForm algorithm (slice_index seeds 0) fault → FailsFunc algorithm b told c seeds (fault_from_build fault)
-fails_by algorithm r function b told c seeds build_fault.Memory verdict none fails form = tt
-fails_by algorithm r function b told c seeds build_fault.NoKeys verdict none fails form = (fails.1, fails.0)
-fails_by algorithm r function b told c seeds (build_fault.Cored made) verdict none fails form = record {
+fails_by algorithm r function b told c seeds build_fault.Memory result_is none fails form = tt
+fails_by algorithm r function b told c seeds build_fault.NoKeys result_is none fails form = (fails.1, fails.0)
+fails_by algorithm r function b told c seeds (build_fault.Cored made) result_is none fails form = record {
   no_fault = fails.1;
   some = fails.0;
-  verdict = verdict ∙ (ap (seeded function (verdicts.report_by algorithm r told.keys c seeds)) fails.2 ∙ ap (λ (s : Shown). let v : Result Func Shown = Err s in v) (sym (core_shown algorithm r told.keys c seeds made form fails.4)));
+  result_is = result_is ∙ (ap (seeded function (results.report_by algorithm r told.keys c seeds)) fails.2 ∙ ap (λ (s : FailureReport). let v : Result Func FailureReport = Err s in v) (sym (core_shown algorithm r told.keys c seeds made form fails.4)));
   none = none (record { cored = fails.3; core = rest_is_core _ });
 }
-fails_by algorithm r function b told c seeds (build_fault.Key fault) verdict none fails form = fails
-fails_by algorithm r function b told c seeds (build_fault.Changed first again) verdict none fails form = absurd fails
+fails_by algorithm r function b told c seeds (build_fault.Key fault) result_is none fails form = fails
+fails_by algorithm r function b told c seeds (build_fault.Changed first again) result_is none fails form = absurd fails
 
 pub chm_fails : (b : ℕ) (told : Told) (c : ℕ) (seeds : List ℕ) (fault : BuildFault) → FailsBuild chm_rule told c seeds fault → HasForm algorithms.Chm (slice_index seeds 0) fault → FailsFunc algorithms.Chm b told c seeds (fault_from_build fault)
 chm_fails b told c seeds fault fails form = fails_by algorithms.Chm chm_rule (λ (s : ℕ). func.Chm (chm_under told.keys c s)) b told c seeds fault refl (λ under. under) fails form
@@ -159,22 +159,22 @@ pub brz_from : (told : Told) (c b : ℕ) (seeds : List ℕ) (f : Brz) → told.f
 brz_from told c b seeds f fine valid of is none = record {
   no_fault = fine;
   many = (omega (arith, valid.keys.0, of.many), omega (arith, valid.keys.1, of.many));
-  verdict = ap (split_into told.keys c b seeds) of.split ∙ (ap (filled told.keys c b seeds f.split) none ∙ ap (λ (g : Brz). let v : Result Func Shown = Ok (func.Brz g) in v) (sym is));
+  result_is = ap (split_into told.keys c b seeds) of.split ∙ (ap (filled told.keys c b seeds f.split) none ∙ ap (λ (g : Brz). let v : Result Func FailureReport = Ok (func.Brz g) in v) (sym is));
   made = of;
 }
 
 -- the certificate of a bucket shows what the keys have
 core_of_bucket : (told : Told) (c b : ℕ) (seeds : List ℕ) (made : Certificate) → BrzLaws told.keys (bucket_count (length told.keys) b) c seeds → made.algorithm ≡ algorithms.Brz → made.seed ≡ slice_index seeds 0
-    → IsCoredBucket told.keys (bucket_count (length told.keys) b) c seeds made → verdict_by algorithms.Brz b told.keys c seeds ≡ Err (shown_core made)
+    → IsCoredBucket told.keys (bucket_count (length told.keys) b) c seeds made → result_by algorithms.Brz b told.keys c seeds ≡ Err (shown_core made)
 core_of_bucket told c b seeds made laws by seed cored =
     let split : ℕ = cored.place.split in
     let bucket : ℕ = cored.place.bucket in
     let text : List ℕ = report_text made.algorithm made.place made.seed made.edges.items made.equal.items in
     let shown : text ≡ bucket_report told.keys (bucket_count (length told.keys) b) c split bucket seeds = laws.cored_shown made by seed cored in
-    let reason : reason_of made.place ≡ NoSeedFor bucket = ap reason_of cored.cored.shown in
+    let failure : seed_failure_of made.place ≡ NoSeedFor bucket = ap seed_failure_of cored.cored.shown in
     ap (split_into told.keys c b seeds) cored.chosen
     ∙ (ap (filled told.keys c b seeds split) (laws.cored made cored)
-    ∙ (ap (shown_is (NoSeedFor bucket)) (sym shown) ∙ ap (λ (q : Reason). shown_is q text) (sym reason)))
+    ∙ (ap (shown_is (NoSeedFor bucket)) (sym shown) ∙ ap (λ (q : SeedFailure). shown_is q text) (sym failure)))
 
 -- why there is no function by BRZ
 pub brz_fails : (told : Told) (c b : ℕ) (seeds : List ℕ) (fault : BrzFault) → BrzLaws told.keys (bucket_count (length told.keys) b) c seeds → FailsBrz told c b seeds fault → HasBrzForm seeds fault → (IsDamage fault → ⊥)
@@ -184,13 +184,13 @@ brz_fails told c b seeds brz_fault.NoKeys laws fails form undamaged = (fails.1, 
 brz_fails told c b seeds (brz_fault.Overfull seed bucket count equal) laws fails form undamaged = record {
   no_fault = fails.0;
   some = laws.some bucket fails.1.lowest.within;
-  verdict = ap (split_into told.keys c b seeds) fails.1.none ∙ ap (shown_is NoSplit) (sym (laws.overfull_shown seed bucket count equal.items fails.1));
+  result_is = ap (split_into told.keys c b seeds) fails.1.none ∙ ap (shown_is NoSplit) (sym (laws.overfull_shown seed bucket count equal.items fails.1));
   none = inl (laws.all fails.1.none);
 }
 brz_fails told c b seeds (brz_fault.Cored made) laws fails form undamaged = record {
   no_fault = fails.0;
   some = laws.some fails.1.place.bucket fails.1.within;
-  verdict = core_of_bucket told c b seeds made laws form.0 form.1 fails.1;
+  result_is = core_of_bucket told c b seeds made laws form.0 form.1 fails.1;
   none = inr (record {
     split = fails.1.place.split;
     bucket = fails.1.place.bucket;
@@ -205,12 +205,12 @@ brz_fails told c b seeds brz_fault.SpillFailed laws fails form undamaged = tt
 brz_fails told c b seeds (brz_fault.SpillDamaged offset expected found) laws fails form undamaged = absurd (undamaged tt)
 
 -- out got the report on keys that have no function
-reported : (job : BuildJob) (told : Told) (shown : Shown) (old new : Option (List ℕ)) (stop : Stop) → HasNone job.algorithm job.b told job.c (seeds_tried job) shown → GotReport shown old new stop → Refuses job told old new stop
+reported : (job : BuildJob) (told : Told) (shown : FailureReport) (old new : Option (List ℕ)) (stop : Stop) → HasNone job.algorithm job.b told job.c (seeds_tried job) shown → GotReport shown old new stop → Refuses job told old new stop
 reported job told shown old new Memory none got = absurd got
 reported job told shown old new Read none got = absurd got
 reported job told shown old new Write none got = absurd got
 reported job told shown old new WriteOut none got = (shown, none, got)
-reported job told shown old new (Refused reason) none got = (shown, none, got)
+reported job told shown old new (Refused failure) none got = (shown, none, got)
 reported job told shown old new (Changed first again) none got = absurd got
 reported job told shown old new Spill none got = absurd got
 reported job told shown old new (SpillDamaged offset expected found) none got = absurd got
@@ -224,7 +224,7 @@ refused_by job files bytes old new Memory there refuses = tt
 refused_by job files bytes old new Read there refuses = tt
 refused_by job files bytes old new Write there refuses = (bytes, there, refuses)
 refused_by job files bytes old new WriteOut there refuses = (bytes, there, refuses)
-refused_by job files bytes old new (Refused reason) there refuses = (bytes, there, refuses)
+refused_by job files bytes old new (Refused failure) there refuses = (bytes, there, refuses)
 refused_by job files bytes old new (Changed first again) there refuses = (bytes, there, refuses)
 refused_by job files bytes old new Spill there refuses = (bytes, there, refuses)
 refused_by job files bytes old new (SpillDamaged offset expected found) there refuses = (bytes, there, refuses)
@@ -247,18 +247,18 @@ refused_from job files bytes func_fault.Spill old new stop there fails stops = r
 refused_from job files bytes (func_fault.SpillDamaged offset expected found) old new stop there fails stops = absurd fails
 
 -- what a stop for a report has
-shown_form : (algorithm : Algorithm) (shown : Shown) (old new : Option (List ℕ)) (stop : Stop) → IsReasonBy algorithm shown.reason → GotReport shown old new stop → HasStopForm algorithm stop
-shown_form algorithm shown old new Memory reason got = tt
-shown_form algorithm shown old new Read reason got = tt
-shown_form algorithm shown old new Write reason got = tt
-shown_form algorithm shown old new WriteOut reason got = tt
-shown_form algorithm shown old new (Refused other) reason got = rw got.0 reason
-shown_form algorithm shown old new (Changed first again) reason got = absurd got
-shown_form algorithm shown old new Spill reason got = absurd got
-shown_form algorithm shown old new (SpillDamaged offset expected found) reason got = absurd got
-shown_form algorithm shown old new NoKeys reason got = tt
-shown_form algorithm shown old new (TooLong line) reason got = tt
-shown_form algorithm shown old new TooMany reason got = tt
+shown_form : (algorithm : Algorithm) (shown : FailureReport) (old new : Option (List ℕ)) (stop : Stop) → IsSeedFailureBy algorithm shown.failure → GotReport shown old new stop → HasStopForm algorithm stop
+shown_form algorithm shown old new Memory failure got = tt
+shown_form algorithm shown old new Read failure got = tt
+shown_form algorithm shown old new Write failure got = tt
+shown_form algorithm shown old new WriteOut failure got = tt
+shown_form algorithm shown old new (Refused other) failure got = rw got.0 failure
+shown_form algorithm shown old new (Changed first again) failure got = absurd got
+shown_form algorithm shown old new Spill failure got = absurd got
+shown_form algorithm shown old new (SpillDamaged offset expected found) failure got = absurd got
+shown_form algorithm shown old new NoKeys failure got = tt
+shown_form algorithm shown old new (TooLong line) failure got = tt
+shown_form algorithm shown old new TooMany failure got = tt
 
 -- and what any stop has
 pub stop_form : (algorithm : Algorithm) (fault : FuncFault) (old new : Option (List ℕ)) (stop : Stop) → HasStopForm algorithm (stop_for fault) → StopsFor fault old new stop → HasStopForm algorithm stop
@@ -277,7 +277,7 @@ leaves_refused job old new out_old out_new Memory same refused = inl same
 leaves_refused job old new out_old out_new Read same refused = (same, refused)
 leaves_refused job old new out_old out_new Write same refused = ([], inl same, λ files is. absurd ((refused files is).2))
 leaves_refused job old new out_old out_new WriteOut same refused = (same, refused)
-leaves_refused job old new out_old out_new (Refused reason) same refused = (same, refused)
+leaves_refused job old new out_old out_new (Refused failure) same refused = (same, refused)
 leaves_refused job old new out_old out_new (Changed first again) same refused = (same, refused)
 leaves_refused job old new out_old out_new Spill same refused = (same, refused)
 leaves_refused job old new out_old out_new (SpillDamaged offset expected found) same refused = (same, refused)
@@ -304,15 +304,15 @@ build_cause T (Ok x) fault k k_now w is cause = absurd is
 build_cause T (Err e) fault k k_now w is cause = subst (λ (f : FuncFault). HasFuncCause {T = T} k k_now w w (Err f)) (sym is) (fault_cause T fault k k_now w cause)
 
 -- what a failed build under one seed shows, by an algorithm with one seed
-pub build_form : (algorithm : Algorithm) (fault : BuildFault) (place seed : ℕ) → IsReasonBy algorithm NoSeed → ((first again : ℕ) → IsChange first again → IsChangeBy algorithm first again) → HasNumbers place fault → HasForm algorithm seed fault
+pub build_form : (algorithm : Algorithm) (fault : BuildFault) (place seed : ℕ) → IsSeedFailureBy algorithm NoSeed → ((first again : ℕ) → IsChange first again → IsChangeBy algorithm first again) → HasNumbers place fault → HasForm algorithm seed fault
     → HasStopForm algorithm (stop_for (fault_from_build fault))
-build_form algorithm build_fault.Memory place seed reason change numbers form = tt
-build_form algorithm build_fault.NoKeys place seed reason change numbers form = tt
-build_form algorithm (build_fault.Cored made) place seed reason change numbers form = rw form.2 reason
-build_form algorithm (build_fault.Key key_fault.Read) place seed reason change numbers form = tt
-build_form algorithm (build_fault.Key (key_fault.TooLong line)) place seed reason change numbers form = tt
-build_form algorithm (build_fault.Key key_fault.TooMany) place seed reason change numbers form = tt
-build_form algorithm (build_fault.Changed first again) place seed reason change numbers form = change first again (record { some = numbers.0; differs = numbers.1.differs; stops = numbers.1.stops })
+build_form algorithm build_fault.Memory place seed failure change numbers form = tt
+build_form algorithm build_fault.NoKeys place seed failure change numbers form = tt
+build_form algorithm (build_fault.Cored made) place seed failure change numbers form = rw form.2 failure
+build_form algorithm (build_fault.Key key_fault.Read) place seed failure change numbers form = tt
+build_form algorithm (build_fault.Key (key_fault.TooLong line)) place seed failure change numbers form = tt
+build_form algorithm (build_fault.Key key_fault.TooMany) place seed failure change numbers form = tt
+build_form algorithm (build_fault.Changed first again) place seed failure change numbers form = change first again (record { some = numbers.0; differs = numbers.1.differs; stops = numbers.1.stops })
 
 -- which counts a failed build by BRZ has raised, once the spill was handed back
 pub brz_cause : (fault : BrzFault) (k k_now count count_now before middle now : ℕ) → HasKeysCause {T = Func} k k_now (Err fault) → HasSpillCause {T = Func} count count_now (Err fault) → count ≡ 0 → Collects count_now middle now → middle ≡ before
@@ -327,12 +327,12 @@ brz_cause brz_fault.SpillFailed k k_now count count_now before middle now keys s
 brz_cause (brz_fault.SpillDamaged offset expected found) k k_now count count_now before middle now keys spill fresh back same = (keys, back.none (spill ∙ fresh) ∙ same)
 
 -- which counts of the disk a stop for a report has raised: none
-shown_cause : (shown : Shown) (old new : Option (List ℕ)) (stop : Stop) (r r_now w w_now : ℕ) → GotReport shown old new stop → r_now ≡ r → w_now ≡ w → HasStopCause {T = Func} r r_now w w_now (Err stop)
+shown_cause : (shown : FailureReport) (old new : Option (List ℕ)) (stop : Stop) (r r_now w w_now : ℕ) → GotReport shown old new stop → r_now ≡ r → w_now ≡ w → HasStopCause {T = Func} r r_now w w_now (Err stop)
 shown_cause shown old new Memory r r_now w w_now got read wrote = (read, wrote)
 shown_cause shown old new Read r r_now w w_now got read wrote = absurd got
 shown_cause shown old new Write r r_now w w_now got read wrote = absurd got
 shown_cause shown old new WriteOut r r_now w w_now got read wrote = (read, wrote)
-shown_cause shown old new (Refused reason) r r_now w w_now got read wrote = (read, wrote)
+shown_cause shown old new (Refused failure) r r_now w w_now got read wrote = (read, wrote)
 shown_cause shown old new (Changed first again) r r_now w w_now got read wrote = (read, wrote)
 shown_cause shown old new Spill r r_now w w_now got read wrote = absurd got
 shown_cause shown old new (SpillDamaged offset expected found) r r_now w w_now got read wrote = (read, wrote)

@@ -9,9 +9,9 @@ use Rattle.cm_io.specs.declared.key_pass.KeyFault.{KeyFault}
 use Rattle.cm_io.specs.declared.key_pass.KeyFault.TheVariants as key_fault
 use Rattle.cm_io.specs.WritingLaws.{then_nothing}
 use Rattle.cm_tool_files.specs.Ends.{Says, message_of, status_of}
-use Rattle.cm_tool_files.specs.Messages.{built_message, no_keys, reason_message}
+use Rattle.cm_tool_files.specs.Messages.{built_message, no_keys, seed_failure_message}
 use Rattle.cm_tool_files.specs.declared.built.Summary.{Summary}
-use Rattle.cm_tool_files.specs.declared.stop.Reason.{Reason}
+use Rattle.cm_tool_files.specs.declared.stop.SeedFailure.{SeedFailure}
 use Rattle.cm_tool_files.specs.declared.stop.Stop.TheVariants.{Memory, Read, Write, WriteOut, Refused, Changed, Spill, SpillDamaged, NoKeys, TooLong, TooMany}
 use Rattle.cm_tool_files.specs.declared.stop.Stop.{Stop}
 use Rattle.cm_tool.specs.Faults.{HasNone, HasStopForm}
@@ -21,7 +21,7 @@ use Rattle.cm_tool.specs.Outcome as outcomes
 use Rattle.cm_tool.specs.Outcome.{Outcome, build_over, built_or_refused, fault_message, job_outcome, keys_in, refusal, reporting, saving}
 use Rattle.cm_tool.specs.Run.{IsBuildMessage, IsCored, IsEmptied, IsStatus, IsUnfinished, KeysSpilled, LacksFile, Reaches, TookFirst}
 use Rattle.cm_tool.specs.Spills.{HasSpilled}
-use Rattle.cm_tool.specs.Verdict.{Shown, verdict_of}
+use Rattle.cm_tool.specs.Results.{FailureReport, result_of}
 use Rattle.cm_words.specs.declared.jobs.BuildJob.{BuildJob}
 use Rattle.cm_words.specs.declared.jobs.Job.TheVariants.{Build}
 
@@ -29,7 +29,7 @@ pub nothing_said : (known : Option (List ℕ)) (count : ℕ) → Says [] known k
 nothing_said known count = record { front = (0, then_nothing known); whole = λ _ _. then_nothing known }
 
 -- what keys that end with no fault, or with one, make of a build
-over_some : (job : BuildJob) (files : Files) (keys : List (ℕ × List ℕ)) (fault : Option KeyFault) → fault ≡ None → 0 < length keys → build_over job files keys fault ≡ built_or_refused job files (verdict_of job keys)
+over_some : (job : BuildJob) (files : Files) (keys : List (ℕ × List ℕ)) (fault : Option KeyFault) → fault ≡ None → 0 < length keys → build_over job files keys fault ≡ built_or_refused job files (result_of job keys)
 over_some job files [] fault fine some = absurd (omega arith)
 over_some job files (key ∷ keys) fault fine some = rw fine refl
 
@@ -51,13 +51,13 @@ none_some e = absurd (cc)
 pub outcome_saving : (job : BuildJob) (files : Files) (dump : List ℕ) (saves : Saves job files dump) → job_outcome files (Ok (Build job)) ≡ Some (saving job files saves.f)
 outcome_saving job files dump saves =
     let keys = (keys_in job.first saves.bytes).keys in
-    there job files saves.bytes _ saves.there (over_some job files keys (keys_in job.first saves.bytes).fault saves.made.no_fault (omega (arith, saves.made.many.0)) ∙ ap (built_or_refused job files) saves.made.verdict)
+    there job files saves.bytes _ saves.there (over_some job files keys (keys_in job.first saves.bytes).fault saves.made.no_fault (omega (arith, saves.made.many.0)) ∙ ap (built_or_refused job files) saves.made.result_is)
 
 -- a report on the keys is the outcome
-pub outcome_reporting : (job : BuildJob) (files : Files) (bytes : List ℕ) (shown : Shown) → file_at files job.keys ≡ Some bytes → HasNone job.algorithm job.b (keys_in job.first bytes) job.c (seeds_tried job) shown → job_outcome files (Ok (Build job)) ≡ Some (reporting files shown)
+pub outcome_reporting : (job : BuildJob) (files : Files) (bytes : List ℕ) (shown : FailureReport) → file_at files job.keys ≡ Some bytes → HasNone job.algorithm job.b (keys_in job.first bytes) job.c (seeds_tried job) shown → job_outcome files (Ok (Build job)) ≡ Some (reporting files shown)
 outcome_reporting job files bytes shown file none =
     let keys = (keys_in job.first bytes).keys in
-    there job files bytes _ file (over_some job files keys (keys_in job.first bytes).fault none.no_fault none.some ∙ ap (built_or_refused job files) none.verdict)
+    there job files bytes _ file (over_some job files keys (keys_in job.first bytes).fault none.no_fault none.some ∙ ap (built_or_refused job files) none.result_is)
 
 -- a build that stopped, with out as before
 quiet_end : (job : BuildJob) (files : Files) (new : Option Files) (status : ℕ) (text : List ℕ) (out out_new err err_new : Option (List ℕ)) (before now : ℕ) → job_outcome files (Ok (Build job)) ≡ Some (refusal status text files) → out_new ≡ out → Says text err err_new before now → new ≡ Some files
@@ -78,16 +78,16 @@ stopped job old new Memory out out_new err err_new before now files leaves same 
 stopped job old new Read out out_new err err_new before now files leaves same says a b c is = absurd (a refl)
 stopped job old new Write out out_new err err_new before now files leaves same says a b c is = absurd (b refl)
 stopped job old new WriteOut out out_new err err_new before now files leaves same says a b c is = absurd (b refl)
-stopped job old new (Refused reason) out out_new err err_new before now files leaves same says a b c is =
+stopped job old new (Refused failure) out out_new err err_new before now files leaves same says a b c is =
     let refused = leaves.1 files is in
-    let shown : Shown = refused.2.0 in
+    let shown : FailureReport = refused.2.0 in
     let got = refused.2.2 in
     record {
       outcome = reporting files shown;
       is = outcome_reporting job files refused.0 shown refused.1 refused.2.1;
       status_is = refl;
       out = got.1;
-      err = subst (λ (r : Reason). Says (reason_message r) err err_new before now) got.0 says;
+      err = subst (λ (r : SeedFailure). Says (seed_failure_message r) err err_new before now) got.0 says;
       files_are = leaves.0 ∙ is;
     }
 stopped job old new (Changed first again) out out_new err err_new before now files leaves same says a b c is = absurd ((leaves.1 files is).2)
@@ -122,7 +122,7 @@ missing job old new out out_new Memory files leaves same is none = record { stat
 missing job old new out out_new Read files leaves same is none = record { status_is = inl refl; files_are = leaves.0; out = same }
 missing job old new out out_new Write files leaves same is none = absurd (none_saved job files leaves.0 (leaves.2 files is) none)
 missing job old new out out_new WriteOut files leaves same is none = let refused = leaves.1 files is in absurd (none_there job files refused.0 refused.1 none)
-missing job old new out out_new (Refused reason) files leaves same is none = let refused = leaves.1 files is in absurd (none_there job files refused.0 refused.1 none)
+missing job old new out out_new (Refused failure) files leaves same is none = let refused = leaves.1 files is in absurd (none_there job files refused.0 refused.1 none)
 missing job old new out out_new (Changed first again) files leaves same is none = let refused = leaves.1 files is in absurd (none_there job files refused.0 refused.1 none)
 missing job old new out out_new Spill files leaves same is none = let refused = leaves.1 files is in absurd (none_there job files refused.0 refused.1 none)
 missing job old new out out_new (SpillDamaged offset expected found) files leaves same is none = let refused = leaves.1 files is in absurd (none_there job files refused.0 refused.1 none)
@@ -157,7 +157,7 @@ is_cored job old new out out_new Memory files leaves is one = absurd (omega arit
 is_cored job old new out out_new Read files leaves is one = absurd (omega arith)
 is_cored job old new out out_new Write files leaves is one = absurd (omega arith)
 is_cored job old new out out_new WriteOut files leaves is one = absurd (omega arith)
-is_cored job old new out out_new (Refused reason) files leaves is one =
+is_cored job old new out out_new (Refused failure) files leaves is one =
     let refused = leaves.1 files is in
     (refused.0, refused.1, refused.2.1.none)
 is_cored job old new out out_new (Changed first again) files leaves is one = absurd (omega arith)
@@ -182,7 +182,7 @@ written_part job old new out out_new err err_new before now err_before err_now W
     let refused = leaves.1 files is in
     let got = refused.2.2 in
     record { text = _; says = says; part = inr (inl (refused.2.0, got.0, outcome_reporting job files refused.0 refused.2.0 refused.1 refused.2.1, got.1, leaves.0, count.1, refl)) }
-written_part job old new out out_new err err_new before now err_before err_now (Refused reason) files leaves same form count says is five = absurd (omega arith)
+written_part job old new out out_new err err_new before now err_before err_now (Refused failure) files leaves same form count says is five = absurd (omega arith)
 written_part job old new out out_new err err_new before now err_before err_now (Changed first again) files leaves same form count says is five = absurd (omega arith)
 written_part job old new out out_new err err_new before now err_before err_now Spill files leaves same form count says is five = record { text = _; says = says; part = inr (inr (form, leaves.0, same, count, refl)) }
 written_part job old new out out_new err err_new before now err_before err_now (SpillDamaged offset expected found) files leaves same form count says is five = absurd (omega arith)
@@ -197,7 +197,7 @@ emptied job old new out out_new Memory (inr left) six = inr (left.1, λ files is
 emptied job old new out out_new Read leaves six = absurd (omega arith)
 emptied job old new out out_new Write leaves six = absurd (omega arith)
 emptied job old new out out_new WriteOut leaves six = absurd (omega arith)
-emptied job old new out out_new (Refused reason) leaves six = absurd (omega arith)
+emptied job old new out out_new (Refused failure) leaves six = absurd (omega arith)
 emptied job old new out out_new (Changed first again) leaves six = absurd (omega arith)
 emptied job old new out out_new Spill leaves six = absurd (omega arith)
 emptied job old new out out_new (SpillDamaged offset expected found) leaves six = absurd (omega arith)
@@ -216,7 +216,7 @@ message_is job before now Memory differ count = record { done = λ e. absurd (om
 message_is job before now Read differ count = record { done = λ e. absurd (omega arith); cored = λ e. absurd (omega arith); read = λ e. refl; write = λ e. absurd (omega arith); memory = λ e. absurd (omega arith); changed = λ e. absurd (omega arith); keys = λ e. absurd (omega arith) }
 message_is job before now Write differ count = record { done = λ e. absurd (omega arith); cored = λ e. absurd (omega arith); read = λ e. absurd (omega arith); write = λ e. inl (count, refl); memory = λ e. absurd (omega arith); changed = λ e. absurd (omega arith); keys = λ e. absurd (omega arith) }
 message_is job before now WriteOut differ count = record { done = λ e. absurd (omega arith); cored = λ e. absurd (omega arith); read = λ e. absurd (omega arith); write = λ e. inr (inr (count.1, refl)); memory = λ e. absurd (omega arith); changed = λ e. absurd (omega arith); keys = λ e. absurd (omega arith) }
-message_is job before now (Refused reason) differ count = record { done = λ e. absurd (omega arith); cored = λ e. (reason, differ, refl); read = λ e. absurd (omega arith); write = λ e. absurd (omega arith); memory = λ e. absurd (omega arith); changed = λ e. absurd (omega arith); keys = λ e. absurd (omega arith) }
+message_is job before now (Refused failure) differ count = record { done = λ e. absurd (omega arith); cored = λ e. (failure, differ, refl); read = λ e. absurd (omega arith); write = λ e. absurd (omega arith); memory = λ e. absurd (omega arith); changed = λ e. absurd (omega arith); keys = λ e. absurd (omega arith) }
 message_is job before now (Changed first again) differ count = record { done = λ e. absurd (omega arith); cored = λ e. absurd (omega arith); read = λ e. absurd (omega arith); write = λ e. absurd (omega arith); memory = λ e. absurd (omega arith); changed = λ e. inl (first, again, differ, refl); keys = λ e. absurd (omega arith) }
 message_is job before now Spill differ count = record { done = λ e. absurd (omega arith); cored = λ e. absurd (omega arith); read = λ e. absurd (omega arith); write = λ e. inr (inl (count, differ, refl)); memory = λ e. absurd (omega arith); changed = λ e. absurd (omega arith); keys = λ e. absurd (omega arith) }
 message_is job before now (SpillDamaged offset expected found) differ count =
@@ -235,7 +235,7 @@ stop_status job Memory = refl
 stop_status job Read = refl
 stop_status job Write = refl
 stop_status job WriteOut = refl
-stop_status job (Refused reason) = refl
+stop_status job (Refused failure) = refl
 stop_status job (Changed first again) = refl
 stop_status job Spill = refl
 stop_status job (SpillDamaged offset expected found) = refl
@@ -249,7 +249,7 @@ stop_failed Memory zero = absurd (omega arith)
 stop_failed Read zero = absurd (omega arith)
 stop_failed Write zero = absurd (omega arith)
 stop_failed WriteOut zero = absurd (omega arith)
-stop_failed (Refused reason) zero = absurd (omega arith)
+stop_failed (Refused failure) zero = absurd (omega arith)
 stop_failed (Changed first again) zero = absurd (omega arith)
 stop_failed Spill zero = absurd (omega arith)
 stop_failed (SpillDamaged offset expected found) zero = absurd (omega arith)
@@ -263,7 +263,7 @@ stop_read Memory r r_now w w_now cause low = (λ four. absurd (omega (arith, fou
 stop_read Read r r_now w w_now cause low = (λ _. cause.1 low, λ _. refl)
 stop_read Write r r_now w w_now cause low = (λ four. absurd (omega (arith, four)), λ rose. absurd (omega (arith, rose, cause.0)))
 stop_read WriteOut r r_now w w_now cause low = (λ four. absurd (omega (arith, four)), λ rose. absurd (omega (arith, rose, cause.0)))
-stop_read (Refused reason) r r_now w w_now cause low = (λ four. absurd (omega (arith, four)), λ rose. absurd (omega (arith, rose, cause.0)))
+stop_read (Refused failure) r r_now w w_now cause low = (λ four. absurd (omega (arith, four)), λ rose. absurd (omega (arith, rose, cause.0)))
 stop_read (Changed first again) r r_now w w_now cause low = (λ four. absurd (omega (arith, four)), λ rose. absurd (omega (arith, rose, cause.0)))
 stop_read Spill r r_now w w_now cause low = (λ four. absurd (omega (arith, four)), λ rose. absurd (omega (arith, rose, cause.0)))
 stop_read (SpillDamaged offset expected found) r r_now w w_now cause low = (λ four. absurd (omega (arith, four)), λ rose. absurd (omega (arith, rose, cause.0)))
@@ -282,7 +282,7 @@ stop_write Memory r r_now w w_now o o_now cause out low few = (λ five. absurd (
 stop_write Read r r_now w w_now o o_now cause out low few = (λ five. absurd (omega (arith, five)), λ either. neither w w_now o o_now cause.2 out either)
 stop_write Write r r_now w w_now o o_now cause out low few = (λ _. inl (cause.2 low), λ _. refl)
 stop_write WriteOut r r_now w w_now o o_now cause out low few = (λ _. inr (out.1 few), λ _. refl)
-stop_write (Refused reason) r r_now w w_now o o_now cause out low few = (λ five. absurd (omega (arith, five)), λ either. neither w w_now o o_now cause.1 out either)
+stop_write (Refused failure) r r_now w w_now o o_now cause out low few = (λ five. absurd (omega (arith, five)), λ either. neither w w_now o o_now cause.1 out either)
 stop_write (Changed first again) r r_now w w_now o o_now cause out low few = (λ five. absurd (omega (arith, five)), λ either. neither w w_now o o_now cause.1 out either)
 stop_write Spill r r_now w w_now o o_now cause out low few = (λ _. inl (cause.2 low), λ _. refl)
 stop_write (SpillDamaged offset expected found) r r_now w w_now o o_now cause out low few = (λ five. absurd (omega (arith, five)), λ either. neither w w_now o o_now cause.1 out either)
@@ -296,7 +296,7 @@ stop_known job old new out out_new Memory files leaves is seven = absurd (omega 
 stop_known job old new out out_new Read files leaves is seven = absurd (omega (arith, seven))
 stop_known job old new out out_new Write files leaves is seven = absurd (omega (arith, seven))
 stop_known job old new out out_new WriteOut files leaves is seven = absurd (omega (arith, seven))
-stop_known job old new out out_new (Refused reason) files leaves is seven = absurd (omega (arith, seven))
+stop_known job old new out out_new (Refused failure) files leaves is seven = absurd (omega (arith, seven))
 stop_known job old new out out_new (Changed first again) files leaves is seven = (leaves.1 files is).2
 stop_known job old new out out_new Spill files leaves is seven = absurd (omega (arith, seven))
 stop_known job old new out out_new (SpillDamaged offset expected found) files leaves is seven = (leaves.1 files is).2
@@ -310,7 +310,7 @@ stop_kept job old new out out_new Memory leaves five six = absurd (six refl)
 stop_kept job old new out out_new Read leaves five six = leaves.0
 stop_kept job old new out out_new Write leaves five six = absurd (five refl)
 stop_kept job old new out out_new WriteOut leaves five six = leaves.0
-stop_kept job old new out out_new (Refused reason) leaves five six = leaves.0
+stop_kept job old new out out_new (Refused failure) leaves five six = leaves.0
 stop_kept job old new out out_new (Changed first again) leaves five six = leaves.0
 stop_kept job old new out out_new Spill leaves five six = leaves.0
 stop_kept job old new out out_new (SpillDamaged offset expected found) leaves five six = leaves.0
@@ -324,7 +324,7 @@ stop_quiet out out_new Memory same one five = same
 stop_quiet out out_new Read same one five = same
 stop_quiet out out_new Write same one five = same
 stop_quiet out out_new WriteOut same one five = absurd (five refl)
-stop_quiet out out_new (Refused reason) same one five = absurd (one refl)
+stop_quiet out out_new (Refused failure) same one five = absurd (one refl)
 stop_quiet out out_new (Changed first again) same one five = same
 stop_quiet out out_new Spill same one five = same
 stop_quiet out out_new (SpillDamaged offset expected found) same one five = same

@@ -22,10 +22,10 @@ use Rattle.cm_query.specs.Stops.{StopsAt}
 use Rattle.cm_query.specs.Sums.{answer_sum}
 use Rattle.cm_query.specs.declared.fault.QueryFault.TheVariants.{Key}
 use Rattle.cm_tool_files.specs.Ends.{Says, message_of, status_of}
-use Rattle.cm_tool_files.specs.Messages.{reason_message}
+use Rattle.cm_tool_files.specs.Messages.{seed_failure_message}
 use Rattle.cm_tool_files.specs.declared.stop.Stop.TheVariants.{Memory, Read, Write, WriteOut, Refused, Changed, Spill, SpillDamaged, NoKeys, TooLong, TooMany}
 use Rattle.cm_tool_files.specs.declared.stop.Stop.{Stop}
-use Rattle.cm_tool.specs.Faults.{FailsFunc, HasFuncCause, HasStopForm, IsChangeBy, IsReasonBy, UsesSpill, shown_core, shown_overfull, stop_for}
+use Rattle.cm_tool.specs.Faults.{FailsFunc, HasFuncCause, HasStopForm, IsChangeBy, IsSeedFailureBy, UsesSpill, shown_core, shown_overfull, stop_for}
 use Rattle.cm_tool.specs.Jobs.{seeds_of}
 use Rattle.cm_tool.specs.Leaves.{GotReport, IsFuncOf, IsOutCause, KeepsOut, StopsFor}
 use Rattle.cm_tool.specs.Ending.{Outcome, printing, reporting}
@@ -34,7 +34,7 @@ use Rattle.cm_tool.specs.Spills.{TestSpilled, TestsSpilled}
 use Rattle.cm_tool.specs.TestEnds.{EndsTest, FailsTest, GotPrefix, HasTestForm, IsTestMessage, IsUnfinishedTest, StopsSpilling, test_name}
 use Rattle.cm_tool.specs.Tested as tested
 use Rattle.cm_tool.specs.Tested.{line_text, test_plan, tested_by, tested_then, usual_b}
-use Rattle.cm_tool.specs.Verdict.{Shown}
+use Rattle.cm_tool.specs.Results.{FailureReport}
 use Rattle.cm_tool.specs.declared.fault.FuncFault.{FuncFault}
 use Rattle.cm_tool.specs.declared.fault.FuncFault.TheVariants as func_fault
 use Rattle.cm_tool.specs.declared.plan.Plan.{Plan}
@@ -49,11 +49,11 @@ got_nothing text old new same = (0, same ∙ then_nothing old)
 -- why keys that never change and have no fault have no function
 pub fails_test : (job : TestJob) (algorithm : Algorithm) (fault : FuncFault) (k k' w w' : ℕ) → AreMade job.keys (tested.generated job.keys) → 1 ≤ job.keys → k ≡ 0 → 0 ≡ k' → HasFuncCause {T = Func} k k' w w' (Err fault)
     → FailsFunc algorithm (usual_b algorithm) (tested.generated job.keys) (usual_ratio algorithm) (seeds_of job.seed job.count) fault → FailsTest job algorithm fault
-unfolding tested.test_verdict
+unfolding tested.test_result
 fails_test job algorithm func_fault.Memory k k' w w' made some start end cause fails = tt
 fails_test job algorithm func_fault.NoKeys k k' w w' made some start end cause fails = absurd (omega (arith, ap length fails.1, made.many, some))
-fails_test job algorithm (func_fault.Cored shown) k k' w w' made some start end cause fails = fails.verdict
-fails_test job algorithm (func_fault.Overfull seed bucket count equal) k k' w w' made some start end cause fails = fails.verdict
+fails_test job algorithm (func_fault.Cored shown) k k' w w' made some start end cause fails = fails.result_is
+fails_test job algorithm (func_fault.Overfull seed bucket count equal) k k' w w' made some start end cause fails = fails.result_is
 fails_test job algorithm (func_fault.Key key_fault.Read) k k' w w' made some start end cause fails = let low : k < 2 ^ 63 = omega (arith, start) in absurd (omega (arith, cause.0.1 low, start, end))
 fails_test job algorithm (func_fault.Key (key_fault.TooLong line)) k k' w w' made some start end cause fails = let fine = made.fine in absurd (cc)
 fails_test job algorithm (func_fault.Key key_fault.TooMany) k k' w w' made some start end cause fails = let fine = made.fine in absurd (cc)
@@ -62,12 +62,12 @@ fails_test job algorithm func_fault.Spill k k' w w' made some start end cause fa
 fails_test job algorithm (func_fault.SpillDamaged offset expected found) k k' w w' made some start end cause fails = fails
 
 -- a report ends a test
-report_ends : (files : Files) (shown : Shown) (old new : Option (List ℕ)) (stop : Stop) → GotReport shown old new stop → EndsTest (reporting files shown) old new (Err stop)
+report_ends : (files : Files) (shown : FailureReport) (old new : Option (List ℕ)) (stop : Stop) → GotReport shown old new stop → EndsTest (reporting files shown) old new (Err stop)
 report_ends files shown old new Memory got = absurd got
 report_ends files shown old new Read got = absurd got
 report_ends files shown old new Write got = absurd got
 report_ends files shown old new WriteOut got = got
-report_ends files shown old new (Refused reason) got = (refl, ap reason_message (sym got.0), got.1)
+report_ends files shown old new (Refused failure) got = (refl, ap seed_failure_message (sym got.0), got.1)
 report_ends files shown old new (Changed first again) got = absurd got
 report_ends files shown old new Spill got = absurd got
 report_ends files shown old new (SpillDamaged offset expected found) got = absurd got
@@ -75,13 +75,13 @@ report_ends files shown old new NoKeys got = absurd got
 report_ends files shown old new (TooLong line) got = absurd got
 report_ends files shown old new TooMany got = absurd got
 
--- by the verdict on an algorithm
-by_verdict : (job : TestJob) (algorithm : Algorithm) (files : Files) (v : Result Func Shown) (old new : Option (List ℕ)) (r : Result (Unit {0}) Stop) → tested.test_verdict job algorithm ≡ v → EndsTest (tested_then job algorithm files v (printing [] files)) old new r
+-- by the result on an algorithm
+by_result : (job : TestJob) (algorithm : Algorithm) (files : Files) (v : Result Func FailureReport) (old new : Option (List ℕ)) (r : Result (Unit {0}) Stop) → tested.test_result job algorithm ≡ v → EndsTest (tested_then job algorithm files v (printing [] files)) old new r
     → EndsTest (tested_by job files (algorithm ∷ [])) old new r
-by_verdict job algorithm files v old new r is ends = subst (λ (w : Result Func Shown). EndsTest (tested_then job algorithm files w (printing [] files)) old new r) (sym is) ends
+by_result job algorithm files v old new r is ends = subst (λ (w : Result Func FailureReport). EndsTest (tested_then job algorithm files w (printing [] files)) old new r) (sym is) ends
 
-shown_ends : (job : TestJob) (algorithm : Algorithm) (files : Files) (shown : Shown) (old new : Option (List ℕ)) (stop : Stop) → tested.test_verdict job algorithm ≡ Err shown → GotReport shown old new stop → EndsTest (tested_by job files (algorithm ∷ [])) old new (Err stop)
-shown_ends job algorithm files shown old new stop verdict got = by_verdict job algorithm files (Err shown) old new (Err stop) verdict (report_ends files shown old new stop got)
+shown_ends : (job : TestJob) (algorithm : Algorithm) (files : Files) (shown : FailureReport) (old new : Option (List ℕ)) (stop : Stop) → tested.test_result job algorithm ≡ Err shown → GotReport shown old new stop → EndsTest (tested_by job files (algorithm ∷ [])) old new (Err stop)
+shown_ends job algorithm files shown old new stop result_is got = by_result job algorithm files (Err shown) old new (Err stop) result_is (report_ends files shown old new stop got)
 
 -- and so does any fault of a build
 pub fault_ends : (job : TestJob) (algorithm : Algorithm) (files : Files) (fault : FuncFault) (old new : Option (List ℕ)) (stop : Stop) → FailsTest job algorithm fault → StopsFor fault old new stop → EndsTest (tested_by job files (algorithm ∷ [])) old new (Err stop)
@@ -95,18 +95,18 @@ fault_ends job algorithm files func_fault.Spill old new stop fails stops = rw st
 fault_ends job algorithm files (func_fault.SpillDamaged offset expected found) old new stop fails stops = absurd fails
 
 -- what such a stop has, whatever the disk tells
-report_form : (algorithm : Algorithm) (shown : Shown) (old new : Option (List ℕ)) (stop : Stop) → IsReasonBy algorithm shown.reason → GotReport shown old new stop → HasTestForm algorithm stop
-report_form algorithm shown old new Memory reason got = tt
-report_form algorithm shown old new Read reason got = got
-report_form algorithm shown old new Write reason got = got
-report_form algorithm shown old new WriteOut reason got = tt
-report_form algorithm shown old new (Refused other) reason got = rw got.0 reason
-report_form algorithm shown old new (Changed first again) reason got = absurd got
-report_form algorithm shown old new Spill reason got = absurd got
-report_form algorithm shown old new (SpillDamaged offset expected found) reason got = absurd got
-report_form algorithm shown old new NoKeys reason got = tt
-report_form algorithm shown old new (TooLong line) reason got = tt
-report_form algorithm shown old new TooMany reason got = tt
+report_form : (algorithm : Algorithm) (shown : FailureReport) (old new : Option (List ℕ)) (stop : Stop) → IsSeedFailureBy algorithm shown.failure → GotReport shown old new stop → HasTestForm algorithm stop
+report_form algorithm shown old new Memory failure got = tt
+report_form algorithm shown old new Read failure got = got
+report_form algorithm shown old new Write failure got = got
+report_form algorithm shown old new WriteOut failure got = tt
+report_form algorithm shown old new (Refused other) failure got = rw got.0 failure
+report_form algorithm shown old new (Changed first again) failure got = absurd got
+report_form algorithm shown old new Spill failure got = absurd got
+report_form algorithm shown old new (SpillDamaged offset expected found) failure got = absurd got
+report_form algorithm shown old new NoKeys failure got = tt
+report_form algorithm shown old new (TooLong line) failure got = tt
+report_form algorithm shown old new TooMany failure got = tt
 
 pub test_form : (algorithm : Algorithm) (fault : FuncFault) (w w' : ℕ) (old new : Option (List ℕ)) (stop : Stop) → HasFuncCause {T = Func} 0 0 w w' (Err fault) → HasStopForm algorithm (stop_for fault) → StopsFor fault old new stop → HasTestForm algorithm stop
 test_form algorithm func_fault.Memory w w' old new stop cause form stops = rw stops.0 tt
@@ -127,16 +127,16 @@ unfolding tested.test_line
 line_by job algorithm f bytes sum bytes_are sum_is = rw (bytes_are, sum_is) refl
 
 -- an algorithm came to its end, and out got its line
-pub line_ends : (job : TestJob) (algorithm : Algorithm) (files : Files) (f : Func) (bytes sum : ℕ) (old new : Option (List ℕ)) → tested.test_verdict job algorithm ≡ Ok f → bytes ≡ length (dump_of f) → sum ≡ answer_sum (answer_by f) (tested.generated job.keys).keys
+pub line_ends : (job : TestJob) (algorithm : Algorithm) (files : Files) (f : Func) (bytes sum : ℕ) (old new : Option (List ℕ)) → tested.test_result job algorithm ≡ Ok f → bytes ≡ length (dump_of f) → sum ≡ answer_sum (answer_by f) (tested.generated job.keys).keys
     → new ≡ then_bytes old (line_text algorithm job.keys bytes sum) → EndsTest (tested_by job files (algorithm ∷ [])) old new (Ok tt)
-line_ends job algorithm files f bytes sum old new verdict bytes_are sum_is wrote =
-    by_verdict job algorithm files (Ok f) old new (Ok tt) verdict (refl, refl, wrote ∙ ap (then_bytes old) (line_by job algorithm f bytes sum bytes_are sum_is ∙ sym (append-nil (tested.test_line algorithm job.keys f (tested.generated job.keys).keys))))
+line_ends job algorithm files f bytes sum old new result_is bytes_are sum_is wrote =
+    by_result job algorithm files (Ok f) old new (Ok tt) result_is (refl, refl, wrote ∙ ap (then_bytes old) (line_by job algorithm f bytes sum bytes_are sum_is ∙ sym (append-nil (tested.test_line algorithm job.keys f (tested.generated job.keys).keys))))
 
 -- out failed, and got a prefix of the line
-pub line_cut : (job : TestJob) (algorithm : Algorithm) (files : Files) (f : Func) (bytes sum n : ℕ) (old new : Option (List ℕ)) → tested.test_verdict job algorithm ≡ Ok f → bytes ≡ length (dump_of f) → sum ≡ answer_sum (answer_by f) (tested.generated job.keys).keys
+pub line_cut : (job : TestJob) (algorithm : Algorithm) (files : Files) (f : Func) (bytes sum n : ℕ) (old new : Option (List ℕ)) → tested.test_result job algorithm ≡ Ok f → bytes ≡ length (dump_of f) → sum ≡ answer_sum (answer_by f) (tested.generated job.keys).keys
     → new ≡ then_bytes old (take n (line_text algorithm job.keys bytes sum)) → EndsTest (tested_by job files (algorithm ∷ [])) old new (Err WriteOut)
-line_cut job algorithm files f bytes sum n old new verdict bytes_are sum_is wrote =
-    by_verdict job algorithm files (Ok f) old new (Err WriteOut) verdict (n, wrote ∙ ap (λ (t : List ℕ). then_bytes old (take n t)) (line_by job algorithm f bytes sum bytes_are sum_is ∙ sym (append-nil (tested.test_line algorithm job.keys f (tested.generated job.keys).keys))))
+line_cut job algorithm files f bytes sum n old new result_is bytes_are sum_is wrote =
+    by_result job algorithm files (Ok f) old new (Err WriteOut) result_is (n, wrote ∙ ap (λ (t : List ℕ). then_bytes old (take n t)) (line_by job algorithm f bytes sum bytes_are sum_is ∙ sym (append-nil (tested.test_line algorithm job.keys f (tested.generated job.keys).keys))))
 
 -- what comes after a line
 after_line : (line : List ℕ) (o : Outcome) (old mid new : Option (List ℕ)) (r : Result (Unit {0}) Stop) → mid ≡ then_bytes old line → EndsTest o mid new r → EndsTest (record o { out = line ++ o.out }) old new r
@@ -145,7 +145,7 @@ after_line line o old mid new (Err Memory) first ends = (length line + ends.0, l
 after_line line o old mid new (Err Read) first ends = absurd ends
 after_line line o old mid new (Err Write) first ends = absurd ends
 after_line line o old mid new (Err WriteOut) first ends = (length line + ends.0, later_front old mid new line o.out ends.0 first ends.1)
-after_line line o old mid new (Err (Refused reason)) first ends = (ends.0, ends.1, ends.2 ∙ ap (λ (w : Option (List ℕ)). then_bytes w o.out) first ∙ then_twice old line o.out)
+after_line line o old mid new (Err (Refused failure)) first ends = (ends.0, ends.1, ends.2 ∙ ap (λ (w : Option (List ℕ)). then_bytes w o.out) first ∙ then_twice old line o.out)
 after_line line o old mid new (Err (Changed before again)) first ends = absurd ends
 after_line line o old mid new (Err Spill) first ends = (length line + ends.0, later_front old mid new line o.out ends.0 first ends.1)
 after_line line o old mid new (Err (SpillDamaged offset expected found)) first ends = absurd ends
@@ -154,7 +154,7 @@ after_line line o old mid new (Err (TooLong at)) first ends = absurd ends
 after_line line o old mid new (Err TooMany) first ends = absurd ends
 
 -- an algorithm that came to its end, and what the next ones come to
-next_by : (job : TestJob) (algorithm : Algorithm) (files : Files) (v : Result Func Shown) (o : Outcome) (old mid new : Option (List ℕ)) (r : Result (Unit {0}) Stop)
+next_by : (job : TestJob) (algorithm : Algorithm) (files : Files) (v : Result Func FailureReport) (o : Outcome) (old mid new : Option (List ℕ)) (r : Result (Unit {0}) Stop)
     → EndsTest (tested_then job algorithm files v (printing [] files)) old mid (Ok tt) → EndsTest o mid new r → EndsTest (tested_then job algorithm files v o) old new r
 next_by job algorithm files (Ok f) o old mid new r first ends =
     let line = tested.test_line algorithm job.keys f (tested.generated job.keys).keys in
@@ -163,21 +163,21 @@ next_by job algorithm files (Err shown) o old mid new r first ends = absurd (ome
 
 pub next_ends : (job : TestJob) (algorithm : Algorithm) (next : List Algorithm) (files : Files) (old mid new : Option (List ℕ)) (r : Result (Unit {0}) Stop)
     → EndsTest (tested_by job files (algorithm ∷ [])) old mid (Ok tt) → EndsTest (tested_by job files next) mid new r → EndsTest (tested_by job files (algorithm ∷ next)) old new r
-next_ends job algorithm next files old mid new r first ends = next_by job algorithm files (tested.test_verdict job algorithm) (tested_by job files next) old mid new r first ends
+next_ends job algorithm next files old mid new r first ends = next_by job algorithm files (tested.test_result job algorithm) (tested_by job files next) old mid new r first ends
 
 -- a prefix of a line is one of a longer text
 longer : (line more : List ℕ) (old new : Option (List ℕ)) → GotPrefix (line ++ []) old new → GotPrefix (line ++ more) old new
 longer line more old new got = front_of_first old new line more got.0 (got.1 ∙ ap (λ (t : List ℕ). then_bytes old (take got.0 t)) (append-nil line))
 
 -- an algorithm that stopped
-stop_by : (job : TestJob) (algorithm : Algorithm) (files : Files) (v : Result Func Shown) (o : Outcome) (old new : Option (List ℕ)) (stop : Stop)
+stop_by : (job : TestJob) (algorithm : Algorithm) (files : Files) (v : Result Func FailureReport) (o : Outcome) (old new : Option (List ℕ)) (stop : Stop)
     → EndsTest (tested_then job algorithm files v (printing [] files)) old new (Err stop) → EndsTest (tested_then job algorithm files v o) old new (Err stop)
 stop_by job algorithm files (Err shown) o old new stop ends = ends
 stop_by job algorithm files (Ok f) o old new Memory ends = longer (tested.test_line algorithm job.keys f (tested.generated job.keys).keys) o.out old new ends
 stop_by job algorithm files (Ok f) o old new Read ends = absurd ends
 stop_by job algorithm files (Ok f) o old new Write ends = absurd ends
 stop_by job algorithm files (Ok f) o old new WriteOut ends = longer (tested.test_line algorithm job.keys f (tested.generated job.keys).keys) o.out old new ends
-stop_by job algorithm files (Ok f) o old new (Refused reason) ends = absurd (omega (arith, ends.0))
+stop_by job algorithm files (Ok f) o old new (Refused failure) ends = absurd (omega (arith, ends.0))
 stop_by job algorithm files (Ok f) o old new (Changed first again) ends = absurd ends
 stop_by job algorithm files (Ok f) o old new Spill ends = longer (tested.test_line algorithm job.keys f (tested.generated job.keys).keys) o.out old new ends
 stop_by job algorithm files (Ok f) o old new (SpillDamaged offset expected found) ends = absurd ends
@@ -187,7 +187,7 @@ stop_by job algorithm files (Ok f) o old new TooMany ends = absurd ends
 
 pub stop_ends : (job : TestJob) (algorithm : Algorithm) (next : List Algorithm) (files : Files) (old new : Option (List ℕ)) (stop : Stop)
     → EndsTest (tested_by job files (algorithm ∷ [])) old new (Err stop) → EndsTest (tested_by job files (algorithm ∷ next)) old new (Err stop)
-stop_ends job algorithm next files old new stop ends = stop_by job algorithm files (tested.test_verdict job algorithm) (tested_by job files next) old new stop ends
+stop_ends job algorithm next files old new stop ends = stop_by job algorithm files (tested.test_result job algorithm) (tested_by job files next) old new stop ends
 
 -- one algorithm more, and those after it
 pub one_more : (all : List Algorithm) (i : ℕ) (algorithm : Algorithm) (next : List Algorithm) → take (i + 1) all ≡ take i all ++ algorithm ∷ [] → take (i + 1) all ++ next ≡ take i all ++ algorithm ∷ next
@@ -200,7 +200,7 @@ stops_spilling job files all first algorithm next old mid new Memory is form sam
 stops_spilling job files all first algorithm next old mid new Read is form same ends = tt
 stops_spilling job files all first algorithm next old mid new Write is form same ends = tt
 stops_spilling job files all first algorithm next old mid new WriteOut is form same ends = tt
-stops_spilling job files all first algorithm next old mid new (Refused reason) is form same ends = tt
+stops_spilling job files all first algorithm next old mid new (Refused failure) is form same ends = tt
 stops_spilling job files all first algorithm next old mid new (Changed before again) is form same ends = tt
 stops_spilling job files all first algorithm next old mid new Spill is form same ends = (first, algorithm, next, form, is, subst (λ (w : Option (List ℕ)). EndsTest (tested_by job files first) old w (Ok tt)) (sym same) ends)
 stops_spilling job files all first algorithm next old mid new (SpillDamaged offset expected found) is form same ends = tt
@@ -221,13 +221,13 @@ before_brz (a ∷ b ∷ d ∷ e ∷ []) Brz next spill is = absurd (cc)
 before_brz (a ∷ b ∷ d ∷ e ∷ f ∷ more) Brz next spill is = absurd (cc)
 
 -- a test leaves the files as they were
-then_files : (job : TestJob) (algorithm : Algorithm) (files : Files) (v : Result Func Shown) (o : Outcome) → o.files ≡ files → (tested_then job algorithm files v o).files ≡ files
+then_files : (job : TestJob) (algorithm : Algorithm) (files : Files) (v : Result Func FailureReport) (o : Outcome) → o.files ≡ files → (tested_then job algorithm files v o).files ≡ files
 then_files job algorithm files (Ok f) o same = same
 then_files job algorithm files (Err shown) o same = refl
 
 tested_files : (job : TestJob) (files : Files) (algorithms : List Algorithm) → (tested_by job files algorithms).files ≡ files
 tested_files job files [] = refl
-tested_files job files (algorithm ∷ next) = then_files job algorithm files (tested.test_verdict job algorithm) (tested_by job files next) (tested_files job files next)
+tested_files job files (algorithm ∷ next) = then_files job algorithm files (tested.test_result job algorithm) (tested_by job files next) (tested_files job files next)
 
 -- a test that stopped
 outcome_stopped : (o : Outcome) (files : Files) (stop : Stop) (out out_new err err_new : Option (List ℕ)) (before now : ℕ) (new : Option Files) (dir : List ℕ) → o.files ≡ files → EndsTest o out out_new (Err stop)
@@ -236,7 +236,7 @@ outcome_stopped o files Memory out out_new err err_new before now new dir same e
 outcome_stopped o files Read out out_new err err_new before now new dir same ends says a b left = absurd ends
 outcome_stopped o files Write out out_new err err_new before now new dir same ends says a b left = absurd ends
 outcome_stopped o files WriteOut out out_new err err_new before now new dir same ends says a b left = absurd (a refl)
-outcome_stopped o files (Refused reason) out out_new err err_new before now new dir same ends says a b left = record {
+outcome_stopped o files (Refused failure) out out_new err err_new before now new dir same ends says a b left = record {
   outcome = o;
   is = refl;
   status_is = sym ends.0;
@@ -276,7 +276,7 @@ never_changed o old new Memory ends = (λ e. omega (arith, e), λ e. omega (arit
 never_changed o old new Read ends = absurd ends
 never_changed o old new Write ends = absurd ends
 never_changed o old new WriteOut ends = (λ e. omega (arith, e), λ e. omega (arith, e))
-never_changed o old new (Refused reason) ends = (λ e. omega (arith, e), λ e. omega (arith, e))
+never_changed o old new (Refused failure) ends = (λ e. omega (arith, e), λ e. omega (arith, e))
 never_changed o old new (Changed first again) ends = absurd ends
 never_changed o old new Spill ends = (λ e. omega (arith, e), λ e. omega (arith, e))
 never_changed o old new (SpillDamaged offset expected found) ends = absurd ends
@@ -290,7 +290,7 @@ part_of_test o old new Memory ends either = ends
 part_of_test o old new Read ends either = absurd ends
 part_of_test o old new Write ends either = absurd ends
 part_of_test o old new WriteOut ends either = ends
-part_of_test o old new (Refused reason) ends either = absurd (omega (arith, either))
+part_of_test o old new (Refused failure) ends either = absurd (omega (arith, either))
 part_of_test o old new (Changed first again) ends either = absurd ends
 part_of_test o old new Spill ends either = ends
 part_of_test o old new (SpillDamaged offset expected found) ends either = absurd ends
@@ -305,7 +305,7 @@ unfinished_test job files out out_new err err_new before now err_before err_now 
 unfinished_test job files out out_new err err_new before now err_before err_now Read ends spilling count says five = absurd ends
 unfinished_test job files out out_new err err_new before now err_before err_now Write ends spilling count says five = absurd ends
 unfinished_test job files out out_new err err_new before now err_before err_now WriteOut ends spilling count says five = record { text = _; says = says; part = inl (ends, count.1, refl) }
-unfinished_test job files out out_new err err_new before now err_before err_now (Refused reason) ends spilling count says five = absurd (omega arith)
+unfinished_test job files out out_new err err_new before now err_before err_now (Refused failure) ends spilling count says five = absurd (omega arith)
 unfinished_test job files out out_new err err_new before now err_before err_now (Changed first again) ends spilling count says five = absurd (omega arith)
 unfinished_test job files out out_new err err_new before now err_before err_now Spill ends spilling count says five =
     let first = before_brz spilling.0 spilling.1 spilling.2 spilling.3 spilling.4 in
@@ -328,7 +328,7 @@ test_message job algorithm before now Memory form count = record { done = λ e. 
 test_message job algorithm before now Read form count = absurd form
 test_message job algorithm before now Write form count = absurd form
 test_message job algorithm before now WriteOut form count = record { done = λ e. absurd (omega arith); refused = λ e. absurd (omega arith); write = λ e. inr (count.1, refl); memory = λ e. absurd (omega arith); changed = λ e. absurd (omega arith); keys = λ e. absurd (omega arith) }
-test_message job algorithm before now (Refused reason) form count = record { done = λ e. absurd (omega arith); refused = λ e. (algorithm, reason, form, refl); write = λ e. absurd (omega arith); memory = λ e. absurd (omega arith); changed = λ e. absurd (omega arith); keys = λ e. absurd (omega arith) }
+test_message job algorithm before now (Refused failure) form count = record { done = λ e. absurd (omega arith); refused = λ e. (algorithm, failure, form, refl); write = λ e. absurd (omega arith); memory = λ e. absurd (omega arith); changed = λ e. absurd (omega arith); keys = λ e. absurd (omega arith) }
 test_message job algorithm before now (Changed first again) form count = record {
   done = λ e. absurd (omega arith);
   refused = λ e. absurd (omega arith);
@@ -359,7 +359,7 @@ test_status job algorithm Memory form = refl
 test_status job algorithm Read form = absurd form
 test_status job algorithm Write form = absurd form
 test_status job algorithm WriteOut form = refl
-test_status job algorithm (Refused reason) form = refl
+test_status job algorithm (Refused failure) form = refl
 test_status job algorithm (Changed first again) form = refl
 test_status job algorithm Spill form = refl
 test_status job algorithm (SpillDamaged offset expected found) form = refl
@@ -372,7 +372,7 @@ test_known algorithm Memory form = λ e. omega (arith, e)
 test_known algorithm Read form = absurd form
 test_known algorithm Write form = absurd form
 test_known algorithm WriteOut form = λ e. omega (arith, e)
-test_known algorithm (Refused reason) form = λ e. omega (arith, e)
+test_known algorithm (Refused failure) form = λ e. omega (arith, e)
 test_known algorithm (Changed first again) form = λ e. omega (arith, e)
 test_known algorithm Spill form = λ e. omega (arith, e)
 test_known algorithm (SpillDamaged offset expected found) form = λ e. omega (arith, e)
@@ -387,11 +387,11 @@ sent_on w1 w2 f0 f1 f2 same first next = λ low. elim (first low) [
   | inr rose ↦ absurd (omega (arith, rose, same))
 ]
 
--- the verdict on an algorithm, by the plan of its test
-pub verdict_from : (job : TestJob) (algorithm : Algorithm) (plan : Plan) (seeds : List ℕ) (f : Func) → plan ≡ test_plan algorithm job.buffer → seeds ≡ seeds_of job.seed job.count
-    → IsFuncOf plan.algorithm plan.b (tested.generated job.keys) plan.c seeds f → tested.test_verdict job algorithm ≡ Ok f
-unfolding tested.test_verdict
-verdict_from job algorithm plan seeds f plan_is seeds_are made = let by = rw (plan_is, seeds_are) at made in by.verdict
+-- the result on an algorithm, by the plan of its test
+pub result_from : (job : TestJob) (algorithm : Algorithm) (plan : Plan) (seeds : List ℕ) (f : Func) → plan ≡ test_plan algorithm job.buffer → seeds ≡ seeds_of job.seed job.count
+    → IsFuncOf plan.algorithm plan.b (tested.generated job.keys) plan.c seeds f → tested.test_result job algorithm ≡ Ok f
+unfolding tested.test_result
+result_from job algorithm plan seeds f plan_is seeds_are made = let by = rw (plan_is, seeds_are) at made in by.result_is
 
 pub fault_from : (job : TestJob) (algorithm : Algorithm) (plan : Plan) (seeds : List ℕ) (fault : FuncFault) → plan ≡ test_plan algorithm job.buffer → seeds ≡ seeds_of job.seed job.count
     → FailsFunc plan.algorithm plan.b (tested.generated job.keys) plan.c seeds fault → FailsFunc algorithm (usual_b algorithm) (tested.generated job.keys) (usual_ratio algorithm) (seeds_of job.seed job.count) fault

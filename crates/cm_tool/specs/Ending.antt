@@ -1,8 +1,8 @@
 -- What a job comes to.
 use Rattle.std.specs.Prelude.{ℕ, List, []}
 use Rattle.cm_io.specs.Files.{Files}
-use Rattle.cm_tool_files.specs.Messages.{reason_message}
-use Rattle.cm_tool.specs.Verdict.{Shown}
+use Rattle.cm_tool_files.specs.Messages.{seed_failure_message}
+use Rattle.cm_tool.specs.Results.{FailureReport}
 
 -- the status, what out and err get, and the files that are left
 pub record Outcome : Type 0 where
@@ -20,5 +20,5 @@ abbrev pub refusal : ℕ → List ℕ → Files → Outcome
 refusal status text files = record { status = status; out = []; err = text; files = files }
 
 -- out gets the report, and err says why there is no function
-abbrev pub reporting : Files → Shown → Outcome
-reporting files shown = record { status = 1; out = shown.report; err = reason_message shown.reason; files = files }
+abbrev pub reporting : Files → FailureReport → Outcome
+reporting files shown = record { status = 1; out = shown.report; err = seed_failure_message shown.failure; files = files }

@@ -12,12 +12,12 @@ use Rattle.cm_io.specs.declared.key_pass.KeyFault.{KeyFault}
 use Rattle.cm_io.specs.declared.key_pass.KeyFault.TheVariants as key_fault
 use Rattle.cm_algo_seeds.specs.declared.fault.BuildFault.{BuildFault}
 use Rattle.cm_algo_seeds.specs.declared.fault.BuildFault.TheVariants as build_fault
-use Rattle.cm_tool_files.specs.declared.stop.Reason.TheVariants.{NoSeed, NoSeedFor, NoSplit}
-use Rattle.cm_tool_files.specs.declared.stop.Reason.{Reason}
+use Rattle.cm_tool_files.specs.declared.stop.SeedFailure.TheVariants.{NoSeed, NoSeedFor, NoSplit}
+use Rattle.cm_tool_files.specs.declared.stop.SeedFailure.{SeedFailure}
 use Rattle.cm_tool_files.specs.declared.stop.Stop.TheVariants as stops
 use Rattle.cm_tool_files.specs.declared.stop.Stop.{Stop}
 use Rattle.cm_tool.specs.Seeds.{NoneWorks}
-use Rattle.cm_tool.specs.Verdict.{Shown, verdict_by}
+use Rattle.cm_tool.specs.Results.{FailureReport, result_by}
 use Rattle.cm_tool.specs.declared.fault.FuncFault.{FuncFault}
 use Rattle.cm_tool.specs.declared.fault.FuncFault.TheVariants.{Memory, NoKeys, Cored, Overfull, Key, Changed, Spill, SpillDamaged}
 use Rattle.cm_witness.specs.Reports.{report_text}
@@ -58,22 +58,22 @@ HasFuncCause k k' w w' (Err Spill) = (k' ≡ k) × (w ≤ w') × Rose w w'
 HasFuncCause k k' w w' (Err (SpillDamaged offset expected found)) = (k' ≡ k) × (w' ≡ w)
 
 -- what a certificate shows: the keys of a bucket, or all keys, have no seed
-abbrev pub reason_of : Option InBucket → Reason
-reason_of None = NoSeed
-reason_of (Some place) = NoSeedFor place.bucket
+abbrev pub seed_failure_of : Option InBucket → SeedFailure
+seed_failure_of None = NoSeed
+seed_failure_of (Some place) = NoSeedFor place.bucket
 
-abbrev pub shown_core : Certificate → Shown
-shown_core made = record { reason = reason_of made.place; report = report_text made.algorithm made.place made.seed made.edges.items made.equal.items }
+abbrev pub shown_core : Certificate → FailureReport
+shown_core made = record { failure = seed_failure_of made.place; report = report_text made.algorithm made.place made.seed made.edges.items made.equal.items }
 
 -- and an overfull bucket
-abbrev pub shown_overfull : ℕ → ℕ → ℕ → List Pair → Shown
-shown_overfull seed bucket count equal = record { reason = NoSplit; report = overfull_text seed bucket count equal }
+abbrev pub shown_overfull : ℕ → ℕ → ℕ → List Pair → FailureReport
+shown_overfull seed bucket count equal = record { failure = NoSplit; report = overfull_text seed bucket count equal }
 
 -- keys with no fault at their end have no function, and this shows it
-pub record HasNone (algorithm : Algorithm) (b : ℕ) (told : Told) (c : ℕ) (seeds : List ℕ) (shown : Shown) : Type 0 where
+pub record HasNone (algorithm : Algorithm) (b : ℕ) (told : Told) (c : ℕ) (seeds : List ℕ) (shown : FailureReport) : Type 0 where
   pub no_fault : told.fault ≡ None
   pub some : 0 < length told.keys
-  pub verdict : verdict_by algorithm b told.keys c seeds ≡ Err shown
+  pub result_is : result_by algorithm b told.keys c seeds ≡ Err shown
   pub none : NoneWorks algorithm b told.keys c seeds
 
 -- the refusals over keys and a spill with known contents: they never change, and what is refused is so by the keys alone, unless the
@@ -104,12 +104,12 @@ abbrev pub UsesSpill : Algorithm → Type 0
 UsesSpill Brz = Unit {0}
 UsesSpill algorithm = ⊥
 
--- the reasons for which there is no function by an algorithm
-abbrev pub IsReasonBy : Algorithm → Reason → Type 0
-IsReasonBy Brz NoSeed = ⊥
-IsReasonBy Brz reason = Unit {0}
-IsReasonBy algorithm NoSeed = Unit {0}
-IsReasonBy algorithm reason = ⊥
+-- why there may be no function by an algorithm
+abbrev pub IsSeedFailureBy : Algorithm → SeedFailure → Type 0
+IsSeedFailureBy Brz NoSeed = ⊥
+IsSeedFailureBy Brz failure = Unit {0}
+IsSeedFailureBy algorithm NoSeed = Unit {0}
+IsSeedFailureBy algorithm failure = ⊥
 
 -- why a failed pass stops a job
 abbrev pub stop_from_key : KeyFault → Stop
@@ -121,18 +121,18 @@ stop_from_key key_fault.TooMany = stops.TooMany
 abbrev pub stop_for : FuncFault → Stop
 stop_for Memory = stops.Memory
 stop_for NoKeys = stops.NoKeys
-stop_for (Cored made) = stops.Refused (reason_of made.place)
+stop_for (Cored made) = stops.Refused (seed_failure_of made.place)
 stop_for (Overfull seed bucket count equal) = stops.Refused NoSplit
 stop_for (Key fault) = stop_from_key fault
 stop_for (Changed first again) = stops.Changed first again
 stop_for Spill = stops.Spill
 stop_for (SpillDamaged offset expected found) = stops.SpillDamaged offset expected found
 
--- what a stop has, whatever the keys and the spill are: numbers of keys that changed, two numbers of a damaged spill that differ, and a
--- reason of the algorithm
+-- what a stop has, whatever the keys and the spill are: numbers of keys that changed, two numbers of a damaged spill that differ, and
+-- a failure of the algorithm's seeds
 abbrev pub HasStopForm : Algorithm → Stop → Type 0
 HasStopForm algorithm (stops.Changed first again) = IsChangeBy algorithm first again
 HasStopForm algorithm stops.Spill = UsesSpill algorithm
 HasStopForm algorithm (stops.SpillDamaged offset expected found) = UsesSpill algorithm × (expected ≢ found)
-HasStopForm algorithm (stops.Refused reason) = IsReasonBy algorithm reason
+HasStopForm algorithm (stops.Refused failure) = IsSeedFailureBy algorithm failure
 HasStopForm algorithm stop = Unit {0}

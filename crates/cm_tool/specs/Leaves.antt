@@ -20,7 +20,7 @@ use Rattle.cm_tool.specs.Faults.{HasNone, shown_core, shown_overfull, stop_for}
 use Rattle.cm_tool.specs.Jobs.{seeds_tried}
 use Rattle.cm_tool.specs.Outcome.{keys_in}
 use Rattle.cm_tool.specs.Seeds.{IsMadeBy}
-use Rattle.cm_tool.specs.Verdict.{Shown, verdict_by}
+use Rattle.cm_tool.specs.Results.{FailureReport, result_by}
 use Rattle.cm_tool.specs.declared.fault.FuncFault.{FuncFault}
 use Rattle.cm_tool.specs.declared.fault.FuncFault.TheVariants as func_fault
 use Rattle.cm_words.specs.declared.jobs.BuildJob.{BuildJob}
@@ -55,7 +55,7 @@ pub record IsBuiltFrom (r : Rule) (told : Told) (c : ℕ) (seeds : List ℕ) (m 
 pub record IsFuncOf (algorithm : Algorithm) (b : ℕ) (told : Told) (c : ℕ) (seeds : List ℕ) (f : Func) : Type 0 where
   pub no_fault : told.fault ≡ None
   pub many : IsCount (length told.keys)
-  pub verdict : verdict_by algorithm b told.keys c seeds ≡ Ok f
+  pub result_is : result_by algorithm b told.keys c seeds ≡ Ok f
   pub made : IsMadeBy algorithm b told.keys c seeds f
 
 -- the function of a job over the keys in these bytes
@@ -63,8 +63,8 @@ abbrev pub IsFunctionOf : BuildJob → List ℕ → Func → Type 0
 IsFunctionOf job bytes f = IsFuncOf job.algorithm job.b (keys_in job.first bytes) job.c (seeds_tried job) f
 
 -- what out got of a report: all of it, or a prefix if out failed
-abbrev pub GotReport : Shown → Option (List ℕ) → Option (List ℕ) → Stop → Type 0
-GotReport shown old new (Refused reason) = (reason ≡ shown.reason) × (new ≡ then_bytes old shown.report)
+abbrev pub GotReport : FailureReport → Option (List ℕ) → Option (List ℕ) → Stop → Type 0
+GotReport shown old new (Refused failure) = (failure ≡ shown.failure) × (new ≡ then_bytes old shown.report)
 GotReport shown old new WriteOut = (n : ℕ) × (new ≡ then_bytes old (take n shown.report))
 GotReport shown old new stop = ⊥
 
@@ -76,7 +76,7 @@ StopsFor fault old new stop = (stop ≡ stop_for fault) × (new ≡ old)
 
 -- only a report was written to out
 abbrev pub KeepsOut : Option (List ℕ) → Option (List ℕ) → Stop → Type 0
-KeepsOut old new (Refused reason) = Unit {0}
+KeepsOut old new (Refused failure) = Unit {0}
 KeepsOut old new WriteOut = Unit {0}
 KeepsOut old new stop = new ≡ old
 
@@ -86,8 +86,8 @@ HasKeptOut old new (Err stop) = KeepsOut old new stop
 
 -- this is why the keys have no function, with what out had before and has now
 abbrev pub Refuses : BuildJob → Told → Option (List ℕ) → Option (List ℕ) → Stop → Type 0
-Refuses job told old new (Refused reason) = (shown : Shown) × HasNone job.algorithm job.b told job.c (seeds_tried job) shown × GotReport shown old new (Refused reason)
-Refuses job told old new WriteOut = (shown : Shown) × HasNone job.algorithm job.b told job.c (seeds_tried job) shown × GotReport shown old new WriteOut
+Refuses job told old new (Refused failure) = (shown : FailureReport) × HasNone job.algorithm job.b told job.c (seeds_tried job) shown × GotReport shown old new (Refused failure)
+Refuses job told old new WriteOut = (shown : FailureReport) × HasNone job.algorithm job.b told job.c (seeds_tried job) shown × GotReport shown old new WriteOut
 Refuses job told old new Spill = Unit {0}
 Refuses job told old new NoKeys = (told.fault ≡ None) × (told.keys ≡ [])
 Refuses job told old new (TooLong line) = told.fault ≡ Some (key_fault.TooLong line)

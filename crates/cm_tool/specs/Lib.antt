@@ -1,6 +1,6 @@
 pub mod Jobs
 pub mod Plans
-pub mod Verdict
+pub mod Results
 pub mod Seeds
 pub mod Faults
 pub mod Spills

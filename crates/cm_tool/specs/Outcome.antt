@@ -17,7 +17,7 @@ use Rattle.cm_tool_files.specs.Summaries.{summary_of}
 use Rattle.cm_tool_files.specs.Texts.{help_text, version_text}
 pub use Rattle.cm_tool.specs.Ending.{Outcome, printing, refusal, reporting}
 use Rattle.cm_tool.specs.Tested.{test_outcome}
-use Rattle.cm_tool.specs.Verdict.{Shown, verdict_of}
+use Rattle.cm_tool.specs.Results.{FailureReport, result_of}
 use Rattle.cm_words.specs.Meaning.{job_of}
 use Rattle.cm_words.specs.Options.{Read as Reading}
 use Rattle.cm_words.specs.declared.jobs.BuildJob.{BuildJob}
@@ -35,7 +35,7 @@ fault_message file TooMany = too_many_keys file
 abbrev pub saving : BuildJob → Files → Func → Outcome
 saving job files f = record { status = 0; out = []; err = built_message job (summary_of f); files = map.insert files job.function (dump_of f) }
 
-abbrev pub built_or_refused : BuildJob → Files → Result Func Shown → Outcome
+abbrev pub built_or_refused : BuildJob → Files → Result Func FailureReport → Outcome
 built_or_refused job files (Ok f) = saving job files f
 built_or_refused job files (Err shown) = reporting files shown
 
@@ -43,7 +43,7 @@ built_or_refused job files (Err shown) = reporting files shown
 abbrev pub build_over : BuildJob → Files → List (ℕ × List ℕ) → Option KeyFault → Outcome
 build_over job files keys (Some fault) = refusal 8 (fault_message job.keys fault) files
 build_over job files [] None = refusal 8 (no_keys job.keys) files
-build_over job files (key ∷ keys) None = built_or_refused job files (verdict_of job (key ∷ keys))
+build_over job files (key ∷ keys) None = built_or_refused job files (result_of job (key ∷ keys))
 
 -- a build over the bytes of the keys file
 unfoldable pub build_outcome : BuildJob → Files → List ℕ → Outcome

@@ -17,18 +17,18 @@ use Rattle.cm_io.specs.Writing.{then_bytes}
 use Rattle.cm_spec.specs.Lists.{has}
 use Rattle.cm_tool_files.specs.Asked.{AskedPart, GotNothing, Spells, keys_at}
 use Rattle.cm_tool_files.specs.Ends.{IsPrintMessage, Says}
-use Rattle.cm_tool_files.specs.Messages.{bad_dump, built_message, out_of_memory, cannot_read, cannot_use_spill, cannot_write, cannot_write_out, keys_changed, no_keys, line_too_long, reason_message, spill_damaged, too_many_keys, usage_message}
+use Rattle.cm_tool_files.specs.Messages.{bad_dump, built_message, out_of_memory, cannot_read, cannot_use_spill, cannot_write, cannot_write_out, keys_changed, no_keys, line_too_long, seed_failure_message, spill_damaged, too_many_keys, usage_message}
 use Rattle.cm_tool_files.specs.Texts.{help_text, version_text}
 use Rattle.cm_tool_files.specs.declared.built.Summary.{Summary}
-use Rattle.cm_tool_files.specs.declared.stop.Reason.{Reason}
-use Rattle.cm_tool.specs.Faults.{IsChangeBy, IsReasonBy, UsesSpill}
+use Rattle.cm_tool_files.specs.declared.stop.SeedFailure.{SeedFailure}
+use Rattle.cm_tool.specs.Faults.{IsChangeBy, IsSeedFailureBy, UsesSpill}
 use Rattle.cm_tool.specs.Jobs.{seeds_tried}
 use Rattle.cm_tool.specs.Leaves.{IsPart}
 use Rattle.cm_tool.specs.Outcome.{Outcome, job_outcome, keys_in, reporting, saving}
 use Rattle.cm_tool.specs.Seeds.{IsMadeBy, NoneWorks}
 use Rattle.cm_tool.specs.Spills.{HasSpilled, UnlessSpilled}
 use Rattle.cm_tool.specs.TestEnds.{IsTestMessage}
-use Rattle.cm_tool.specs.Verdict.{Shown}
+use Rattle.cm_tool.specs.Results.{FailureReport}
 use Rattle.cm_algo_names.specs.declared.algorithm.Algorithm.{Algorithm}
 use Rattle.cm_algo_names.specs.declared.algorithm.Algorithm.TheVariants.{Chm, Bdz, BdzPh, Brz}
 use Rattle.cm_words.specs.Options.{Read as Reading}
@@ -161,7 +161,7 @@ SavedPart files old new out_old out_new before now text job = (f : Func) × (job
 -- the outcome shows a report, of which out got a prefix, and its count rose; the files are as before, and the message is that of out
 abbrev pub ReportedPart : Files → Option Files → Option Files → Option (List ℕ) → Option (List ℕ) → ℕ → ℕ → List ℕ → BuildJob → Type 0
 ReportedPart files old new out_old out_new before now text job =
-    (shown : Shown) × (n : ℕ) × (job_outcome files (Ok (Build job)) ≡ Some (reporting files shown)) × (out_new ≡ then_bytes out_old (take n shown.report)) × (new ≡ old) × Rose before now × (text ≡ cannot_write_out)
+    (shown : FailureReport) × (n : ℕ) × (job_outcome files (Ok (Build job)) ≡ Some (reporting files shown)) × (out_new ≡ then_bytes out_old (take n shown.report)) × (new ≡ old) × Rose before now × (text ≡ cannot_write_out)
 
 -- the spill of a build by BRZ failed; the files are as before, out got nothing, and the message names the directory
 abbrev pub FailedSpill : Option Files → Option Files → Option (List ℕ) → Option (List ℕ) → ℕ → ℕ → List ℕ → BuildJob → Type 0
@@ -199,7 +199,7 @@ IsChanged job text = ((first : ℕ) × (again : ℕ) × IsChangeBy job.algorithm
 -- the message of a build that goes with a status and the count of out before and now
 pub record IsBuildMessage (job : BuildJob) (before now status : ℕ) (text : List ℕ) : Type 0 where
   pub done : status ≡ 0 → (s : Summary) × (text ≡ built_message job s)
-  pub cored : status ≡ 1 → (reason : Reason) × IsReasonBy job.algorithm reason × (text ≡ reason_message reason)
+  pub cored : status ≡ 1 → (failure : SeedFailure) × IsSeedFailureBy job.algorithm failure × (text ≡ seed_failure_message failure)
   pub read : status ≡ 4 → text ≡ cannot_read job.keys
   pub write : status ≡ 5 → IsUnwritten job before now text
   pub memory : status ≡ 6 → text ≡ out_of_memory

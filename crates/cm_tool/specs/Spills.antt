@@ -6,7 +6,7 @@ use Rattle.cm_brz_split.specs.Puts.{records_under}
 use Rattle.cm_brz_split.specs.Spilled.{AreSpilled}
 use Rattle.cm_func.specs.declared.function.Func.{Func}
 use Rattle.cm_func.specs.declared.function.Func.TheVariants as func
-use Rattle.cm_tool.specs.Tested.{generated, test_verdict}
+use Rattle.cm_tool.specs.Tested.{generated, test_result}
 use Rattle.cm_words.specs.declared.jobs.TestJob.{TestJob}
 
 -- this holds, unless the algorithm is BRZ, which alone uses a spill
@@ -25,7 +25,7 @@ HasSpilled (func.BdzPh f) keys old new = new ≡ old
 -- An algorithm was tested: the spill that was handed back is that of the build of its function over the generated keys, if it is BRZ.
 pub record TestSpilled (job : TestJob) (algorithm : Algorithm) (old new : Option (List ℕ)) : Type 0 where
   pub f : Func
-  pub built : test_verdict job algorithm ≡ Ok f
+  pub built : test_result job algorithm ≡ Ok f
   pub spilled : HasSpilled f (generated job.keys).keys old new
   pub unspilled : UnlessSpilled algorithm (new ≡ old)
 

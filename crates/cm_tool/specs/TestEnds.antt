@@ -6,13 +6,13 @@ use Rattle.cm_io.specs.Causes.{Rose}
 use Rattle.cm_io.specs.Files.{Files}
 use Rattle.cm_io.specs.Writing.{then_bytes}
 use Rattle.cm_tool_files.specs.Ends.{Says}
-use Rattle.cm_tool_files.specs.Messages.{cannot_use_spill, cannot_write_out, keys_changed, line_too_long, no_keys, out_of_memory, reason_message, spill_damaged, too_many_keys}
-use Rattle.cm_tool_files.specs.declared.stop.Reason.{Reason}
+use Rattle.cm_tool_files.specs.Messages.{cannot_use_spill, cannot_write_out, keys_changed, line_too_long, no_keys, out_of_memory, seed_failure_message, spill_damaged, too_many_keys}
+use Rattle.cm_tool_files.specs.declared.stop.SeedFailure.{SeedFailure}
 use Rattle.cm_tool_files.specs.declared.stop.Stop.TheVariants.{Memory, Read, Refused, Spill, Write, WriteOut}
 use Rattle.cm_tool_files.specs.declared.stop.Stop.{Stop}
-use Rattle.cm_tool.specs.Faults.{HasStopForm, IsReasonBy, UsesSpill, shown_core, shown_overfull}
+use Rattle.cm_tool.specs.Faults.{HasStopForm, IsSeedFailureBy, UsesSpill, shown_core, shown_overfull}
 use Rattle.cm_tool.specs.Ending.{Outcome}
-use Rattle.cm_tool.specs.Tested.{test_outcome, test_verdict, tested_by}
+use Rattle.cm_tool.specs.Tested.{test_outcome, test_result, tested_by}
 use Rattle.cm_tool.specs.declared.fault.FuncFault.{FuncFault}
 use Rattle.cm_tool.specs.declared.fault.FuncFault.TheVariants as func_fault
 use Rattle.cm_words.specs.declared.jobs.TestJob.{TestJob}
@@ -20,8 +20,8 @@ use Rattle.cm_words.specs.declared.jobs.TestJob.{TestJob}
 -- why an algorithm has no function of generated keys, which never change and have no fault
 abbrev pub FailsTest : TestJob → Algorithm → FuncFault → Type 0
 FailsTest job algorithm func_fault.Memory = Unit {0}
-FailsTest job algorithm (func_fault.Cored made) = test_verdict job algorithm ≡ Err (shown_core made)
-FailsTest job algorithm (func_fault.Overfull seed bucket count equal) = test_verdict job algorithm ≡ Err (shown_overfull seed bucket count equal.items)
+FailsTest job algorithm (func_fault.Cored made) = test_result job algorithm ≡ Err (shown_core made)
+FailsTest job algorithm (func_fault.Overfull seed bucket count equal) = test_result job algorithm ≡ Err (shown_overfull seed bucket count equal.items)
 FailsTest job algorithm func_fault.Spill = Unit {0}
 FailsTest job algorithm fault = ⊥
 
@@ -32,7 +32,7 @@ GotPrefix text old new = (n : ℕ) × (new ≡ then_bytes old (take n text))
 -- a test with this outcome came to its end, or why it stopped, and what out had before and has now
 abbrev pub EndsTest : Outcome → Option (List ℕ) → Option (List ℕ) → Result (Unit {0}) Stop → Type 0
 EndsTest o old new (Ok _) = (o.status ≡ 0) × (o.err ≡ []) × (new ≡ then_bytes old o.out)
-EndsTest o old new (Err (Refused reason)) = (o.status ≡ 1) × (o.err ≡ reason_message reason) × (new ≡ then_bytes old o.out)
+EndsTest o old new (Err (Refused failure)) = (o.status ≡ 1) × (o.err ≡ seed_failure_message failure) × (new ≡ then_bytes old o.out)
 EndsTest o old new (Err Memory) = GotPrefix o.out old new
 EndsTest o old new (Err Spill) = GotPrefix o.out old new
 EndsTest o old new (Err WriteOut) = GotPrefix o.out old new
@@ -65,7 +65,7 @@ IsChangedTest job text = ((first : ℕ) × (again : ℕ) × (again ≢ first) ×
 -- the message of a test that goes with a status and the count of out before and now
 pub record IsTestMessage (job : TestJob) (before now status : ℕ) (text : List ℕ) : Type 0 where
   pub done : status ≡ 0 → text ≡ []
-  pub refused : status ≡ 1 → (algorithm : Algorithm) × (reason : Reason) × IsReasonBy algorithm reason × (text ≡ reason_message reason)
+  pub refused : status ≡ 1 → (algorithm : Algorithm) × (failure : SeedFailure) × IsSeedFailureBy algorithm failure × (text ≡ seed_failure_message failure)
   pub write : status ≡ 5 → IsUnwrittenTest job before now text
   pub memory : status ≡ 6 → text ≡ out_of_memory
   pub changed : status ≡ 7 → IsChangedTest job text

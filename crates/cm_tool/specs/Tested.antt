@@ -15,7 +15,7 @@ use Rattle.cm_query.specs.Sums.{answer_sum}
 use Rattle.cm_tool_files.specs.Asked.{keys_in}
 use Rattle.cm_tool.specs.Ending.{Outcome, printing, reporting}
 use Rattle.cm_tool.specs.Jobs.{seeds_of}
-use Rattle.cm_tool.specs.Verdict.{Shown, verdict_by}
+use Rattle.cm_tool.specs.Results.{FailureReport, result_by}
 use Rattle.cm_tool.specs.declared.plan.Plan.{Plan}
 use Rattle.cm_words.specs.declared.jobs.TestJob.{TestJob}
 
@@ -41,18 +41,18 @@ unfoldable pub test_line : Algorithm → ℕ → Func → List (ℕ × List ℕ)
 test_line algorithm n f keys = line_text algorithm n (length (dump_of f)) (answer_sum (answer_by f) keys)
 
 -- the function of an algorithm over the keys of a job, or what is shown of keys that have none
-unfoldable pub test_verdict : TestJob → Algorithm → Result Func Shown
-test_verdict job algorithm = verdict_by algorithm (usual_b algorithm) (generated job.keys).keys (usual_ratio algorithm) (seeds_of job.seed job.count)
+unfoldable pub test_result : TestJob → Algorithm → Result Func FailureReport
+test_result job algorithm = result_by algorithm (usual_b algorithm) (generated job.keys).keys (usual_ratio algorithm) (seeds_of job.seed job.count)
 
 -- an algorithm is tested, and what the further ones come to counts only if it has a function
-abbrev pub tested_then : TestJob → Algorithm → Files → Result Func Shown → Outcome → Outcome
+abbrev pub tested_then : TestJob → Algorithm → Files → Result Func FailureReport → Outcome → Outcome
 tested_then job algorithm files (Ok f) next = record next { out = test_line algorithm job.keys f (generated job.keys).keys ++ next.out }
 tested_then job algorithm files (Err shown) next = reporting files shown
 
 -- the outcome of a test by these algorithms, in this order
 abbrev pub tested_by : TestJob → Files → List Algorithm → Outcome
 tested_by job files [] = printing [] files
-tested_by job files (algorithm ∷ next) = tested_then job algorithm files (test_verdict job algorithm) (tested_by job files next)
+tested_by job files (algorithm ∷ next) = tested_then job algorithm files (test_result job algorithm) (tested_by job files next)
 
 -- and by all algorithms
 abbrev pub test_outcome : TestJob → Files → Outcome

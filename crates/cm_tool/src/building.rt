@@ -6,7 +6,7 @@ ghost use Rattle.cm_io.specs.Causes.{HasCause, IsSent};
 ghost use Rattle.cm_io.specs.Files.{file_at};
 ghost use Rattle.cm_io.specs.Writing.{Writes};
 ghost use Rattle.cm_tool_files.specs.Ends.{Says};
-ghost use Rattle.cm_tool.specs.Faults.{HasStopForm, reason_of, shown_core, shown_overfull, stop_from_key};
+ghost use Rattle.cm_tool.specs.Faults.{HasStopForm, seed_failure_of, shown_core, shown_overfull, stop_from_key};
 ghost use Rattle.cm_tool.specs.Jobs.{seeds_of};
 ghost use Rattle.cm_tool.specs.Leaves.{GotReport, HasKeptOut, HasOutCause, HasStopCause, IsFunctionOf, IsOutCause, IsRefused, KeepsOut, Leaves, StopsFor};
 ghost use Rattle.cm_tool.specs.Outcome.{job_outcome, keys_in};
@@ -24,7 +24,7 @@ use cm_brz::write_overfull;
 use cm_dump::Func;
 use cm_io::{Disk, DiskFault, Failed, KeyFault, Sink};
 use cm_keys::Keys;
-use cm_tool_files::{Reason, Stop, Summary, report, say_built, send_text, store, sum_up};
+use cm_tool_files::{SeedFailure, Stop, Summary, report, say_built, send_text, store, sum_up};
 use cm_witness::{Certificate, Pair};
 use cm_words::BuildJob;
 use std::alloc::Global;
@@ -55,24 +55,24 @@ fn stop_of_key(fault: KeyFault) -> Stop
 }
 
 /// Flushes out after a report was written, and returns why the build stops.
-fn end_report<O: Sink>(written: Result<(), Failed>, reason: Reason, out: &mut O) -> Stop
-    ensures shown { (report : List ℕ) (old : Option (List ℕ)) → Writes old (O.written out.old) report written → GotReport (record { reason = reason; report = report }) old (O.written out.new) result }
+fn end_report<O: Sink>(written: Result<(), Failed>, failure: SeedFailure, out: &mut O) -> Stop
+    ensures shown { (report : List ℕ) (old : Option (List ℕ)) → Writes old (O.written out.old) report written → GotReport (record { failure = failure; report = report }) old (O.written out.new) result }
     ensures cause { (before : ℕ) → HasCause before (O.faults out.old) written → IsOutCause before (O.faults out.new) result }
     ensures sent { (before : ℕ) → HasCause before (O.faults out.old) written → IsSent (O.waits out.new) before (O.faults out.new) }
 {
     match send_text(written, out) {
-        Ok(()) => Stop::Refused(reason),
+        Ok(()) => Stop::Refused(failure),
         Err(Failed) => Stop::WriteOut,
     }
 }
 
 /// What a certificate shows: no seed works for the keys, or for those of its bucket.
-fn reason_for(certificate: &Certificate) -> Reason
-    ensures reason { result ≡ reason_of certificate.now.place }
+fn seed_failure_for(certificate: &Certificate) -> SeedFailure
+    ensures failure { result ≡ seed_failure_of certificate.now.place }
 {
     match certificate.place {
-        None => Reason::NoSeed,
-        Some(place) => Reason::NoSeedFor {
+        None => SeedFailure::NoSeed,
+        Some(place) => SeedFailure::NoSeedFor {
             bucket: place.bucket,
         },
     }
@@ -84,9 +84,9 @@ fn show_core<O: Sink>(certificate: &Certificate, out: &mut O) -> Stop
     ensures cause { IsOutCause (O.faults out.old) (O.faults out.new) result }
     ensures sent { IsSent (O.waits out.new) (O.faults out.old) (O.faults out.new) }
 {
-    let reason = reason_for(certificate);
+    let failure = seed_failure_for(certificate);
     let written = certificate.write(out);
-    end_report(written, reason, out)
+    end_report(written, failure, out)
 }
 
 /// Writes the report on an overfull bucket to out and flushes it, and returns why the build stops.
@@ -96,7 +96,7 @@ fn show_overfull<O: Sink>(seed: u32, bucket: u32, count: u32, equal: &[Pair], ou
     ensures sent { IsSent (O.waits out.new) (O.faults out.old) (O.faults out.new) }
 {
     let written = write_overfull(seed, bucket, count, equal, out);
-    end_report(written, Reason::NoSplit, out)
+    end_report(written, SeedFailure::NoSplit, out)
 }
 
 /// Why a fault stops a job. A report is written to out first.

@@ -18,7 +18,7 @@ use cm_algo::{BuildFault, Built, Scheme, build};
 use cm_algo_names::Algorithm;
 use cm_bdz::{Bdz, BdzPh, BdzPhScheme, BdzScheme, PartsFault};
 use cm_brz::build::brz;
-use cm_brz::verdicts;
+use cm_brz::keys_determine_results;
 use cm_chm::{Chm, ChmScheme};
 use cm_dump::Func;
 use cm_graph::{Steps, Xored};
@@ -87,7 +87,7 @@ fn brz_by<P: KeyPass, D: Disk, L: Ledger>(
     ensures form { IfErr result (λ e. HasStopForm Brz (stop_for e)) }
 {
     // Laws, for the proof alone.
-    verdicts();
+    keys_determine_results();
     let spill = match disk.spill(dir) {
         Ok(spill) => spill,
         Err(DiskFault::Memory) => return Err(FuncFault::Memory),

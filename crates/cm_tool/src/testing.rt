@@ -17,7 +17,7 @@ ghost use Rattle.cm_tool.specs.Plans.{IsPlan};
 ghost use Rattle.cm_tool.specs.Run.{IsStatus, Reaches};
 ghost use Rattle.cm_tool.specs.Spills.{HasSpilled, TestSpilled, TestsSpilled, UnlessSpilled};
 ghost use Rattle.cm_tool.specs.TestEnds.{EndsTest, FailsTest, GotPrefix, HasTestForm, IsTestMessage, IsUnfinishedTest, StopsSpilling};
-ghost use Rattle.cm_tool.specs.Tested.{generated, line_text, test_outcome, test_plan, test_verdict, tested_by, usual_b};
+ghost use Rattle.cm_tool.specs.Tested.{generated, line_text, test_outcome, test_plan, test_result, tested_by, usual_b};
 ghost use Rattle.cm_words.specs.Limits.{IsTest};
 ghost use Rattle.cm_words.specs.declared.jobs.Job.TheVariants.{Test};
 
@@ -97,7 +97,7 @@ fn build_generated<D: Disk>(
     ensures files { D.files disk.new ≡ D.files disk.old }
     ensures read_faults { D.read_faults disk.new ≡ D.read_faults disk.old }
     ensures cause { HasFuncCause 0 0 (D.write_faults disk.old) (D.write_faults disk.new) result }
-    ensures made { IfOk result (λ f. ForSome (D.files disk.old) (λ _. test_verdict job.now algorithm ≡ Ok f)) }
+    ensures made { IfOk result (λ f. ForSome (D.files disk.old) (λ _. test_result job.now algorithm ≡ Ok f)) }
     ensures spilled { IfOk result (λ f. ForSome (D.files disk.old) (λ _. HasSpilled f (generated job.now.keys).keys (D.spilled disk.old) (D.spilled disk.new))) }
     ensures unspilled { UnlessSpilled algorithm (D.spilled disk.new ≡ D.spilled disk.old) }
     ensures valid { IfOk result IsFunction }

@@ -1,7 +1,7 @@
 -- The status and the message of a job that stopped.
 use Rattle.std.specs.Prelude.{◌≡◌, ◌<◌, ◌^◌, ℕ, List, [], take, Option}
 use Rattle.cm_io.specs.Writing.{then_bytes}
-use Rattle.cm_tool_files.specs.Messages.{bad_dump, cannot_write_out, out_of_memory, cannot_read, cannot_use_spill, cannot_write, keys_changed, no_keys, line_too_long, reason_message, spill_damaged, too_many_keys}
+use Rattle.cm_tool_files.specs.Messages.{bad_dump, cannot_write_out, out_of_memory, cannot_read, cannot_use_spill, cannot_write, keys_changed, no_keys, line_too_long, seed_failure_message, spill_damaged, too_many_keys}
 use Rattle.cm_tool_files.specs.declared.stop.QueryStop.{QueryStop}
 use Rattle.cm_tool_files.specs.declared.stop.QueryStop.TheVariants as query_stop
 use Rattle.cm_tool_files.specs.declared.stop.Stop.{Stop}
@@ -16,7 +16,7 @@ status_of Memory = 6
 status_of Read = 4
 status_of Write = 5
 status_of WriteOut = 5
-status_of (Refused reason) = 1
+status_of (Refused failure) = 1
 status_of (Changed first again) = 7
 status_of Spill = 5
 status_of (SpillDamaged offset expected found) = 7
@@ -30,7 +30,7 @@ message_of keys function dir Memory = out_of_memory
 message_of keys function dir Read = cannot_read keys
 message_of keys function dir Write = cannot_write function
 message_of keys function dir WriteOut = cannot_write_out
-message_of keys function dir (Refused reason) = reason_message reason
+message_of keys function dir (Refused failure) = seed_failure_message failure
 message_of keys function dir (Changed first again) = keys_changed keys first again
 message_of keys function dir Spill = cannot_use_spill dir
 message_of keys function dir (SpillDamaged offset expected found) = spill_damaged dir offset expected found

@@ -8,8 +8,8 @@ use Rattle.cm_dump_items.specs.declared.fault.LoadFault.TheVariants as faults
 use Rattle.cm_io.specs.Writing.{joined}
 use Rattle.cm_spec.specs.declared.limits.TheConstants.{MAX_BUCKET, MAX_KEYS}
 use Rattle.cm_tool_files.specs.declared.built.Summary.{Summary}
-use Rattle.cm_tool_files.specs.declared.stop.Reason.{Reason}
-use Rattle.cm_tool_files.specs.declared.stop.Reason.TheVariants.{NoSeed, NoSeedFor, NoSplit}
+use Rattle.cm_tool_files.specs.declared.stop.SeedFailure.{SeedFailure}
+use Rattle.cm_tool_files.specs.declared.stop.SeedFailure.TheVariants.{NoSeed, NoSeedFor, NoSplit}
 use Rattle.cm_words.specs.declared.fault.UsageFault.{UsageFault}
 use Rattle.cm_words.specs.declared.fault.UsageFault.TheVariants as usage
 use Rattle.cm_words.specs.declared.jobs.BuildJob.{BuildJob}
@@ -25,10 +25,10 @@ usage_message (usage.BadValue letter) = joined (codes "cmph: bad value of -" ∷
 usage_message usage.NoFile = joined (codes "cmph: no keys file\n" ∷ [])
 
 -- why keys have no function
-abbrev pub reason_message : Reason → List ℕ
-reason_message NoSeed = joined (codes "cmph: no seed of the list gives an empty core\n" ∷ [])
-reason_message (NoSeedFor bucket) = joined (codes "cmph: bucket " ∷ decimal bucket ∷ codes " has no seed with an empty core\n" ∷ [])
-reason_message NoSplit = joined (codes "cmph: every split has a bucket with more than " ∷ decimal MAX_BUCKET ∷ codes " keys\n" ∷ [])
+abbrev pub seed_failure_message : SeedFailure → List ℕ
+seed_failure_message NoSeed = joined (codes "cmph: no seed of the list gives an empty core\n" ∷ [])
+seed_failure_message (NoSeedFor bucket) = joined (codes "cmph: bucket " ∷ decimal bucket ∷ codes " has no seed with an empty core\n" ∷ [])
+seed_failure_message NoSplit = joined (codes "cmph: every split has a bucket with more than " ∷ decimal MAX_BUCKET ∷ codes " keys\n" ∷ [])
 
 abbrev pub cannot_read : List ℕ → List ℕ
 cannot_read file = joined (codes "cmph: " ∷ file ∷ codes ": cannot read\n" ∷ [])

@@ -4,10 +4,10 @@ ghost use Rattle.cm_io.specs.Causes.{IsSent};
 ghost use Rattle.cm_io.specs.Noting.{Noted};
 ghost use Rattle.cm_io.specs.Writing.{joined};
 ghost use Rattle.cm_tool_files.specs.Ends.{Says, status_of, message_of, query_status_of, query_message_of, usage_status_of};
-ghost use Rattle.cm_tool_files.specs.Messages.{bad_dump, built, built_message, cannot_read, cannot_write_out, counted, fault_place, fault_words, keys_changed, line_too_long, out_of_memory, reason_message, spill_damaged, too_many_keys, usage_message};
+ghost use Rattle.cm_tool_files.specs.Messages.{bad_dump, built, built_message, cannot_read, cannot_write_out, counted, fault_place, fault_words, keys_changed, line_too_long, out_of_memory, seed_failure_message, spill_damaged, too_many_keys, usage_message};
 
 use crate::built::Summary;
-use crate::stop::{QueryStop, Reason, Stop};
+use crate::stop::{QueryStop, SeedFailure, Stop};
 use cm_algo_names::Algorithm;
 use cm_dump::LoadFault;
 use cm_io::{Notes, Sink};
@@ -133,7 +133,7 @@ fn explain<E: Sink>(
     ensures sent { notes.new ≡ false → E.waits err.new ≡ 0 }
 {
     match stop {
-        Stop::Refused(reason) => note_reason(reason, err, notes),
+        Stop::Refused(failure) => note_seed_failure(failure, err, notes),
         Stop::Read => note_unread(keys, err, notes),
         Stop::Write => notes.note_pieces(err, &[b"cmph: ", function, b": cannot write\n"]),
         Stop::WriteOut => note_out_fault(err, notes),
@@ -212,15 +212,15 @@ fn query_status(stop: QueryStop) -> u8
 }
 
 /// Notes why there is no function of the keys.
-fn note_reason<E: Sink>(reason: Reason, err: &mut E, notes: &mut Notes)
-    ensures noted { Noted notes.old notes.new (E.written err.old) (E.written err.new) (E.faults err.old) (E.faults err.new) (reason_message reason) }
+fn note_seed_failure<E: Sink>(failure: SeedFailure, err: &mut E, notes: &mut Notes)
+    ensures noted { Noted notes.old notes.new (E.written err.old) (E.written err.new) (E.faults err.old) (E.faults err.new) (seed_failure_message failure) }
     ensures sent { notes.new ≡ false → E.waits err.new ≡ 0 }
 {
-    match reason {
-        Reason::NoSeed => {
+    match failure {
+        SeedFailure::NoSeed => {
             notes.note_pieces(err, &[b"cmph: no seed of the list gives an empty core\n"]);
         }
-        Reason::NoSeedFor { bucket } => {
+        SeedFailure::NoSeedFor { bucket } => {
             let mut buffer = Buffer::new();
             let text = buffer.format(bucket).as_bytes();
             notes.note_pieces(
@@ -228,7 +228,7 @@ fn note_reason<E: Sink>(reason: Reason, err: &mut E, notes: &mut Notes)
                 &[b"cmph: bucket ", text, b" has no seed with an empty core\n"],
             );
         }
-        Reason::NoSplit => {
+        SeedFailure::NoSplit => {
             let mut buffer = Buffer::new();
             let text = buffer.format(MAX_BUCKET).as_bytes();
             notes.note_pieces(

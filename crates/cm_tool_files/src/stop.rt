@@ -4,7 +4,7 @@ use cm_dump::LoadFault;
 
 /// Why there is no function of the keys.
 #[derive(Clone, Copy)]
-pub enum Reason {
+pub enum SeedFailure {
     /// Under every seed the graph has a 2-core with an edge.
     NoSeed,
     /// By BRZ: so has the graph of the keys of this bucket, counted from 0.
@@ -25,7 +25,7 @@ pub enum Stop {
     /// Out can't be written.
     WriteOut,
     /// The keys have no function. Out got the report.
-    Refused(Reason),
+    Refused(SeedFailure),
     /// The first pass yielded `first` keys, and a later one `now` keys; by BRZ these may be the keys of a bucket.
     Changed {
         first: u32,

@@ -9,7 +9,7 @@ returns-in-Ok-built-clause-made g c = λ files is told known.
     let function = c.in-Ok-built.function in
     let built = rw c.in-Ok-built.is at (c.brz-built.ensures.made [] (c.in-Ok.ensures.told files is)) in
     let made = built told known in
-    let laws = c.verdicts.ensures in
+    let laws = c.keys_determine_results.ensures in
     brz_from told plan.c plan.b c.args.seeds.now function made.0 c.buckets-buckets.ensures.valid made.1
     (laws.function told.keys plan.c plan.b c.args.seeds.now function made.1) (laws.none told.keys plan.c plan.b c.args.seeds.now function made.1)
 
@@ -21,11 +21,11 @@ returns-clause-fault g c = λ files is told known.
     let width = c.requires.plan.width c.requires.by in
     let wide : 1 ≤ plan.b = omega (arith, width.0) in
     let laws : BrzLaws told.keys k plan.c seeds = record {
-      some = λ j low. c.verdicts.ensures.some (length told.keys) plan.b j wide low;
-      cored = λ made of. c.verdicts.ensures.cored told.keys k plan.c seeds made c.requires.seeds of;
-      cored_shown = c.verdicts.ensures.cored_shown told.keys k plan.c seeds;
-      overfull_shown = c.verdicts.ensures.overfull_shown told.keys k seeds;
-      all = c.verdicts.ensures.all told.keys k seeds;
+      some = λ j low. c.keys_determine_results.ensures.some (length told.keys) plan.b j wide low;
+      cored = λ made of. c.keys_determine_results.ensures.cored told.keys k plan.c seeds made c.requires.seeds of;
+      cored_shown = c.keys_determine_results.ensures.cored_shown told.keys k plan.c seeds;
+      overfull_shown = c.keys_determine_results.ensures.overfull_shown told.keys k seeds;
+      all = c.keys_determine_results.ensures.all told.keys k seeds;
     } in
     let empty = c.in-Ok.ensures.told files is in
     let fails = rw c.in-Err.is at (c.brz-built.ensures.fault [] empty) in

@@ -3,14 +3,14 @@ use Rattle.cm_tool.specs.Spills.{UnlessSpilled}
 use Rattle.cm_tool.specs.declared.plan.Plan.{Plan}
 use Rattle.cm_tool.specs.Jobs.{seeds_of}
 use Rattle.cm_tool.specs.Tested as tested
-use Rattle.cm_tool.proofs.Tests.{fails_test, fault_from, made_by, verdict_from}
+use Rattle.cm_tool.proofs.Tests.{fails_test, fault_from, made_by, result_from}
 use Rattle.cm_tool.proofs.testing.build_generated.Goals as goal
 
 pub returns-in-Ok-clause-made : goal.returns-in-Ok-clause-made
 returns-in-Ok-clause-made g c = λ files is.
     let job = c.args.job.now in
     let tried : c.as_slice.result.now ≡ seeds_of job.seed job.count = search rules in
-    verdict_from job c.args.algorithm c.plan_by.result c.as_slice.result.now c.in-Ok.function c.plan_by.ensures.plan tried (c.in-Ok.ensures.made files is (tested.generated job.keys) c.generated_pass-keys.ensures.told)
+    result_from job c.args.algorithm c.plan_by.result c.as_slice.result.now c.in-Ok.function c.plan_by.ensures.plan tried (c.in-Ok.ensures.made files is (tested.generated job.keys) c.generated_pass-keys.ensures.told)
 
 pub returns-in-Err-clause-fault : goal.returns-in-Err-clause-fault
 returns-in-Err-clause-fault g c = λ files is.

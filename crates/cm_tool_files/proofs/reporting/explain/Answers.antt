@@ -1,7 +1,7 @@
 use Rattle.cm_tool_files.proofs.reporting.explain.Goals as goal
 
 pub returns-in-Refused-clause-noted : goal.returns-in-Refused-clause-noted
-returns-in-Refused-clause-noted g c = rw c.in-Refused.is c.note_reason.ensures.noted
+returns-in-Refused-clause-noted g c = rw c.in-Refused.is c.note_seed_failure.ensures.noted
 
 pub returns-in-Read-clause-noted : goal.returns-in-Read-clause-noted
 returns-in-Read-clause-noted g c = rw c.in-Read.is c.note_unread.ensures.noted

@@ -1,6 +1,6 @@
 use Rattle.std.proofs.Common.{rules, ◌≡◌}
 use Rattle.std.specs.Prelude.{decimal}
-use Rattle.cm_tool_files.proofs.reporting.note_reason.Goals as goal
+use Rattle.cm_tool_files.proofs.reporting.note_seed_failure.Goals as goal
 
 pub returns-in-NoSeed-clause-noted : goal.returns-in-NoSeed-clause-noted
 returns-in-NoSeed-clause-noted g c = rw c.in-NoSeed.is c.note_pieces.ensures.noted

@@ -1,6 +1,6 @@
 use Rattle.cm_brz.proofs.Found.{all_overfull, cored_is, cored_shown, function_is, none_cored, overfull_is, overfull_shown}
 use Rattle.cm_brz.proofs.Numbers.{some_keys}
-use Rattle.cm_brz.proofs.laws.verdicts.Goals as goal
+use Rattle.cm_brz.proofs.laws.keys_determine_results.Goals as goal
 
 pub returns-clause-function : goal.returns-clause-function
 returns-clause-function c = function_is

@@ -12,15 +12,15 @@ use Rattle.cm_spec.specs.Bdz.{bdz_rule, bdz_ph_rule}
 use Rattle.cm_spec.specs.Built.{chm_under, first_seed}
 use Rattle.cm_spec.specs.Chm.{chm_rule}
 use Rattle.cm_spec.specs.Rule.{Rule}
-use Rattle.cm_tool_files.specs.declared.stop.Reason.TheVariants.{NoSeed, NoSeedFor, NoSplit}
-use Rattle.cm_tool_files.specs.declared.stop.Reason.{Reason}
+use Rattle.cm_tool_files.specs.declared.stop.SeedFailure.TheVariants.{NoSeed, NoSeedFor, NoSplit}
+use Rattle.cm_tool_files.specs.declared.stop.SeedFailure.{SeedFailure}
 use Rattle.cm_tool.specs.Jobs.{seeds_tried}
 use Rattle.cm_witness.specs.Reports.{core_report}
 use Rattle.cm_words.specs.declared.jobs.BuildJob.{BuildJob}
 
 -- what is shown of keys that have no function: why, and the report
-pub record Shown : Type 0 where
-  pub reason : Reason
+pub record FailureReport : Type 0 where
+  pub failure : SeedFailure
   pub report : List ℕ
 
 -- the report on keys for which no seed of a list works: what peeling leaves under the first
@@ -28,30 +28,30 @@ unfoldable pub report_by : Algorithm → Rule → List (ℕ × List ℕ) → ℕ
 report_by algorithm r keys c seeds = core_report algorithm r keys c (slice_index seeds 0)
 
 -- the function under the first seed that works
-abbrev pub seeded : (ℕ → Func) → List ℕ → Option ℕ → Result Func Shown
-seeded function report None = Err (record { reason = NoSeed; report = report })
+abbrev pub seeded : (ℕ → Func) → List ℕ → Option ℕ → Result Func FailureReport
+seeded function report None = Err (record { failure = NoSeed; report = report })
 seeded function report (Some seed) = Ok (function seed)
 
-abbrev pub verdict_under : Algorithm → Rule → (ℕ → Func) → List (ℕ × List ℕ) → ℕ → List ℕ → Result Func Shown
-verdict_under algorithm r function keys c seeds = seeded function (report_by algorithm r keys c seeds) (first_seed r keys c seeds)
+abbrev pub result_under : Algorithm → Rule → (ℕ → Func) → List (ℕ × List ℕ) → ℕ → List ℕ → Result Func FailureReport
+result_under algorithm r function keys c seeds = seeded function (report_by algorithm r keys c seeds) (first_seed r keys c seeds)
 
 -- by BRZ, under a seed that splits the keys into k buckets: the lowest bucket for which no seed works, if there is one
-abbrev pub filled : List (ℕ × List ℕ) → ℕ → ℕ → List ℕ → ℕ → Option ℕ → Result Func Shown
+abbrev pub filled : List (ℕ × List ℕ) → ℕ → ℕ → List ℕ → ℕ → Option ℕ → Result Func FailureReport
 filled keys c b seeds split None = Ok (func.Brz (brz_under keys c b split seeds))
-filled keys c b seeds split (Some bucket) = Err (record { reason = NoSeedFor bucket; report = bucket_report keys (bucket_count (length keys) b) c split bucket seeds })
+filled keys c b seeds split (Some bucket) = Err (record { failure = NoSeedFor bucket; report = bucket_report keys (bucket_count (length keys) b) c split bucket seeds })
 
 -- and under the first seed that splits them
-abbrev pub split_into : List (ℕ × List ℕ) → ℕ → ℕ → List ℕ → Option ℕ → Result Func Shown
-split_into keys c b seeds None = Err (record { reason = NoSplit; report = overfull_report keys (bucket_count (length keys) b) seeds })
+abbrev pub split_into : List (ℕ × List ℕ) → ℕ → ℕ → List ℕ → Option ℕ → Result Func FailureReport
+split_into keys c b seeds None = Err (record { failure = NoSplit; report = overfull_report keys (bucket_count (length keys) b) seeds })
 split_into keys c b seeds (Some split) = filled keys c b seeds split (first_cored keys (bucket_count (length keys) b) c split seeds)
 
 -- by an algorithm with its parameter b, for a ratio in millionths and a list of seeds
-abbrev pub verdict_by : Algorithm → ℕ → List (ℕ × List ℕ) → ℕ → List ℕ → Result Func Shown
-verdict_by Chm b keys c seeds = verdict_under Chm chm_rule (λ seed. func.Chm (chm_under keys c seed)) keys c seeds
-verdict_by Bdz b keys c seeds = verdict_under Bdz bdz_rule (λ seed. func.Bdz (bdz_under keys c seed b)) keys c seeds
-verdict_by BdzPh b keys c seeds = verdict_under BdzPh bdz_ph_rule (λ seed. func.BdzPh (bdz_ph_under keys c seed)) keys c seeds
-verdict_by Brz b keys c seeds = split_into keys c b seeds (split_of keys (bucket_count (length keys) b) seeds)
+abbrev pub result_by : Algorithm → ℕ → List (ℕ × List ℕ) → ℕ → List ℕ → Result Func FailureReport
+result_by Chm b keys c seeds = result_under Chm chm_rule (λ seed. func.Chm (chm_under keys c seed)) keys c seeds
+result_by Bdz b keys c seeds = result_under Bdz bdz_rule (λ seed. func.Bdz (bdz_under keys c seed b)) keys c seeds
+result_by BdzPh b keys c seeds = result_under BdzPh bdz_ph_rule (λ seed. func.BdzPh (bdz_ph_under keys c seed)) keys c seeds
+result_by Brz b keys c seeds = split_into keys c b seeds (split_of keys (bucket_count (length keys) b) seeds)
 
 -- by a job
-abbrev pub verdict_of : BuildJob → List (ℕ × List ℕ) → Result Func Shown
-verdict_of job keys = verdict_by job.algorithm job.b keys job.c (seeds_tried job)
+abbrev pub result_of : BuildJob → List (ℕ × List ℕ) → Result Func FailureReport
+result_of job keys = result_by job.algorithm job.b keys job.c (seeds_tried job)
