@@ -9,7 +9,7 @@ use Rattle.cm_io.specs.WritingLaws.{then_nothing}
 use Rattle.cm_spec.specs.Lists.{has}
 use Rattle.cm_tool_files.specs.Ends.{usage_status_of}
 use Rattle.cm_tool.specs.Run.{ForBuild, ForQuery, ForTest, ForText, UnlessBrz, UnlessBuild, UnlessJob, UnlessQuery, UnlessTest}
-use Rattle.cm_tool.specs.Spills.{UnlessSpilled}
+use Rattle.cm_tool_builds.specs.Spills.{UnlessSpilled}
 use Rattle.cm_words.specs.Options.{Read as Reading}
 use Rattle.cm_words.specs.declared.fault.UsageFault.{UsageFault}
 use Rattle.cm_words.specs.declared.fault.UsageFault.TheVariants as usage

@@ -1,5 +1,5 @@
 mod Asks
-mod Builds
+mod Stops
 mod Clauses
 mod Outcomes
 mod Words

@@ -11,17 +11,18 @@ use Rattle.cm_io.specs.WritingLaws.{then_nothing}
 use Rattle.cm_tool_files.specs.Ends.{Says, message_of, status_of}
 use Rattle.cm_tool_files.specs.Messages.{built_message, no_keys, seed_failure_message}
 use Rattle.cm_tool_files.specs.declared.built.Summary.{Summary}
-use Rattle.cm_tool_files.specs.declared.stop.SeedFailure.{SeedFailure}
+use Rattle.cm_func.specs.declared.failure.SeedFailure.{SeedFailure}
 use Rattle.cm_tool_files.specs.declared.stop.Stop.TheVariants.{Memory, Read, Write, WriteOut, Refused, Changed, Spill, SpillDamaged, NoKeys, TooLong, TooMany}
 use Rattle.cm_tool_files.specs.declared.stop.Stop.{Stop}
-use Rattle.cm_tool.specs.Faults.{HasNone, HasStopForm}
-use Rattle.cm_tool.specs.Jobs.{seeds_tried}
+use Rattle.cm_tool_builds.specs.Faults.{HasNone}
+use Rattle.cm_tool.specs.Stops.{HasStopForm}
+use Rattle.cm_tool.specs.Jobs.{result_of, seeds_tried}
 use Rattle.cm_tool.specs.Leaves.{HasStopCause, IsOutCause, IsPart, KeepsOut, Leaves, Saves}
 use Rattle.cm_tool.specs.Outcome as outcomes
 use Rattle.cm_tool.specs.Outcome.{Outcome, build_over, built_or_refused, fault_message, job_outcome, keys_in, refusal, reporting, saving}
 use Rattle.cm_tool.specs.Run.{IsBuildMessage, IsCored, IsEmptied, IsStatus, IsUnfinished, KeysSpilled, LacksFile, Reaches, TookFirst}
-use Rattle.cm_tool.specs.Spills.{HasSpilled}
-use Rattle.cm_tool.specs.Results.{FailureReport, result_of}
+use Rattle.cm_tool_builds.specs.Spills.{HasSpilled}
+use Rattle.cm_tool_builds.specs.Results.{FailureReport}
 use Rattle.cm_words.specs.declared.jobs.BuildJob.{BuildJob}
 use Rattle.cm_words.specs.declared.jobs.Job.TheVariants.{Build}
 

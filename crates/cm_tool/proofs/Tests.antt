@@ -25,19 +25,21 @@ use Rattle.cm_tool_files.specs.Ends.{Says, message_of, status_of}
 use Rattle.cm_tool_files.specs.Messages.{seed_failure_message}
 use Rattle.cm_tool_files.specs.declared.stop.Stop.TheVariants.{Memory, Read, Write, WriteOut, Refused, Changed, Spill, SpillDamaged, NoKeys, TooLong, TooMany}
 use Rattle.cm_tool_files.specs.declared.stop.Stop.{Stop}
-use Rattle.cm_tool.specs.Faults.{FailsFunc, HasFuncCause, HasStopForm, IsChangeBy, IsSeedFailureBy, UsesSpill, shown_core, shown_overfull, stop_for}
+use Rattle.cm_tool_builds.specs.Faults.{FailsFunc, HasFuncCause, HasFuncForm, IsChangeBy, IsSeedFailureBy, UsesSpill, shown_core, shown_overfull}
+use Rattle.cm_tool.specs.Stops.{HasStopForm, stop_for}
 use Rattle.cm_tool.specs.Jobs.{seeds_of}
-use Rattle.cm_tool.specs.Leaves.{GotReport, IsFuncOf, IsOutCause, KeepsOut, StopsFor}
+use Rattle.cm_tool_builds.specs.FuncOf.{IsFuncOf}
+use Rattle.cm_tool.specs.Leaves.{GotReport, IsOutCause, KeepsOut, StopsFor}
 use Rattle.cm_tool.specs.Ending.{Outcome, printing, reporting}
 use Rattle.cm_tool.specs.Run.{IsStatus, Reaches}
 use Rattle.cm_tool.specs.Spills.{TestSpilled, TestsSpilled}
 use Rattle.cm_tool.specs.TestEnds.{EndsTest, FailsTest, GotPrefix, HasTestForm, IsTestMessage, IsUnfinishedTest, StopsSpilling, test_name}
 use Rattle.cm_tool.specs.Tested as tested
 use Rattle.cm_tool.specs.Tested.{line_text, test_plan, tested_by, tested_then, usual_b}
-use Rattle.cm_tool.specs.Results.{FailureReport}
-use Rattle.cm_tool.specs.declared.fault.FuncFault.{FuncFault}
-use Rattle.cm_tool.specs.declared.fault.FuncFault.TheVariants as func_fault
-use Rattle.cm_tool.specs.declared.plan.Plan.{Plan}
+use Rattle.cm_tool_builds.specs.Results.{FailureReport}
+use Rattle.cm_tool_builds.specs.declared.fault.FuncFault.{FuncFault}
+use Rattle.cm_tool_builds.specs.declared.fault.FuncFault.TheVariants as func_fault
+use Rattle.cm_tool_builds.specs.declared.plan.Plan.{Plan}
 use Rattle.cm_tool.proofs.Outcomes.{nothing_said}
 use Rattle.cm_words.specs.declared.jobs.Job.TheVariants.{Test}
 use Rattle.cm_words.specs.declared.jobs.TestJob.{TestJob}
@@ -108,7 +110,7 @@ report_form algorithm shown old new NoKeys failure got = tt
 report_form algorithm shown old new (TooLong line) failure got = tt
 report_form algorithm shown old new TooMany failure got = tt
 
-pub test_form : (algorithm : Algorithm) (fault : FuncFault) (w w' : ℕ) (old new : Option (List ℕ)) (stop : Stop) → HasFuncCause {T = Func} 0 0 w w' (Err fault) → HasStopForm algorithm (stop_for fault) → StopsFor fault old new stop → HasTestForm algorithm stop
+pub test_form : (algorithm : Algorithm) (fault : FuncFault) (w w' : ℕ) (old new : Option (List ℕ)) (stop : Stop) → HasFuncCause {T = Func} 0 0 w w' (Err fault) → HasFuncForm algorithm fault → StopsFor fault old new stop → HasTestForm algorithm stop
 test_form algorithm func_fault.Memory w w' old new stop cause form stops = rw stops.0 tt
 test_form algorithm func_fault.NoKeys w w' old new stop cause form stops = rw stops.0 tt
 test_form algorithm (func_fault.Cored made) w w' old new stop cause form stops = report_form algorithm (shown_core made) old new stop form stops

@@ -2,7 +2,7 @@
 use Rattle.std.specs.Prelude.{ℕ, List, []}
 use Rattle.cm_io.specs.Files.{Files}
 use Rattle.cm_tool_files.specs.Messages.{seed_failure_message}
-use Rattle.cm_tool.specs.Results.{FailureReport}
+use Rattle.cm_tool_builds.specs.Results.{FailureReport}
 
 -- the status, what out and err get, and the files that are left
 pub record Outcome : Type 0 where

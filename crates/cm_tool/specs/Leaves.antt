@@ -1,7 +1,6 @@
 -- What each end of a build leaves.
-use Rattle.std.specs.Prelude.{◌≡◌, ◌⊎◌, ◌≤◌, ℕ, List, [], length, take, Option, None, Some, Result, Ok, Err}
+use Rattle.std.specs.Prelude.{◌≡◌, ◌⊎◌, ◌≤◌, ℕ, List, [], take, Option, None, Some, Result, Ok, Err}
 use Rattle.std.specs.Option.{ForSome}
-use Rattle.cm_algo_names.specs.declared.algorithm.Algorithm.{Algorithm}
 use Rattle.cm_dump.specs.Dumps.{dump_of}
 use Rattle.cm_func.specs.Functions.{IsFunction}
 use Rattle.cm_func.specs.declared.function.Func.{Func}
@@ -10,19 +9,18 @@ use Rattle.cm_io.specs.Files.{Files, file_at, with_file}
 use Rattle.cm_io.specs.Passes.{Told}
 use Rattle.cm_io.specs.Writing.{then_bytes}
 use Rattle.cm_io.specs.declared.key_pass.KeyFault.TheVariants as key_fault
-use Rattle.cm_spec.specs.Built.{cells_under, first_seed, IsFirst}
-use Rattle.cm_spec.specs.Rule.{IsCount, Rule}
 use Rattle.cm_tool_files.specs.Summaries.{summary_of}
 use Rattle.cm_tool_files.specs.declared.built.Summary.{Summary}
 use Rattle.cm_tool_files.specs.declared.stop.Stop.TheVariants.{Memory, Read, Write, WriteOut, Refused, Spill, NoKeys, TooLong, TooMany}
 use Rattle.cm_tool_files.specs.declared.stop.Stop.{Stop}
-use Rattle.cm_tool.specs.Faults.{HasNone, shown_core, shown_overfull, stop_for}
+use Rattle.cm_tool_builds.specs.Faults.{HasNone, shown_core, shown_overfull}
+use Rattle.cm_tool_builds.specs.FuncOf.{IsFuncOf}
+use Rattle.cm_tool.specs.Stops.{stop_for}
 use Rattle.cm_tool.specs.Jobs.{seeds_tried}
 use Rattle.cm_tool.specs.Outcome.{keys_in}
-use Rattle.cm_tool.specs.Seeds.{IsMadeBy}
-use Rattle.cm_tool.specs.Results.{FailureReport, result_by}
-use Rattle.cm_tool.specs.declared.fault.FuncFault.{FuncFault}
-use Rattle.cm_tool.specs.declared.fault.FuncFault.TheVariants as func_fault
+use Rattle.cm_tool_builds.specs.Results.{FailureReport}
+use Rattle.cm_tool_builds.specs.declared.fault.FuncFault.{FuncFault}
+use Rattle.cm_tool_builds.specs.declared.fault.FuncFault.TheVariants as func_fault
 use Rattle.cm_words.specs.declared.jobs.BuildJob.{BuildJob}
 
 -- which counts of the disk an end has raised: that of reading, and that of writing
@@ -41,22 +39,6 @@ IsOutCause o o' stop = o' ≡ o
 abbrev pub HasOutCause : {T : Type 0} → ℕ → ℕ → Result T Stop → Type 0
 HasOutCause o o' (Ok _) = o' ≡ o
 HasOutCause o o' (Err stop) = IsOutCause o o' stop
-
--- a build over known keys returned the number of keys, the seed and the cells, in whatever number of steps
-pub record IsBuiltFrom (r : Rule) (told : Told) (c : ℕ) (seeds : List ℕ) (m seed : ℕ) (cells : List ℕ) : Type 0 where
-  pub no_fault : told.fault ≡ None
-  pub many : m ≡ length told.keys
-  pub place : ℕ
-  pub chosen : first_seed r told.keys c seeds ≡ Some seed
-  pub first : IsFirst r told.keys c seeds place seed
-  pub cells_are : cells ≡ cells_under r told.keys c seed
-
--- the function of keys with no fault at their end by an algorithm, with its parameter b
-pub record IsFuncOf (algorithm : Algorithm) (b : ℕ) (told : Told) (c : ℕ) (seeds : List ℕ) (f : Func) : Type 0 where
-  pub no_fault : told.fault ≡ None
-  pub many : IsCount (length told.keys)
-  pub result_is : result_by algorithm b told.keys c seeds ≡ Ok f
-  pub made : IsMadeBy algorithm b told.keys c seeds f
 
 -- the function of a job over the keys in these bytes
 abbrev pub IsFunctionOf : BuildJob → List ℕ → Func → Type 0

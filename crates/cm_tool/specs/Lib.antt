@@ -1,8 +1,5 @@
 pub mod Jobs
-pub mod Plans
-pub mod Results
-pub mod Seeds
-pub mod Faults
+pub mod Stops
 pub mod Spills
 pub mod Ending
 pub mod Tested

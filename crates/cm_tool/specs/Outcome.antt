@@ -17,7 +17,8 @@ use Rattle.cm_tool_files.specs.Summaries.{summary_of}
 use Rattle.cm_tool_files.specs.Texts.{help_text, version_text}
 pub use Rattle.cm_tool.specs.Ending.{Outcome, printing, refusal, reporting}
 use Rattle.cm_tool.specs.Tested.{test_outcome}
-use Rattle.cm_tool.specs.Results.{FailureReport, result_of}
+use Rattle.cm_tool_builds.specs.Results.{FailureReport}
+use Rattle.cm_tool.specs.Jobs.{result_of}
 use Rattle.cm_words.specs.Meaning.{job_of}
 use Rattle.cm_words.specs.Options.{Read as Reading}
 use Rattle.cm_words.specs.declared.jobs.BuildJob.{BuildJob}

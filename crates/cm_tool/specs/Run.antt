@@ -20,15 +20,15 @@ use Rattle.cm_tool_files.specs.Ends.{IsPrintMessage, Says}
 use Rattle.cm_tool_files.specs.Messages.{bad_dump, built_message, out_of_memory, cannot_read, cannot_use_spill, cannot_write, cannot_write_out, keys_changed, no_keys, line_too_long, seed_failure_message, spill_damaged, too_many_keys, usage_message}
 use Rattle.cm_tool_files.specs.Texts.{help_text, version_text}
 use Rattle.cm_tool_files.specs.declared.built.Summary.{Summary}
-use Rattle.cm_tool_files.specs.declared.stop.SeedFailure.{SeedFailure}
-use Rattle.cm_tool.specs.Faults.{IsChangeBy, IsSeedFailureBy, UsesSpill}
+use Rattle.cm_func.specs.declared.failure.SeedFailure.{SeedFailure}
+use Rattle.cm_tool_builds.specs.Faults.{IsChangeBy, IsSeedFailureBy, UsesSpill}
 use Rattle.cm_tool.specs.Jobs.{seeds_tried}
 use Rattle.cm_tool.specs.Leaves.{IsPart}
 use Rattle.cm_tool.specs.Outcome.{Outcome, job_outcome, keys_in, reporting, saving}
-use Rattle.cm_tool.specs.Seeds.{IsMadeBy, NoneWorks}
-use Rattle.cm_tool.specs.Spills.{HasSpilled, UnlessSpilled}
+use Rattle.cm_tool_builds.specs.Seeds.{IsMadeBy, NoneWorks}
+use Rattle.cm_tool_builds.specs.Spills.{HasSpilled, UnlessSpilled}
 use Rattle.cm_tool.specs.TestEnds.{IsTestMessage}
-use Rattle.cm_tool.specs.Results.{FailureReport}
+use Rattle.cm_tool_builds.specs.Results.{FailureReport}
 use Rattle.cm_algo_names.specs.declared.algorithm.Algorithm.{Algorithm}
 use Rattle.cm_algo_names.specs.declared.algorithm.Algorithm.TheVariants.{Chm, Bdz, BdzPh, Brz}
 use Rattle.cm_words.specs.Options.{Read as Reading}

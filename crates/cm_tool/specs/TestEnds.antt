@@ -7,14 +7,15 @@ use Rattle.cm_io.specs.Files.{Files}
 use Rattle.cm_io.specs.Writing.{then_bytes}
 use Rattle.cm_tool_files.specs.Ends.{Says}
 use Rattle.cm_tool_files.specs.Messages.{cannot_use_spill, cannot_write_out, keys_changed, line_too_long, no_keys, out_of_memory, seed_failure_message, spill_damaged, too_many_keys}
-use Rattle.cm_tool_files.specs.declared.stop.SeedFailure.{SeedFailure}
+use Rattle.cm_func.specs.declared.failure.SeedFailure.{SeedFailure}
 use Rattle.cm_tool_files.specs.declared.stop.Stop.TheVariants.{Memory, Read, Refused, Spill, Write, WriteOut}
 use Rattle.cm_tool_files.specs.declared.stop.Stop.{Stop}
-use Rattle.cm_tool.specs.Faults.{HasStopForm, IsSeedFailureBy, UsesSpill, shown_core, shown_overfull}
+use Rattle.cm_tool_builds.specs.Faults.{IsSeedFailureBy, UsesSpill, shown_core, shown_overfull}
+use Rattle.cm_tool.specs.Stops.{HasStopForm}
 use Rattle.cm_tool.specs.Ending.{Outcome}
 use Rattle.cm_tool.specs.Tested.{test_outcome, test_result, tested_by}
-use Rattle.cm_tool.specs.declared.fault.FuncFault.{FuncFault}
-use Rattle.cm_tool.specs.declared.fault.FuncFault.TheVariants as func_fault
+use Rattle.cm_tool_builds.specs.declared.fault.FuncFault.{FuncFault}
+use Rattle.cm_tool_builds.specs.declared.fault.FuncFault.TheVariants as func_fault
 use Rattle.cm_words.specs.declared.jobs.TestJob.{TestJob}
 
 -- why an algorithm has no function of generated keys, which never change and have no fault

@@ -15,8 +15,8 @@ use Rattle.cm_query.specs.Sums.{answer_sum}
 use Rattle.cm_tool_files.specs.Asked.{keys_in}
 use Rattle.cm_tool.specs.Ending.{Outcome, printing, reporting}
 use Rattle.cm_tool.specs.Jobs.{seeds_of}
-use Rattle.cm_tool.specs.Results.{FailureReport, result_by}
-use Rattle.cm_tool.specs.declared.plan.Plan.{Plan}
+use Rattle.cm_tool_builds.specs.Results.{FailureReport, result_by}
+use Rattle.cm_tool_builds.specs.declared.plan.Plan.{Plan}
 use Rattle.cm_words.specs.declared.jobs.TestJob.{TestJob}
 
 -- the default parameter b

@@ -6,30 +6,28 @@ ghost use Rattle.cm_io.specs.Causes.{HasCause, IsSent};
 ghost use Rattle.cm_io.specs.Files.{file_at};
 ghost use Rattle.cm_io.specs.Writing.{Writes};
 ghost use Rattle.cm_tool_files.specs.Ends.{Says};
-ghost use Rattle.cm_tool.specs.Faults.{HasStopForm, seed_failure_of, shown_core, shown_overfull, stop_from_key};
+ghost use Rattle.cm_tool_builds.specs.Faults.{seed_failure_of, shown_core, shown_overfull};
+ghost use Rattle.cm_tool.specs.Stops.{HasStopForm, stop_from_key};
 ghost use Rattle.cm_tool.specs.Jobs.{seeds_of};
 ghost use Rattle.cm_tool.specs.Leaves.{GotReport, HasKeptOut, HasOutCause, HasStopCause, IsFunctionOf, IsOutCause, IsRefused, KeepsOut, Leaves, StopsFor};
 ghost use Rattle.cm_tool.specs.Outcome.{job_outcome, keys_in};
 ghost use Rattle.cm_tool.specs.Run.{IsBuildMessage, IsCored, IsEmptied, IsStatus, IsUnfinished, KeysSpilled, LacksFile, Reaches, SavedNumbers, TookFirst};
-ghost use Rattle.cm_tool.specs.Spills.{HasSpilled, UnlessSpilled};
+ghost use Rattle.cm_tool_builds.specs.Spills.{HasSpilled, UnlessSpilled};
 ghost use Rattle.cm_words.specs.Limits.{IsBuild};
 ghost use Rattle.cm_words.specs.declared.jobs.Job.TheVariants.{Build};
 
-use crate::fault::FuncFault;
-use crate::functions::func_of;
 use crate::laws::saved_numbers;
 use crate::plan::plan_of;
 use arrayvec::ArrayVec;
 use cm_brz::write_overfull;
-use cm_dump::Func;
+use cm_func::{Func, SeedFailure};
 use cm_io::{Disk, DiskFault, Failed, KeyFault, Sink};
 use cm_keys::Keys;
-use cm_tool_files::{SeedFailure, Stop, Summary, report, say_built, send_text, store, sum_up};
+use cm_tool_builds::{FuncFault, func_of};
+use cm_tool_files::{Stop, Summary, report, say_built, send_text, store, sum_up};
 use cm_witness::{Certificate, Pair};
 use cm_words::BuildJob;
 use std::alloc::Global;
-use std::marker::Brand;
-use std::sync::ledger::Blank;
 
 /// `count` seeds, from the first on.
 pub(crate) fn seeds(first: u32, count: u32) -> ArrayVec<u32, 1000>
@@ -159,14 +157,13 @@ fn function_of<D: Disk, O: Sink>(
     };
     let mut keys = Keys::new(reader, job.first);
     let tried = seeds(job.seed, job.count);
-    let outcome = func_of::<Keys<D::Reader>, D, Brand>(
+    let outcome = func_of(
         alloc,
         &plan_of(job),
         tried.as_slice(),
-        &job.dir,
+        job.dir.as_str(),
         &mut keys,
         disk,
-        Blank::new(1),
     );
     disk.shut(keys.into_source());
     match outcome {

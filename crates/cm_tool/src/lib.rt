@@ -2,8 +2,6 @@
 #![tactic(auto)]
 
 mod building;
-mod fault;
-mod functions;
 mod laws;
 mod plan;
 mod querying;

@@ -1,19 +1,11 @@
-//! How a function is built.
+//! How the function of a job is built.
 ghost use Rattle.std.specs.Prelude.{◌≡◌};
-ghost use Rattle.cm_tool.specs.Plans.{IsPlan, plan_for};
+ghost use Rattle.cm_tool_builds.specs.Plans.{IsPlan};
+ghost use Rattle.cm_tool.specs.Jobs.{plan_for};
 ghost use Rattle.cm_words.specs.Limits.{IsBuild};
 
-use cm_algo_names::Algorithm;
+use cm_tool_builds::Plan;
 use cm_words::BuildJob;
-
-/// How a function is built: the algorithm, the ratio of vertices to keys in millionths, the parameter -b, and BRZ's buffer in bytes.
-#[derive(Clone, Copy)]
-pub(crate) struct Plan {
-    pub algorithm: Algorithm,
-    pub c: u32,
-    pub b: u8,
-    pub buffer: u32,
-}
 
 /// The plan of a job.
 pub(crate) fn plan_of(job: &BuildJob) -> Plan

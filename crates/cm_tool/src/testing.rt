@@ -11,32 +11,30 @@ ghost use Rattle.cm_io.specs.Writing.{Writes};
 ghost use Rattle.cm_spec.specs.declared.limits.TheConstants.{MAX_KEYS};
 ghost use Rattle.cm_query.specs.Sums.{answer_sum};
 ghost use Rattle.cm_tool_files.specs.Ends.{Says};
-ghost use Rattle.cm_tool.specs.Faults.{HasFuncCause, HasStopForm, stop_for};
+ghost use Rattle.cm_tool_builds.specs.Faults.{HasFuncCause, HasFuncForm};
 ghost use Rattle.cm_tool.specs.Leaves.{HasOutCause, HasStopCause, KeepsOut};
-ghost use Rattle.cm_tool.specs.Plans.{IsPlan};
+ghost use Rattle.cm_tool_builds.specs.Plans.{IsPlan};
 ghost use Rattle.cm_tool.specs.Run.{IsStatus, Reaches};
-ghost use Rattle.cm_tool.specs.Spills.{HasSpilled, TestSpilled, TestsSpilled, UnlessSpilled};
+ghost use Rattle.cm_tool_builds.specs.Spills.{HasSpilled, UnlessSpilled};
+ghost use Rattle.cm_tool.specs.Spills.{TestSpilled, TestsSpilled};
 ghost use Rattle.cm_tool.specs.TestEnds.{EndsTest, FailsTest, GotPrefix, HasTestForm, IsTestMessage, IsUnfinishedTest, StopsSpilling};
 ghost use Rattle.cm_tool.specs.Tested.{generated, line_text, test_outcome, test_plan, test_result, tested_by, usual_b};
 ghost use Rattle.cm_words.specs.Limits.{IsTest};
 ghost use Rattle.cm_words.specs.declared.jobs.Job.TheVariants.{Test};
 
 use crate::building::{seeds, stop_of};
-use crate::fault::FuncFault;
-use crate::functions::func_of;
-use crate::plan::Plan;
 use cm_algo_names::Algorithm;
-use cm_dump::{Func, saved_len};
+use cm_dump::saved_len;
+use cm_func::Func;
 use cm_io::{Disk, Failed, KeyPass, Sink, write_pieces};
 use cm_keys::Keys;
 use cm_keys_made::MadeKeys;
 use cm_query::sum_answers;
+use cm_tool_builds::{FuncFault, Plan, func_of};
 use cm_tool_files::{Stop, reload, report, send_text};
 use cm_words::TestJob;
 use itoa::Buffer;
 use std::alloc::Global;
-use std::marker::Brand;
-use std::sync::ledger::Blank;
 
 /// A pass over n generated keys.
 fn generated_pass(n: u32) -> Keys<MadeKeys>
@@ -102,20 +100,19 @@ fn build_generated<D: Disk>(
     ensures unspilled { UnlessSpilled algorithm (D.spilled disk.new ≡ D.spilled disk.old) }
     ensures valid { IfOk result IsFunction }
     ensures fault { IfErr result (λ e. ForSome (D.files disk.old) (λ _. FailsTest job.now algorithm e)) }
-    ensures form { IfErr result (λ e. HasStopForm algorithm (stop_for e)) }
+    ensures form { IfErr result (λ e. HasFuncForm algorithm e) }
 {
     // A law, for the proof alone.
     cm_keys_made::laws::lines();
     let mut keys = generated_pass(job.keys);
     let tried = seeds(job.seed, job.count);
-    let built = func_of::<Keys<MadeKeys>, D, Brand>(
+    let built = func_of(
         alloc,
         &plan_by(algorithm, job.buffer),
         tried.as_slice(),
-        &job.dir,
+        job.dir.as_str(),
         &mut keys,
         disk,
-        Blank::new(1),
     );
     // The text of the keys never fails.
     let _text = keys.into_source();

@@ -8,8 +8,8 @@ use Rattle.cm_dump_items.specs.declared.fault.LoadFault.TheVariants as faults
 use Rattle.cm_io.specs.Writing.{joined}
 use Rattle.cm_spec.specs.declared.limits.TheConstants.{MAX_BUCKET, MAX_KEYS}
 use Rattle.cm_tool_files.specs.declared.built.Summary.{Summary}
-use Rattle.cm_tool_files.specs.declared.stop.SeedFailure.{SeedFailure}
-use Rattle.cm_tool_files.specs.declared.stop.SeedFailure.TheVariants.{NoSeed, NoSeedFor, NoSplit}
+use Rattle.cm_func.specs.declared.failure.SeedFailure.{SeedFailure}
+use Rattle.cm_func.specs.declared.failure.SeedFailure.TheVariants.{NoSeed, NoSeedFor, NoSplit}
 use Rattle.cm_words.specs.declared.fault.UsageFault.{UsageFault}
 use Rattle.cm_words.specs.declared.fault.UsageFault.TheVariants as usage
 use Rattle.cm_words.specs.declared.jobs.BuildJob.{BuildJob}

@@ -7,9 +7,10 @@ ghost use Rattle.cm_tool_files.specs.Ends.{Says, status_of, message_of, query_st
 ghost use Rattle.cm_tool_files.specs.Messages.{bad_dump, built, built_message, cannot_read, cannot_write_out, counted, fault_place, fault_words, keys_changed, line_too_long, out_of_memory, seed_failure_message, spill_damaged, too_many_keys, usage_message};
 
 use crate::built::Summary;
-use crate::stop::{QueryStop, SeedFailure, Stop};
+use crate::stop::{QueryStop, Stop};
 use cm_algo_names::Algorithm;
 use cm_dump::LoadFault;
+use cm_func::SeedFailure;
 use cm_io::{Notes, Sink};
 use cm_spec::{MAX_BUCKET, MAX_KEYS};
 use cm_words::{BuildJob, QueryJob, UsageFault};

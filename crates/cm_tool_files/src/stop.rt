@@ -1,17 +1,7 @@
 //! Why a job stopped.
 
 use cm_dump::LoadFault;
-
-/// Why there is no function of the keys.
-#[derive(Clone, Copy)]
-pub enum SeedFailure {
-    /// Under every seed the graph has a 2-core with an edge.
-    NoSeed,
-    /// By BRZ: so has the graph of the keys of this bucket, counted from 0.
-    NoSeedFor { bucket: u32 },
-    /// By BRZ: every seed leaves a bucket with more keys than one may have.
-    NoSplit,
-}
+use cm_func::SeedFailure;
 
 /// What kept a build from its end.
 #[derive(Clone, Copy)]

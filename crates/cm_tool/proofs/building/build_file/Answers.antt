@@ -1,6 +1,6 @@
 use Rattle.std.proofs.Common.{◌≡◌, ◌∙◌, None, refl}
 use Rattle.cm_dump.specs.Dumps.{dump_of}
-use Rattle.cm_tool.proofs.Builds.{leaves_created, leaves_refused}
+use Rattle.cm_tool.proofs.Stops.{leaves_created, leaves_refused}
 use Rattle.cm_tool.proofs.Outcomes.{keys_spilled}
 use Rattle.cm_tool.proofs.building.build_file.Goals as goal
 

@@ -2,7 +2,7 @@ use Rattle.std.proofs.Common.{rules, ◌≡◌, ◌∙◌, ℕ, List, Option, ap
 use Rattle.std.specs.Option.{option_map}
 use Rattle.cm_tool.specs.Jobs.{seeds_tried}
 use Rattle.cm_tool.specs.Outcome.{keys_in}
-use Rattle.cm_tool.proofs.Builds.{refused_from, stop_cause, stop_form}
+use Rattle.cm_tool.proofs.Stops.{refused_from, stop_cause, stop_form}
 use Rattle.cm_tool.proofs.building.function_of.Goals as goal
 
 pub returns-in-Ok-outcome-clause-made : goal.returns-in-Ok-outcome-clause-made

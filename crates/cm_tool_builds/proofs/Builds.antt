@@ -1,7 +1,6 @@
--- From a build over a pass to the function of a keys file, or to why it was refused.
-use Rattle.std.proofs.Common.{◌≡◌, ◌∙◌, ◌⊎◌, ℕ, ◌<◌, ◌≤◌, List, [], length, Option, None, Some, Result, Ok, Err, inl, inr, refl, ap, sym, subst, arith}
+-- From a build over a pass by one algorithm to the function of the keys, or to why there is none.
+use Rattle.std.proofs.Common.{◌≡◌, ◌∙◌, ℕ, ◌<◌, ◌≤◌, ◌^◌, lit<, List, length, None, Some, Result, Ok, Err, inl, inr, refl, ap, sym, subst, arith}
 use Rattle.std.specs.Prelude.{slice_index}
-use Rattle.std.specs.Option.{ForSome}
 use Rattle.std.specs.Result.{IsErrAnd}
 use Rattle.cm_algo_names.specs.declared.algorithm.Algorithm.{Algorithm}
 use Rattle.cm_algo_names.specs.declared.algorithm.Algorithm.TheVariants as algorithms
@@ -18,10 +17,8 @@ use Rattle.cm_brz_split.specs.declared.fault.BrzFault.TheVariants as brz_fault
 use Rattle.cm_brz_func.specs.Functions.{Brz, IsBrz, bucket_count}
 use Rattle.cm_func.specs.declared.function.Func.{Func}
 use Rattle.cm_func.specs.declared.function.Func.TheVariants as func
-use Rattle.cm_io.specs.Causes.{Collects}
-use Rattle.cm_io.specs.Files.{Files, file_at, with_file}
+use Rattle.cm_io.specs.Causes.{Collects, Rose}
 use Rattle.cm_io.specs.Passes.{Told}
-use Rattle.cm_io.specs.declared.key_pass.KeyFault.TheVariants as key_fault
 use Rattle.cm_spec.specs.declared.limits.TheConstants.{MAX_KEYS}
 use Rattle.cm_peel.specs.CoreLaws.{rest_is_core}
 use Rattle.cm_algo_seeds.specs.Fails.{FailsBuild, HasBuildCause, HasForm, HasNumbers, ShowsCore}
@@ -31,24 +28,17 @@ use Rattle.cm_spec.specs.Bdz.{bdz_rule, bdz_ph_rule}
 use Rattle.cm_spec.specs.Built.{IsFirst, cells_under, chm_under, first_seed}
 use Rattle.cm_spec.specs.Chm.{Chm, chm_rule}
 use Rattle.cm_spec.specs.Rule.{Rule}
-use Rattle.cm_tool_files.specs.EndLaws.{collected}
-use Rattle.cm_tool_files.specs.declared.stop.SeedFailure.TheVariants.{NoSeed, NoSeedFor, NoSplit}
-use Rattle.cm_tool_files.specs.declared.stop.SeedFailure.{SeedFailure}
-use Rattle.cm_tool_files.specs.declared.stop.Stop.TheVariants.{Memory, Read, Write, WriteOut, Refused, Changed, Spill, SpillDamaged, NoKeys, TooLong, TooMany}
-use Rattle.cm_tool_files.specs.declared.stop.Stop.{Stop}
-use Rattle.cm_tool.specs.Faults.{FailsFunc, HasFuncCause, HasNone, HasStopForm, IsChange, IsChangeBy, IsSeedFailureBy, fault_from_brz, fault_from_build, seed_failure_of, shown_core, shown_overfull, stop_for}
-use Rattle.cm_tool.specs.Jobs.{seeds_tried}
-use Rattle.cm_tool.specs.Leaves.{GotReport, HasStopCause, IsBuiltFrom, IsFuncOf, IsRefused, Leaves, Refuses, Saves, StopsFor}
-use Rattle.cm_tool.specs.Outcome.{keys_in}
-use Rattle.cm_tool.specs.Seeds.{IsCoredUnder, IsMadeBy, NoneWorks, TakesFirst}
-use Rattle.cm_tool.specs.Results as results
-use Rattle.cm_tool.specs.Results.{FailureReport, filled, seeded, split_into, result_by}
-use Rattle.cm_tool.specs.declared.fault.FuncFault.{FuncFault}
-use Rattle.cm_tool.specs.declared.fault.FuncFault.TheVariants as func_fault
+use Rattle.cm_func.specs.declared.failure.SeedFailure.TheVariants.{NoSeed, NoSeedFor, NoSplit}
+use Rattle.cm_func.specs.declared.failure.SeedFailure.{SeedFailure}
+use Rattle.cm_tool_builds.specs.Faults.{FailsFunc, HasFuncCause, HasFuncForm, IsChange, IsChangeBy, IsSeedFailureBy, fault_from_brz, fault_from_build, seed_failure_of, shown_core}
+use Rattle.cm_tool_builds.specs.FuncOf.{IsBuiltFrom, IsFuncOf}
+use Rattle.cm_tool_builds.specs.Seeds.{IsCoredUnder, IsMadeBy, NoneWorks, TakesFirst}
+use Rattle.cm_tool_builds.specs.Results as results
+use Rattle.cm_tool_builds.specs.Results.{FailureReport, filled, seeded, split_into, result_by}
+use Rattle.cm_tool_builds.specs.declared.fault.FuncFault.{FuncFault}
 use Rattle.cm_witness.specs.Reports.{report_text}
 use Rattle.cm_witness.specs.declared.certificate.Certificate.{Certificate}
 use Rattle.cm_witness.specs.declared.certificate.Pair.{Pair}
-use Rattle.cm_words.specs.declared.jobs.BuildJob.{BuildJob}
 
 -- a function is known by its parts
 chm_by_parts : (f : Chm) (keys : List (ℕ × List ℕ)) (c seed : ℕ) → f.keys ≡ length keys → f.ratio ≡ c → f.seed ≡ seed → f.cells ≡ cells_under chm_rule keys c seed → f ≡ chm_under keys c seed
@@ -204,92 +194,6 @@ brz_fails told c b seeds (brz_fault.Changed first again) laws fails form undamag
 brz_fails told c b seeds brz_fault.SpillFailed laws fails form undamaged = tt
 brz_fails told c b seeds (brz_fault.SpillDamaged offset expected found) laws fails form undamaged = absurd (undamaged tt)
 
--- out got the report on keys that have no function
-reported : (job : BuildJob) (told : Told) (shown : FailureReport) (old new : Option (List ℕ)) (stop : Stop) → HasNone job.algorithm job.b told job.c (seeds_tried job) shown → GotReport shown old new stop → Refuses job told old new stop
-reported job told shown old new Memory none got = absurd got
-reported job told shown old new Read none got = absurd got
-reported job told shown old new Write none got = absurd got
-reported job told shown old new WriteOut none got = (shown, none, got)
-reported job told shown old new (Refused failure) none got = (shown, none, got)
-reported job told shown old new (Changed first again) none got = absurd got
-reported job told shown old new Spill none got = absurd got
-reported job told shown old new (SpillDamaged offset expected found) none got = absurd got
-reported job told shown old new NoKeys none got = absurd got
-reported job told shown old new (TooLong line) none got = absurd got
-reported job told shown old new TooMany none got = absurd got
-
--- a refusal by the keys of a file that is there
-refused_by : (job : BuildJob) (files : Files) (bytes : List ℕ) (old new : Option (List ℕ)) (stop : Stop) → file_at files job.keys ≡ Some bytes → Refuses job (keys_in job.first bytes) old new stop → IsRefused job files old new stop
-refused_by job files bytes old new Memory there refuses = tt
-refused_by job files bytes old new Read there refuses = tt
-refused_by job files bytes old new Write there refuses = (bytes, there, refuses)
-refused_by job files bytes old new WriteOut there refuses = (bytes, there, refuses)
-refused_by job files bytes old new (Refused failure) there refuses = (bytes, there, refuses)
-refused_by job files bytes old new (Changed first again) there refuses = (bytes, there, refuses)
-refused_by job files bytes old new Spill there refuses = (bytes, there, refuses)
-refused_by job files bytes old new (SpillDamaged offset expected found) there refuses = (bytes, there, refuses)
-refused_by job files bytes old new NoKeys there refuses = (bytes, there, refuses)
-refused_by job files bytes old new (TooLong line) there refuses = (bytes, there, refuses)
-refused_by job files bytes old new TooMany there refuses = (bytes, there, refuses)
-
-pub refused_from : (job : BuildJob) (files : Files) (bytes : List ℕ) (fault : FuncFault) (old new : Option (List ℕ)) (stop : Stop) → file_at files job.keys ≡ Some bytes
-    → FailsFunc job.algorithm job.b (keys_in job.first bytes) job.c (seeds_tried job) fault → StopsFor fault old new stop → IsRefused job files old new stop
-refused_from job files bytes func_fault.Memory old new stop there fails stops = rw stops.0 tt
-refused_from job files bytes func_fault.NoKeys old new stop there fails stops = rw stops.0 (bytes, there, fails)
-refused_from job files bytes (func_fault.Cored made) old new stop there fails stops = refused_by job files bytes old new stop there (reported job (keys_in job.first bytes) (shown_core made) old new stop fails stops)
-refused_from job files bytes (func_fault.Overfull seed bucket count equal) old new stop there fails stops =
-    refused_by job files bytes old new stop there (reported job (keys_in job.first bytes) (shown_overfull seed bucket count equal.items) old new stop fails stops)
-refused_from job files bytes (func_fault.Key key_fault.Read) old new stop there fails stops = rw stops.0 tt
-refused_from job files bytes (func_fault.Key (key_fault.TooLong line)) old new stop there fails stops = rw stops.0 (bytes, there, fails)
-refused_from job files bytes (func_fault.Key key_fault.TooMany) old new stop there fails stops = rw stops.0 (bytes, there, fails)
-refused_from job files bytes (func_fault.Changed first again) old new stop there fails stops = absurd fails
-refused_from job files bytes func_fault.Spill old new stop there fails stops = rw stops.0 (bytes, there, tt)
-refused_from job files bytes (func_fault.SpillDamaged offset expected found) old new stop there fails stops = absurd fails
-
--- what a stop for a report has
-shown_form : (algorithm : Algorithm) (shown : FailureReport) (old new : Option (List ℕ)) (stop : Stop) → IsSeedFailureBy algorithm shown.failure → GotReport shown old new stop → HasStopForm algorithm stop
-shown_form algorithm shown old new Memory failure got = tt
-shown_form algorithm shown old new Read failure got = tt
-shown_form algorithm shown old new Write failure got = tt
-shown_form algorithm shown old new WriteOut failure got = tt
-shown_form algorithm shown old new (Refused other) failure got = rw got.0 failure
-shown_form algorithm shown old new (Changed first again) failure got = absurd got
-shown_form algorithm shown old new Spill failure got = absurd got
-shown_form algorithm shown old new (SpillDamaged offset expected found) failure got = absurd got
-shown_form algorithm shown old new NoKeys failure got = tt
-shown_form algorithm shown old new (TooLong line) failure got = tt
-shown_form algorithm shown old new TooMany failure got = tt
-
--- and what any stop has
-pub stop_form : (algorithm : Algorithm) (fault : FuncFault) (old new : Option (List ℕ)) (stop : Stop) → HasStopForm algorithm (stop_for fault) → StopsFor fault old new stop → HasStopForm algorithm stop
-stop_form algorithm func_fault.Memory old new stop form stops = rw stops.0 form
-stop_form algorithm func_fault.NoKeys old new stop form stops = rw stops.0 form
-stop_form algorithm (func_fault.Cored made) old new stop form stops = shown_form algorithm (shown_core made) old new stop form stops
-stop_form algorithm (func_fault.Overfull seed bucket count equal) old new stop form stops = shown_form algorithm (shown_overfull seed bucket count equal.items) old new stop form stops
-stop_form algorithm (func_fault.Key fault) old new stop form stops = rw stops.0 form
-stop_form algorithm (func_fault.Changed first again) old new stop form stops = rw stops.0 form
-stop_form algorithm func_fault.Spill old new stop form stops = rw stops.0 form
-stop_form algorithm (func_fault.SpillDamaged offset expected found) old new stop form stops = rw stops.0 form
-
--- a build that was refused leaves the files as they were
-pub leaves_refused : (job : BuildJob) (old new : Option Files) (out_old out_new : Option (List ℕ)) (stop : Stop) → new ≡ old → ForSome old (λ files. IsRefused job files out_old out_new stop) → Leaves job old new out_old out_new (Err stop)
-leaves_refused job old new out_old out_new Memory same refused = inl same
-leaves_refused job old new out_old out_new Read same refused = (same, refused)
-leaves_refused job old new out_old out_new Write same refused = ([], inl same, λ files is. absurd ((refused files is).2))
-leaves_refused job old new out_old out_new WriteOut same refused = (same, refused)
-leaves_refused job old new out_old out_new (Refused failure) same refused = (same, refused)
-leaves_refused job old new out_old out_new (Changed first again) same refused = (same, refused)
-leaves_refused job old new out_old out_new Spill same refused = (same, refused)
-leaves_refused job old new out_old out_new (SpillDamaged offset expected found) same refused = (same, refused)
-leaves_refused job old new out_old out_new NoKeys same refused = (same, refused)
-leaves_refused job old new out_old out_new (TooLong line) same refused = (same, refused)
-leaves_refused job old new out_old out_new TooMany same refused = (same, refused)
-
--- and one with a function whose file can't be created for memory
-pub leaves_created : (job : BuildJob) (old new : Option Files) (out_old out_new : Option (List ℕ)) (dump : List ℕ) → (new ≡ old) ⊎ (new ≡ with_file job.function [] old) → ForSome old (λ files. Saves job files dump) → Leaves job old new out_old out_new (Err Memory)
-leaves_created job old new out_old out_new dump (inl same) saves = inl same
-leaves_created job old new out_old out_new dump (inr empty) saves = inr (dump, empty, saves)
-
 -- which counts a failed build under one seed has raised
 fault_cause : (T : Type 0) (fault : BuildFault) (k k_now w : ℕ) → HasBuildCause {T = Func} k k_now (Err fault) → HasFuncCause {T = T} k k_now w w (Err (fault_from_build fault))
 fault_cause T build_fault.Memory k k_now w cause = (cause, refl)
@@ -305,14 +209,18 @@ build_cause T (Err e) fault k k_now w is cause = subst (λ (f : FuncFault). HasF
 
 -- what a failed build under one seed shows, by an algorithm with one seed
 pub build_form : (algorithm : Algorithm) (fault : BuildFault) (place seed : ℕ) → IsSeedFailureBy algorithm NoSeed → ((first again : ℕ) → IsChange first again → IsChangeBy algorithm first again) → HasNumbers place fault → HasForm algorithm seed fault
-    → HasStopForm algorithm (stop_for (fault_from_build fault))
+    → HasFuncForm algorithm (fault_from_build fault)
 build_form algorithm build_fault.Memory place seed failure change numbers form = tt
 build_form algorithm build_fault.NoKeys place seed failure change numbers form = tt
 build_form algorithm (build_fault.Cored made) place seed failure change numbers form = rw form.2 failure
-build_form algorithm (build_fault.Key key_fault.Read) place seed failure change numbers form = tt
-build_form algorithm (build_fault.Key (key_fault.TooLong line)) place seed failure change numbers form = tt
-build_form algorithm (build_fault.Key key_fault.TooMany) place seed failure change numbers form = tt
+build_form algorithm (build_fault.Key fault) place seed failure change numbers form = tt
 build_form algorithm (build_fault.Changed first again) place seed failure change numbers form = change first again (record { some = numbers.0; differs = numbers.1.differs; stops = numbers.1.stops })
+
+-- a disk's count rose, if what it took back has failed
+collected : (count count_now before middle now : ℕ) → (count ≤ count_now) × Rose count count_now → count ≡ 0 → Collects count_now middle now → middle ≡ before → Rose before now
+collected count count_now before middle now failed fresh back same =
+    let low : count < 2 ^ 63 = rw fresh (lit< tt) in
+    rw same at (back.some (omega (arith, failed.1 low)))
 
 -- which counts a failed build by BRZ has raised, once the spill was handed back
 pub brz_cause : (fault : BrzFault) (k k_now count count_now before middle now : ℕ) → HasKeysCause {T = Func} k k_now (Err fault) → HasSpillCause {T = Func} count count_now (Err fault) → count ≡ 0 → Collects count_now middle now → middle ≡ before
@@ -325,40 +233,3 @@ brz_cause (brz_fault.Key fault) k k_now count count_now before middle now keys s
 brz_cause (brz_fault.Changed first again) k k_now count count_now before middle now keys spill fresh back same = (keys, back.none (spill ∙ fresh) ∙ same)
 brz_cause brz_fault.SpillFailed k k_now count count_now before middle now keys spill fresh back same = (keys, omega (arith, back.later, same), collected count count_now before middle now spill fresh back same)
 brz_cause (brz_fault.SpillDamaged offset expected found) k k_now count count_now before middle now keys spill fresh back same = (keys, back.none (spill ∙ fresh) ∙ same)
-
--- which counts of the disk a stop for a report has raised: none
-shown_cause : (shown : FailureReport) (old new : Option (List ℕ)) (stop : Stop) (r r_now w w_now : ℕ) → GotReport shown old new stop → r_now ≡ r → w_now ≡ w → HasStopCause {T = Func} r r_now w w_now (Err stop)
-shown_cause shown old new Memory r r_now w w_now got read wrote = (read, wrote)
-shown_cause shown old new Read r r_now w w_now got read wrote = absurd got
-shown_cause shown old new Write r r_now w w_now got read wrote = absurd got
-shown_cause shown old new WriteOut r r_now w w_now got read wrote = (read, wrote)
-shown_cause shown old new (Refused failure) r r_now w w_now got read wrote = (read, wrote)
-shown_cause shown old new (Changed first again) r r_now w w_now got read wrote = (read, wrote)
-shown_cause shown old new Spill r r_now w w_now got read wrote = absurd got
-shown_cause shown old new (SpillDamaged offset expected found) r r_now w w_now got read wrote = (read, wrote)
-shown_cause shown old new NoKeys r r_now w w_now got read wrote = (read, wrote)
-shown_cause shown old new (TooLong line) r r_now w w_now got read wrote = (read, wrote)
-shown_cause shown old new TooMany r r_now w w_now got read wrote = (read, wrote)
-
--- and any stop, once the reader of the keys was handed back
-cause_of : (fault : FuncFault) (old new : Option (List ℕ)) (stop : Stop) (count count_now r middle r_now w w_now : ℕ) → StopsFor fault old new stop → HasFuncCause {T = Func} count count_now w w_now (Err fault) → count ≡ 0 → Collects count_now middle r_now → middle ≡ r
-    → HasStopCause {T = Func} r r_now w w_now (Err stop)
-cause_of func_fault.Memory old new stop count count_now r middle r_now w w_now stops cause fresh back same = rw stops.0 (back.none (cause.0 ∙ fresh) ∙ same, cause.1)
-cause_of func_fault.NoKeys old new stop count count_now r middle r_now w w_now stops cause fresh back same = rw stops.0 (back.none (cause.0 ∙ fresh) ∙ same, cause.1)
-cause_of (func_fault.Cored made) old new stop count count_now r middle r_now w w_now stops cause fresh back same = shown_cause (shown_core made) old new stop r r_now w w_now stops (back.none (cause.0 ∙ fresh) ∙ same) cause.1
-cause_of (func_fault.Overfull seed bucket many equal) old new stop count count_now r middle r_now w w_now stops cause fresh back same =
-    shown_cause (shown_overfull seed bucket many equal.items) old new stop r r_now w w_now stops (back.none (cause.0 ∙ fresh) ∙ same) cause.1
-cause_of (func_fault.Key key_fault.Read) old new stop count count_now r middle r_now w w_now stops cause fresh back same =
-    rw stops.0 (omega (arith, back.later, same), collected count count_now r middle r_now cause.0 fresh back same, cause.1)
-cause_of (func_fault.Key (key_fault.TooLong line)) old new stop count count_now r middle r_now w w_now stops cause fresh back same = rw stops.0 (back.none (cause.0 ∙ fresh) ∙ same, cause.1)
-cause_of (func_fault.Key key_fault.TooMany) old new stop count count_now r middle r_now w w_now stops cause fresh back same = rw stops.0 (back.none (cause.0 ∙ fresh) ∙ same, cause.1)
-cause_of (func_fault.Changed first again) old new stop count count_now r middle r_now w w_now stops cause fresh back same = rw stops.0 (back.none (cause.0 ∙ fresh) ∙ same, cause.1)
-cause_of func_fault.Spill old new stop count count_now r middle r_now w w_now stops cause fresh back same = rw stops.0 (back.none (cause.0 ∙ fresh) ∙ same, cause.1, cause.2)
-cause_of (func_fault.SpillDamaged offset expected found) old new stop count count_now r middle r_now w w_now stops cause fresh back same = rw stops.0 (back.none (cause.0 ∙ fresh) ∙ same, cause.1)
-
--- and the file was opened before
-pub stop_cause : (fault : FuncFault) (old new : Option (List ℕ)) (stop : Stop) (count count_now r middle r_now w opened built w_now : ℕ) → StopsFor fault old new stop → HasFuncCause {T = Func} count count_now opened built (Err fault) → count ≡ 0 → Collects count_now middle r_now → middle ≡ r → opened ≡ w → w_now ≡ built
-    → HasStopCause {T = Func} r r_now w w_now (Err stop)
-stop_cause fault old new stop count count_now r middle r_now w opened built w_now stops cause fresh back same before after =
-    let moved = subst (λ (n : ℕ). HasFuncCause {T = Func} count count_now n built (Err fault)) before cause in
-    subst (λ (n : ℕ). HasStopCause {T = Func} r r_now w n (Err stop)) (sym after) (cause_of fault old new stop count count_now r middle r_now w built stops moved fresh back same)

@@ -12,11 +12,9 @@ use Rattle.cm_spec.specs.Bdz.{bdz_rule, bdz_ph_rule}
 use Rattle.cm_spec.specs.Built.{chm_under, first_seed}
 use Rattle.cm_spec.specs.Chm.{chm_rule}
 use Rattle.cm_spec.specs.Rule.{Rule}
-use Rattle.cm_tool_files.specs.declared.stop.SeedFailure.TheVariants.{NoSeed, NoSeedFor, NoSplit}
-use Rattle.cm_tool_files.specs.declared.stop.SeedFailure.{SeedFailure}
-use Rattle.cm_tool.specs.Jobs.{seeds_tried}
+use Rattle.cm_func.specs.declared.failure.SeedFailure.TheVariants.{NoSeed, NoSeedFor, NoSplit}
+use Rattle.cm_func.specs.declared.failure.SeedFailure.{SeedFailure}
 use Rattle.cm_witness.specs.Reports.{core_report}
-use Rattle.cm_words.specs.declared.jobs.BuildJob.{BuildJob}
 
 -- what is shown of keys that have no function: why, and the report
 pub record FailureReport : Type 0 where
@@ -51,7 +49,3 @@ result_by Chm b keys c seeds = result_under Chm chm_rule (λ seed. func.Chm (chm
 result_by Bdz b keys c seeds = result_under Bdz bdz_rule (λ seed. func.Bdz (bdz_under keys c seed b)) keys c seeds
 result_by BdzPh b keys c seeds = result_under BdzPh bdz_ph_rule (λ seed. func.BdzPh (bdz_ph_under keys c seed)) keys c seeds
 result_by Brz b keys c seeds = split_into keys c b seeds (split_of keys (bucket_count (length keys) b) seeds)
-
--- by a job
-abbrev pub result_of : BuildJob → List (ℕ × List ℕ) → Result Func FailureReport
-result_of job keys = result_by job.algorithm job.b keys job.c (seeds_tried job)

@@ -1,7 +1,7 @@
 use Rattle.std.proofs.Common.{arith, ◌≡◌, ◌∙◌, ◌≤◌, ℕ, List, [], length, Option, None, Some, true, is_some, refl, ap}
 use Rattle.cm_brz_func.specs.Functions.{bucket_count}
-use Rattle.cm_tool.proofs.Builds.{BrzLaws, brz_cause, brz_fails, brz_from}
-use Rattle.cm_tool.proofs.functions.brz_by.Goals as goal
+use Rattle.cm_tool_builds.proofs.Builds.{BrzLaws, brz_cause, brz_fails, brz_from}
+use Rattle.cm_tool_builds.proofs.functions.brz_by.Goals as goal
 
 pub returns-in-Ok-built-clause-made : goal.returns-in-Ok-built-clause-made
 returns-in-Ok-built-clause-made g c = λ files is told known.

@@ -1,6 +1,6 @@
 use Rattle.std.proofs.Common.{ap, sym}
-use Rattle.cm_tool.specs.Faults.{fault_from_brz}
-use Rattle.cm_tool.proofs.fault.fault_of_brz.Goals as goal
+use Rattle.cm_tool_builds.specs.Faults.{fault_from_brz}
+use Rattle.cm_tool_builds.proofs.fault.fault_of_brz.Goals as goal
 
 pub returns-in-Memory : goal.returns-in-Memory
 returns-in-Memory c = record { fault = sym (ap fault_from_brz c.in-Memory.is) }

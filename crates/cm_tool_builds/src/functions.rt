@@ -6,10 +6,10 @@ ghost use Rattle.cm_func.specs.Functions.{IsFunction};
 ghost use Rattle.cm_algo_seeds.specs.Fails.{FailsBuild, HasBuildCause, HasForm, HasNumbers};
 ghost use Rattle.cm_spec.specs.Cells.{is_busy};
 ghost use Rattle.cm_spec.specs.Rule.{IsRatio};
-ghost use Rattle.cm_tool.specs.Faults.{FailsFunc, HasFuncCause, HasStopForm, stop_for};
-ghost use Rattle.cm_tool.specs.Leaves.{IsBuiltFrom, IsFuncOf};
-ghost use Rattle.cm_tool.specs.Plans.{IsPlan};
-ghost use Rattle.cm_tool.specs.Spills.{HasSpilled, UnlessSpilled};
+ghost use Rattle.cm_tool_builds.specs.Faults.{FailsFunc, HasFuncCause, HasFuncForm};
+ghost use Rattle.cm_tool_builds.specs.FuncOf.{IsBuiltFrom, IsFuncOf};
+ghost use Rattle.cm_tool_builds.specs.Plans.{IsPlan};
+ghost use Rattle.cm_tool_builds.specs.Spills.{HasSpilled, UnlessSpilled};
 ghost use Rattle.cm_spec.specs.declared.limits.TheConstants.{MAX_KEYS};
 
 use crate::fault::{FuncFault, fault_of_brz};
@@ -20,11 +20,11 @@ use cm_bdz::{Bdz, BdzPh, BdzPhScheme, BdzScheme, PartsFault};
 use cm_brz::build::brz;
 use cm_brz::keys_determine_results;
 use cm_chm::{Chm, ChmScheme};
-use cm_dump::Func;
+use cm_func::Func;
 use cm_graph::{Steps, Xored};
 use cm_io::{Disk, DiskFault, KeyPass};
-use cm_words::Text;
 use std::alloc::Global;
+use std::marker::Brand;
 use std::sync::ledger::{Blank, Ledger};
 
 /// Builds over a pass by the rule of a scheme, with steps that nobody reads: the cells of the first seed whose graph has an
@@ -84,7 +84,7 @@ fn brz_by<P: KeyPass, D: Disk, L: Ledger>(
     ensures spilled { IfOk result (λ f. ForSome (D.files disk.old) (λ _. ForSome (P.told keys.old) (λ told. HasSpilled f told.keys (D.spilled disk.old) (D.spilled disk.new)))) }
     ensures valid { IfOk result IsFunction }
     ensures fault { IfErr result (λ e. ForSome (D.files disk.old) (λ _. ForSome (P.told keys.old) (λ told. FailsFunc Brz plan.now.b told plan.now.c seeds.now e))) }
-    ensures form { IfErr result (λ e. HasStopForm Brz (stop_for e)) }
+    ensures form { IfErr result (λ e. HasFuncForm Brz e) }
 {
     // Laws, for the proof alone.
     keys_determine_results();
@@ -115,13 +115,18 @@ fn brz_by<P: KeyPass, D: Disk, L: Ledger>(
     }
 }
 
-/// Builds the function of the keys of a pass by a plan. BRZ's keys are stored in a spill in the directory, which is made first and handed
-/// back at every return.
-pub(crate) fn func_of<P: KeyPass, D: Disk, L: Ledger>(
+/// The directory of a spill. A call that names a ledger takes no `&str` as an argument of its own.
+#[derive(Clone, Copy)]
+struct Dir<'a> {
+    path: &'a str,
+}
+
+/// Builds the function of the keys of a pass by a plan, with steps that nobody reads.
+fn func_by<P: KeyPass, D: Disk, L: Ledger>(
     alloc: Global,
     plan: &Plan,
     seeds: &[u32],
-    dir: &Text,
+    dir: Dir<'_>,
     keys: &mut P,
     disk: &mut D,
     blank: Blank,
@@ -140,7 +145,7 @@ pub(crate) fn func_of<P: KeyPass, D: Disk, L: Ledger>(
     ensures unspilled { UnlessSpilled plan.now.algorithm (D.spilled disk.new ≡ D.spilled disk.old) }
     ensures valid { IfOk result IsFunction }
     ensures fault { IfErr result (λ e. ForSome (D.files disk.old) (λ _. ForSome (P.told keys.old) (λ told. FailsFunc plan.now.algorithm plan.now.b told plan.now.c seeds.now e))) }
-    ensures form { IfErr result (λ e. HasStopForm plan.now.algorithm (stop_for e)) }
+    ensures form { IfErr result (λ e. HasFuncForm plan.now.algorithm e) }
 {
     match plan.algorithm {
         Algorithm::Chm => {
@@ -160,17 +165,45 @@ pub(crate) fn func_of<P: KeyPass, D: Disk, L: Ledger>(
             let built = build_by::<_, P, 3, L>(alloc, &BdzPhScheme {}, keys, plan.c, seeds, blank)?;
             Ok(Func::BdzPh(BdzPh::from_built(built)))
         }
-        Algorithm::Brz => match brz_by::<P, D, L>(
-            alloc,
-            plan,
-            seeds,
-            dir.as_str(),
-            keys,
-            disk,
-            blank,
-        ) {
+        Algorithm::Brz => match brz_by::<P, D, L>(alloc, plan, seeds, dir.path, keys, disk, blank) {
             Ok(function) => Ok(function),
             Err(fault) => Err(fault),
         },
     }
+}
+
+/// Builds the function of the keys of a pass by a plan: that of the first seed of the list that works. By BRZ the keys are stored in a
+/// spill in the directory `dir`, which is made first and handed back to the disk at every return; the other algorithms make none. Fails
+/// if memory runs out, if there are no keys, if no seed works, if a pass fails or yields another number of keys, and by BRZ if the
+/// spill fails or is damaged. The files of the disk stay as they were.
+pub fn func_of<P: KeyPass, D: Disk>(
+    alloc: Global,
+    plan: &Plan,
+    seeds: &[u32],
+    dir: &str,
+    keys: &mut P,
+    disk: &mut D,
+) -> Result<Func, FuncFault>
+    requires plan { IsPlan plan.now }
+    requires seeds { 0 < length seeds.now }
+    ensures told { P.told keys.new ≡ P.told keys.old }
+    ensures files { D.files disk.new ≡ D.files disk.old }
+    ensures read_faults { D.read_faults disk.new ≡ D.read_faults disk.old }
+    ensures cause { HasFuncCause (P.faults keys.old) (P.faults keys.new) (D.write_faults disk.old) (D.write_faults disk.new) result }
+    ensures made { IfOk result (λ f. ForSome (D.files disk.old) (λ _. ForSome (P.told keys.old) (λ told. IsFuncOf plan.now.algorithm plan.now.b told plan.now.c seeds.now f))) }
+    ensures spilled { IfOk result (λ f. ForSome (D.files disk.old) (λ _. ForSome (P.told keys.old) (λ told. HasSpilled f told.keys (D.spilled disk.old) (D.spilled disk.new)))) }
+    ensures unspilled { UnlessSpilled plan.now.algorithm (D.spilled disk.new ≡ D.spilled disk.old) }
+    ensures valid { IfOk result IsFunction }
+    ensures fault { IfErr result (λ e. ForSome (D.files disk.old) (λ _. ForSome (P.told keys.old) (λ told. FailsFunc plan.now.algorithm plan.now.b told plan.now.c seeds.now e))) }
+    ensures form { IfErr result (λ e. HasFuncForm plan.now.algorithm e) }
+{
+    func_by::<P, D, Brand>(
+        alloc,
+        plan,
+        seeds,
+        Dir { path: dir },
+        keys,
+        disk,
+        Blank::new(1),
+    )
 }

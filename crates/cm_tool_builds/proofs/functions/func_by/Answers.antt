@@ -4,10 +4,10 @@ use Rattle.std.specs.Option.{ForSome}
 use Rattle.std.specs.Result.{IsErrAnd}
 use Rattle.cm_algo_names.specs.declared.algorithm.Algorithm.TheVariants.{Bdz, BdzPh, Chm}
 use Rattle.cm_bits.specs.PackedLaws.{AllBelow-packed_cells}
-use Rattle.cm_tool.proofs.Builds.{bdz_fails, bdz_from, bdz_ph_fails, bdz_ph_from, build_cause, build_form, chm_fails, chm_from}
-use Rattle.cm_tool.specs.Faults.{FailsFunc, HasStopForm, stop_for}
-use Rattle.cm_tool.specs.declared.fault.FuncFault.{FuncFault}
-use Rattle.cm_tool.proofs.functions.func_of.Goals as goal
+use Rattle.cm_tool_builds.proofs.Builds.{bdz_fails, bdz_from, bdz_ph_fails, bdz_ph_from, build_cause, build_form, chm_fails, chm_from}
+use Rattle.cm_tool_builds.specs.Faults.{FailsFunc, HasFuncForm}
+use Rattle.cm_tool_builds.specs.declared.fault.FuncFault.{FuncFault}
+use Rattle.cm_tool_builds.proofs.functions.func_by.Goals as goal
 
 pub returns-in_ok-built-in-Chm-clause-made : goal.returns-in_ok-built-in-Chm-clause-made
 returns-in_ok-built-in-Chm-clause-made g c = rw c.in-Chm.is (λ _ _ told is.
@@ -83,18 +83,18 @@ returns-in_err-built-in-Chm-clause-cause g c = build_cause _ _ _ _ _ _ c.from_re
 
 pub returns-in_err-built-in-Chm-clause-form : goal.returns-in_err-built-in-Chm-clause-form
 returns-in_err-built-in-Chm-clause-form g c =
-    rw c.in-Chm.is (same_fault _ _ (λ e. HasStopForm Chm (stop_for e)) c.from_residual.ensures.1 (build_form Chm _ _ _ tt (λ first again change. change) c.in_err-built-in-Chm.ensures.numbers c.in_err-built-in-Chm.ensures.certificate))
+    rw c.in-Chm.is (same_fault _ _ (λ e. HasFuncForm Chm e) c.from_residual.ensures.1 (build_form Chm _ _ _ tt (λ first again change. change) c.in_err-built-in-Chm.ensures.numbers c.in_err-built-in-Chm.ensures.certificate))
 
 pub returns-in_err-built-in-Bdz-clause-cause : goal.returns-in_err-built-in-Bdz-clause-cause
 returns-in_err-built-in-Bdz-clause-cause g c = build_cause _ _ _ _ _ _ c.from_residual-in_err-built-in-Bdz.ensures.1 c.in_err-built-in-Bdz.ensures.cause
 
 pub returns-in_err-built-in-Bdz-clause-form : goal.returns-in_err-built-in-Bdz-clause-form
 returns-in_err-built-in-Bdz-clause-form g c =
-    rw c.in-Bdz.is (same_fault _ _ (λ e. HasStopForm Bdz (stop_for e)) c.from_residual-in_err-built-in-Bdz.ensures.1 (build_form Bdz _ _ _ tt (λ first again change. change) c.in_err-built-in-Bdz.ensures.numbers c.in_err-built-in-Bdz.ensures.certificate))
+    rw c.in-Bdz.is (same_fault _ _ (λ e. HasFuncForm Bdz e) c.from_residual-in_err-built-in-Bdz.ensures.1 (build_form Bdz _ _ _ tt (λ first again change. change) c.in_err-built-in-Bdz.ensures.numbers c.in_err-built-in-Bdz.ensures.certificate))
 
 pub returns-in_err-built-in-BdzPh-clause-cause : goal.returns-in_err-built-in-BdzPh-clause-cause
 returns-in_err-built-in-BdzPh-clause-cause g c = build_cause _ _ _ _ _ _ c.from_residual-in_err-built-in-BdzPh.ensures.1 c.in_err-built-in-BdzPh.ensures.cause
 
 pub returns-in_err-built-in-BdzPh-clause-form : goal.returns-in_err-built-in-BdzPh-clause-form
 returns-in_err-built-in-BdzPh-clause-form g c =
-    rw c.in-BdzPh.is (same_fault _ _ (λ e. HasStopForm BdzPh (stop_for e)) c.from_residual-in_err-built-in-BdzPh.ensures.1 (build_form BdzPh _ _ _ tt (λ first again change. change) c.in_err-built-in-BdzPh.ensures.numbers c.in_err-built-in-BdzPh.ensures.certificate))
+    rw c.in-BdzPh.is (same_fault _ _ (λ e. HasFuncForm BdzPh e) c.from_residual-in_err-built-in-BdzPh.ensures.1 (build_form BdzPh _ _ _ tt (λ first again change. change) c.in_err-built-in-BdzPh.ensures.numbers c.in_err-built-in-BdzPh.ensures.certificate))

@@ -1,6 +1,6 @@
 //! Why there is no function of the keys of a pass.
 ghost use Rattle.std.specs.Prelude.{◌≡◌};
-ghost use Rattle.cm_tool.specs.Faults.{fault_from_build, fault_from_brz};
+ghost use Rattle.cm_tool_builds.specs.Faults.{fault_from_build, fault_from_brz};
 
 use cm_algo::BuildFault;
 use cm_brz::BrzFault;
@@ -9,7 +9,7 @@ use cm_witness::{Certificate, Pair};
 
 /// Why there is no function of the keys of a pass.
 #[derive(Drop)]
-pub(crate) enum FuncFault {
+pub enum FuncFault {
     /// Out of memory.
     Memory,
     /// There are no keys.
