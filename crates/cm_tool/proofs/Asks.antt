@@ -15,11 +15,11 @@ use Rattle.cm_query.specs.Tallies.{tally_of}
 use Rattle.cm_query.specs.Texts.{notes_of, text_of}
 use Rattle.cm_query.specs.declared.tally.Tally.{Tally}
 use Rattle.cm_tool_files.specs.Asked.{AskedAll, AskedPart, EndsQuery, IsBadDump, Spells, keys_at, keys_or_none}
-use Rattle.cm_tool_files.specs.EndLaws.{says_all}
-use Rattle.cm_tool_files.specs.Ends.{Says, query_message_of, query_status_of}
-use Rattle.cm_tool_files.specs.Messages.{bad_dump}
-use Rattle.cm_tool_files.specs.declared.stop.QueryStop.TheVariants.{Memory, NoFunction, BadDump, Read, Write, TooLong, TooMany}
-use Rattle.cm_tool_files.specs.declared.stop.QueryStop.{QueryStop}
+use Rattle.cm_tool_stops.specs.EndLaws.{says_all}
+use Rattle.cm_tool_stops.specs.Ends.{Says, query_message_of, query_status_of}
+use Rattle.cm_tool_stops.specs.Messages.{bad_dump}
+use Rattle.cm_tool_stops.specs.declared.stop.QueryStop.TheVariants.{Memory, NoFunction, BadDump, Read, Write, TooLong, TooMany}
+use Rattle.cm_tool_stops.specs.declared.stop.QueryStop.{QueryStop}
 use Rattle.cm_tool.specs.Outcome as outcomes
 use Rattle.cm_tool.specs.Outcome.{Outcome, dump_outcome, fault_message, job_outcome, keys_in, loaded_outcome, noted_status, query_over, refusal}
 use Rattle.cm_tool.specs.Run.{IsCutShort, IsQueryMessage, LacksFile, Reaches}

@@ -7,7 +7,7 @@ use Rattle.cm_io.specs.Causes.{IsSent}
 use Rattle.cm_io.specs.Writing.{then_bytes}
 use Rattle.cm_io.specs.WritingLaws.{then_nothing}
 use Rattle.cm_spec.specs.Lists.{has}
-use Rattle.cm_tool_files.specs.Ends.{usage_status_of}
+use Rattle.cm_tool_stops.specs.Ends.{usage_status_of}
 use Rattle.cm_tool.specs.Run.{ForBuild, ForQuery, ForTest, ForText, UnlessBrz, UnlessBuild, UnlessJob, UnlessQuery, UnlessTest}
 use Rattle.cm_tool_builds.specs.Spills.{UnlessSpilled}
 use Rattle.cm_words.specs.Options.{Read as Reading}

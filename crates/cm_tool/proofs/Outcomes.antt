@@ -8,12 +8,12 @@ use Rattle.cm_io.specs.Files.{Files, file_at, with_file}
 use Rattle.cm_io.specs.declared.key_pass.KeyFault.{KeyFault}
 use Rattle.cm_io.specs.declared.key_pass.KeyFault.TheVariants as key_fault
 use Rattle.cm_io.specs.WritingLaws.{then_nothing}
-use Rattle.cm_tool_files.specs.Ends.{Says, message_of, status_of}
-use Rattle.cm_tool_files.specs.Messages.{built_message, no_keys, seed_failure_message}
-use Rattle.cm_tool_files.specs.declared.built.Summary.{Summary}
+use Rattle.cm_tool_stops.specs.Ends.{Says, message_of, status_of}
+use Rattle.cm_tool_stops.specs.Messages.{built_message, no_keys, seed_failure_message}
+use Rattle.cm_tool_stops.specs.declared.built.Summary.{Summary}
 use Rattle.cm_func.specs.declared.failure.SeedFailure.{SeedFailure}
-use Rattle.cm_tool_files.specs.declared.stop.Stop.TheVariants.{Memory, Read, Write, WriteOut, Refused, Changed, Spill, SpillDamaged, NoKeys, TooLong, TooMany}
-use Rattle.cm_tool_files.specs.declared.stop.Stop.{Stop}
+use Rattle.cm_tool_stops.specs.declared.stop.Stop.TheVariants.{Memory, Read, Write, WriteOut, Refused, Changed, Spill, SpillDamaged, NoKeys, TooLong, TooMany}
+use Rattle.cm_tool_stops.specs.declared.stop.Stop.{Stop}
 use Rattle.cm_tool_builds.specs.Faults.{HasNone}
 use Rattle.cm_tool.specs.Stops.{HasStopForm}
 use Rattle.cm_tool.specs.Jobs.{result_of, seeds_tried}

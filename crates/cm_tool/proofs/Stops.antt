@@ -7,9 +7,9 @@ use Rattle.cm_io.specs.Causes.{Collects}
 use Rattle.cm_io.specs.Files.{Files, file_at, with_file}
 use Rattle.cm_io.specs.Passes.{Told}
 use Rattle.cm_io.specs.declared.key_pass.KeyFault.TheVariants as key_fault
-use Rattle.cm_tool_files.specs.EndLaws.{collected}
-use Rattle.cm_tool_files.specs.declared.stop.Stop.TheVariants.{Memory, Read, Write, WriteOut, Refused, Changed, Spill, SpillDamaged, NoKeys, TooLong, TooMany}
-use Rattle.cm_tool_files.specs.declared.stop.Stop.{Stop}
+use Rattle.cm_tool_stops.specs.EndLaws.{collected}
+use Rattle.cm_tool_stops.specs.declared.stop.Stop.TheVariants.{Memory, Read, Write, WriteOut, Refused, Changed, Spill, SpillDamaged, NoKeys, TooLong, TooMany}
+use Rattle.cm_tool_stops.specs.declared.stop.Stop.{Stop}
 use Rattle.cm_tool_builds.specs.Faults.{FailsFunc, HasFuncCause, HasFuncForm, HasNone, IsSeedFailureBy, shown_core, shown_overfull}
 use Rattle.cm_tool.specs.Stops.{HasStopForm}
 use Rattle.cm_tool.specs.Jobs.{seeds_tried}

@@ -21,10 +21,10 @@ use Rattle.cm_spec.specs.declared.limits.TheConstants.{MAX_KEYS}
 use Rattle.cm_query.specs.Stops.{StopsAt}
 use Rattle.cm_query.specs.Sums.{answer_sum}
 use Rattle.cm_query.specs.declared.fault.QueryFault.TheVariants.{Key}
-use Rattle.cm_tool_files.specs.Ends.{Says, message_of, status_of}
-use Rattle.cm_tool_files.specs.Messages.{seed_failure_message}
-use Rattle.cm_tool_files.specs.declared.stop.Stop.TheVariants.{Memory, Read, Write, WriteOut, Refused, Changed, Spill, SpillDamaged, NoKeys, TooLong, TooMany}
-use Rattle.cm_tool_files.specs.declared.stop.Stop.{Stop}
+use Rattle.cm_tool_stops.specs.Ends.{Says, message_of, status_of}
+use Rattle.cm_tool_stops.specs.Messages.{seed_failure_message}
+use Rattle.cm_tool_stops.specs.declared.stop.Stop.TheVariants.{Memory, Read, Write, WriteOut, Refused, Changed, Spill, SpillDamaged, NoKeys, TooLong, TooMany}
+use Rattle.cm_tool_stops.specs.declared.stop.Stop.{Stop}
 use Rattle.cm_tool_builds.specs.Faults.{FailsFunc, HasFuncCause, HasFuncForm, IsChangeBy, IsSeedFailureBy, UsesSpill, shown_core, shown_overfull}
 use Rattle.cm_tool.specs.Stops.{HasStopForm, stop_for}
 use Rattle.cm_tool.specs.Jobs.{seeds_of}

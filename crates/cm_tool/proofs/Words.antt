@@ -4,10 +4,10 @@ use Rattle.cm_algo_names.specs.declared.algorithm.Algorithm.TheVariants.{Chm}
 use Rattle.cm_io.specs.Files.{Files}
 use Rattle.cm_io.specs.Writing.{then_bytes}
 use Rattle.cm_io.specs.WritingLaws.{then_nothing}
-use Rattle.cm_tool_files.specs.Ends.{Says, usage_status_of}
-use Rattle.cm_tool_files.specs.Messages.{out_of_memory, usage_message}
-use Rattle.cm_tool_files.specs.declared.stop.QueryStop.TheVariants as query_stop
-use Rattle.cm_tool_files.specs.declared.stop.Stop.TheVariants as stop
+use Rattle.cm_tool_stops.specs.Ends.{Says, usage_status_of}
+use Rattle.cm_tool_stops.specs.Messages.{out_of_memory, usage_message}
+use Rattle.cm_tool_stops.specs.declared.stop.QueryStop.TheVariants as query_stop
+use Rattle.cm_tool_stops.specs.declared.stop.Stop.TheVariants as stop
 use Rattle.cm_tool.specs.Outcome.{Outcome, job_outcome, printing, refusal}
 use Rattle.cm_tool.specs.Run.{ForQuery, ForTest, IsCutShort, IsMessage, IsStatus, LacksFile, Reaches, UnlessQuery, UnlessTest}
 use Rattle.cm_tool.specs.TestEnds.{GotPrefix}

@@ -1,7 +1,7 @@
 -- What a job comes to.
 use Rattle.std.specs.Prelude.{ℕ, List, []}
 use Rattle.cm_io.specs.Files.{Files}
-use Rattle.cm_tool_files.specs.Messages.{seed_failure_message}
+use Rattle.cm_tool_stops.specs.Messages.{seed_failure_message}
 use Rattle.cm_tool_builds.specs.Results.{FailureReport}
 
 -- the status, what out and err get, and the files that are left

@@ -9,10 +9,10 @@ use Rattle.cm_io.specs.Files.{Files, file_at, with_file}
 use Rattle.cm_io.specs.Passes.{Told}
 use Rattle.cm_io.specs.Writing.{then_bytes}
 use Rattle.cm_io.specs.declared.key_pass.KeyFault.TheVariants as key_fault
-use Rattle.cm_tool_files.specs.Summaries.{summary_of}
-use Rattle.cm_tool_files.specs.declared.built.Summary.{Summary}
-use Rattle.cm_tool_files.specs.declared.stop.Stop.TheVariants.{Memory, Read, Write, WriteOut, Refused, Spill, NoKeys, TooLong, TooMany}
-use Rattle.cm_tool_files.specs.declared.stop.Stop.{Stop}
+use Rattle.cm_tool_stops.specs.Summaries.{summary_of}
+use Rattle.cm_tool_stops.specs.declared.built.Summary.{Summary}
+use Rattle.cm_tool_stops.specs.declared.stop.Stop.TheVariants.{Memory, Read, Write, WriteOut, Refused, Spill, NoKeys, TooLong, TooMany}
+use Rattle.cm_tool_stops.specs.declared.stop.Stop.{Stop}
 use Rattle.cm_tool_builds.specs.Faults.{HasNone, shown_core, shown_overfull}
 use Rattle.cm_tool_builds.specs.FuncOf.{IsFuncOf}
 use Rattle.cm_tool.specs.Stops.{stop_for}

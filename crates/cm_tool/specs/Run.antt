@@ -16,10 +16,10 @@ use Rattle.cm_io.specs.Files.{Files, file_at, with_file}
 use Rattle.cm_io.specs.Writing.{then_bytes}
 use Rattle.cm_spec.specs.Lists.{has}
 use Rattle.cm_tool_files.specs.Asked.{AskedPart, GotNothing, Spells, keys_at}
-use Rattle.cm_tool_files.specs.Ends.{IsPrintMessage, Says}
-use Rattle.cm_tool_files.specs.Messages.{bad_dump, built_message, out_of_memory, cannot_read, cannot_use_spill, cannot_write, cannot_write_out, keys_changed, no_keys, line_too_long, seed_failure_message, spill_damaged, too_many_keys, usage_message}
-use Rattle.cm_tool_files.specs.Texts.{help_text, version_text}
-use Rattle.cm_tool_files.specs.declared.built.Summary.{Summary}
+use Rattle.cm_tool_stops.specs.Ends.{IsPrintMessage, Says}
+use Rattle.cm_tool_stops.specs.Messages.{bad_dump, built_message, out_of_memory, cannot_read, cannot_use_spill, cannot_write, cannot_write_out, keys_changed, no_keys, line_too_long, seed_failure_message, spill_damaged, too_many_keys, usage_message}
+use Rattle.cm_tool_stops.specs.Texts.{help_text, version_text}
+use Rattle.cm_tool_stops.specs.declared.built.Summary.{Summary}
 use Rattle.cm_func.specs.declared.failure.SeedFailure.{SeedFailure}
 use Rattle.cm_tool_builds.specs.Faults.{IsChangeBy, IsSeedFailureBy, UsesSpill}
 use Rattle.cm_tool.specs.Jobs.{seeds_tried}

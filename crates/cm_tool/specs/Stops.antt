@@ -7,8 +7,8 @@ use Rattle.cm_io.specs.declared.key_pass.KeyFault.TheVariants as key_fault
 use Rattle.cm_tool_builds.specs.Faults.{IsChangeBy, IsSeedFailureBy, UsesSpill, seed_failure_of}
 use Rattle.cm_tool_builds.specs.declared.fault.FuncFault.{FuncFault}
 use Rattle.cm_tool_builds.specs.declared.fault.FuncFault.TheVariants.{Memory, NoKeys, Cored, Overfull, Key, Changed, Spill, SpillDamaged}
-use Rattle.cm_tool_files.specs.declared.stop.Stop.{Stop}
-use Rattle.cm_tool_files.specs.declared.stop.Stop.TheVariants as stops
+use Rattle.cm_tool_stops.specs.declared.stop.Stop.{Stop}
+use Rattle.cm_tool_stops.specs.declared.stop.Stop.TheVariants as stops
 
 -- why a failed pass stops a job
 abbrev pub stop_from_key : KeyFault → Stop

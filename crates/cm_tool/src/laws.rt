@@ -1,7 +1,7 @@
 //! A law of builds. Its body calls the laws that it follows from, and does nothing else.
 ghost use Rattle.std.specs.Prelude.{◌≡◌, ℕ, List, Option, Ok, Some};
 ghost use Rattle.cm_io.specs.Files.{Files};
-ghost use Rattle.cm_tool_files.specs.declared.built.Summary.{Summary};
+ghost use Rattle.cm_tool_stops.specs.declared.built.Summary.{Summary};
 ghost use Rattle.cm_tool.specs.Leaves.{Leaves};
 ghost use Rattle.cm_tool.specs.Run.{SavedNumbers};
 ghost use Rattle.cm_words.specs.Limits.{IsBuild};

@@ -10,4 +10,4 @@ mod top;
 
 pub use crate::top::run;
 pub use cm_keys_made::MadeKeys;
-pub use cm_tool_files::{print_help, print_version, report_no_memory};
+pub use cm_tool_stops::{print_help, print_version, report_no_memory};

@@ -2,14 +2,15 @@
 ghost use Rattle.std.specs.Prelude.{◌≡◌, ◌≢◌, ◌<◌, ◌≤◌, ◌^◌, ◌⊎◌, ◌↔◌, ◌+◌, ◌++◌, ℕ, List, Ok, Err, None};
 ghost use Rattle.std.specs.Option.{ForSome};
 ghost use Rattle.cm_io.specs.Causes.{IsSent};
-ghost use Rattle.cm_tool_files.specs.Ends.{Says};
+ghost use Rattle.cm_tool_stops.specs.Ends.{Says};
 ghost use Rattle.cm_tool.specs.Outcome.{job_outcome};
 ghost use Rattle.cm_tool.specs.Run.{IsCutShort, IsQueryMessage, IsStatus, LacksFile, Reaches};
 ghost use Rattle.cm_words.specs.declared.jobs.Job.TheVariants.{Query};
 
 use cm_io::{Disk, Notes, Sink};
 use cm_query::{Tally, noted_exactly};
-use cm_tool_files::{answer_file, report_query};
+use cm_tool_files::answer_file;
+use cm_tool_stops::report_query;
 use cm_words::QueryJob;
 use std::alloc::Global;
 

@@ -4,7 +4,7 @@ ghost use Rattle.std.specs.Option.{ForSome};
 ghost use Rattle.cm_algo_names.specs.declared.algorithm.Algorithm.TheVariants.{Brz};
 ghost use Rattle.cm_io.specs.Causes.{IsSent};
 ghost use Rattle.cm_io.specs.Writing.{then_bytes};
-ghost use Rattle.cm_tool_files.specs.Ends.{Says};
+ghost use Rattle.cm_tool_stops.specs.Ends.{Says};
 ghost use Rattle.cm_tool.specs.Outcome.{outcome_of};
 ghost use Rattle.cm_tool.specs.Run.{IsStatus, ForBuild, ForQuery, ForTest, ForText, IfBuild, IsEmptied, UnlessBrz, UnlessBuild, UnlessJob, UnlessQuery, UnlessTest, LacksFile, Reaches, TookFirst, SavedNumbers, KeysSpilled, IsCored, IsUnfinished, IsCutShort, IsMessage};
 ghost use Rattle.cm_tool.specs.Spills.{TestSpilled};
@@ -16,7 +16,7 @@ use crate::building::run_build;
 use crate::querying::run_query;
 use crate::testing::run_test;
 use cm_io::{Disk, Sink};
-use cm_tool_files::{end_of_text, print_help, print_version, report_usage};
+use cm_tool_stops::{end_of_text, print_help, print_version, report_usage};
 use cm_words::{Job, read_words};
 use std::alloc::Global;
 

@@ -18,9 +18,9 @@ use Rattle.cm_query.specs.declared.fault.QueryFault.{QueryFault}
 use Rattle.cm_query.specs.declared.fault.QueryFault.TheVariants as query_fault
 use Rattle.cm_query.specs.declared.tally.Tally.{Tally}
 use Rattle.cm_tool_files.specs.Asked.{EndsKeys, EndsQuery, IsStopCause, RefusesDump, Spells, keys_at, keys_in, keys_or_none, stop_from_load, stop_from_query}
-use Rattle.cm_tool_files.specs.EndLaws.{collected}
-use Rattle.cm_tool_files.specs.declared.stop.QueryStop.{QueryStop}
-use Rattle.cm_tool_files.specs.declared.stop.QueryStop.TheVariants.{Memory, NoFunction, BadDump, Read, Write, TooLong, TooMany}
+use Rattle.cm_tool_stops.specs.EndLaws.{collected}
+use Rattle.cm_tool_stops.specs.declared.stop.QueryStop.{QueryStop}
+use Rattle.cm_tool_stops.specs.declared.stop.QueryStop.TheVariants.{Memory, NoFunction, BadDump, Read, Write, TooLong, TooMany}
 use Rattle.cm_words.specs.declared.jobs.QueryJob.{QueryJob}
 
 -- a refused pass, by the bytes of the keys file

@@ -1,2 +1,1 @@
 mod Asks
-mod Prints

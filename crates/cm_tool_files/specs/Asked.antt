@@ -19,8 +19,8 @@ use Rattle.cm_query.specs.Texts.{notes_of, text_of}
 use Rattle.cm_query.specs.declared.fault.QueryFault.{QueryFault}
 use Rattle.cm_query.specs.declared.fault.QueryFault.TheVariants as query_fault
 use Rattle.cm_query.specs.declared.tally.Tally.{Tally}
-use Rattle.cm_tool_files.specs.declared.stop.QueryStop.{QueryStop}
-use Rattle.cm_tool_files.specs.declared.stop.QueryStop.TheVariants.{Memory, NoFunction, BadDump, Read, Write, TooLong, TooMany}
+use Rattle.cm_tool_stops.specs.declared.stop.QueryStop.{QueryStop}
+use Rattle.cm_tool_stops.specs.declared.stop.QueryStop.TheVariants.{Memory, NoFunction, BadDump, Read, Write, TooLong, TooMany}
 use Rattle.cm_words.specs.declared.jobs.QueryJob.{QueryJob}
 
 -- which counts a query that stopped has raised: the disk's of reading and of writing, and that of out

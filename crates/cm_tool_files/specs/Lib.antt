@@ -1,7 +1,2 @@
-pub mod Summaries
-pub mod Messages
-pub mod Texts
-pub mod Ends
-pub mod EndLaws
 pub mod Stores
 pub mod Asked

@@ -4,13 +4,13 @@ ghost use Rattle.std.specs.Option.{ForSome};
 ghost use Rattle.cm_io.specs.Causes.{IsSent};
 ghost use Rattle.cm_io.specs.Noting.{Noted};
 ghost use Rattle.cm_tool_files.specs.Asked.{EndsQuery, HasQueryStopCause};
-ghost use Rattle.cm_tool_files.specs.declared.stop.QueryStop.{QueryStop};
+ghost use Rattle.cm_tool_stops.specs.declared.stop.QueryStop.{QueryStop};
 
 use crate::asking::ask_keys;
 use crate::loading::load_file;
-use crate::stop::QueryStop;
 use cm_io::{Disk, Notes, Sink};
 use cm_query::Tally;
+use cm_tool_stops::QueryStop;
 use cm_words::QueryJob;
 use std::alloc::Global;
 

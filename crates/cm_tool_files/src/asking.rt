@@ -5,14 +5,14 @@ ghost use Rattle.cm_func.specs.Functions.{answer_by};
 ghost use Rattle.cm_io.specs.Causes.{IsSent};
 ghost use Rattle.cm_io.specs.Noting.{Noted};
 ghost use Rattle.cm_tool_files.specs.Asked.{EndsKeys, HasQueryStopCause, stop_from_query};
-ghost use Rattle.cm_tool_files.specs.declared.stop.QueryStop.{QueryStop};
+ghost use Rattle.cm_tool_stops.specs.declared.stop.QueryStop.{QueryStop};
 ghost use Rattle.cm_words.specs.declared.jobs.QueryJob.{QueryJob};
 
-use crate::stop::QueryStop;
 use cm_dump::Func;
 use cm_io::{Disk, DiskFault, KeyFault, Notes, Sink};
 use cm_keys::Keys;
 use cm_query::{QueryFault, Tally, query};
+use cm_tool_stops::QueryStop;
 use cm_words::QueryJob;
 use std::alloc::Global;
 

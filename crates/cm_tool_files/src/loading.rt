@@ -3,9 +3,9 @@ ghost use Rattle.std.specs.Prelude.{◌≡◌, ℕ, IfOk, IfErr};
 ghost use Rattle.std.specs.Option.{ForSome};
 ghost use Rattle.cm_tool_files.specs.Asked.{HasQueryStopCause, RefusesDump, Spells, stop_from_load};
 
-use crate::stop::QueryStop;
 use cm_dump::{Func, LoadFault, load};
 use cm_io::{Disk, DiskFault};
+use cm_tool_stops::QueryStop;
 use std::alloc::Global;
 
 /// Why a failed load stops a query.

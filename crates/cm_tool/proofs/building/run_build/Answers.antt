@@ -1,6 +1,6 @@
 use Rattle.std.proofs.Common.{◌≡◌, ◌∙◌, None, arith, refl, sym}
-use Rattle.cm_tool_files.specs.Ends.{message_of}
-use Rattle.cm_tool_files.specs.Messages.{built_message}
+use Rattle.cm_tool_stops.specs.Ends.{message_of}
+use Rattle.cm_tool_stops.specs.Messages.{built_message}
 use Rattle.cm_tool.proofs.Clauses.{not_risen}
 use Rattle.cm_tool.proofs.Outcomes.{built_is, emptied, finished, is_cored, message_is, missing, neither, none_saved, stop_failed, stop_kept, stop_known, stop_quiet, stop_read, stop_status, stop_write, stopped, took_first, written_part}
 use Rattle.cm_tool.proofs.building.run_build.Goals as goal

@@ -1,7 +1,7 @@
 use Rattle.std.proofs.Common.{[], ◌∙◌}
 use Rattle.cm_io.specs.NotingLaws.{noted_first, noted_next}
-use Rattle.cm_tool_files.specs.EndLaws.{says_all}
-use Rattle.cm_tool_files.specs.Ends.{query_message_of}
+use Rattle.cm_tool_stops.specs.EndLaws.{says_all}
+use Rattle.cm_tool_stops.specs.Ends.{query_message_of}
 use Rattle.cm_tool.proofs.Asks.{answered_is, cut_short, lacking, query_done, query_message_is, query_stopped, says_more}
 use Rattle.cm_tool.proofs.querying.run_query.Goals as goal
 

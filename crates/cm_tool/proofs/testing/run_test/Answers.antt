@@ -1,5 +1,5 @@
 use Rattle.std.proofs.Common.{[], ◌∙◌, sym}
-use Rattle.cm_tool_files.specs.Ends.{message_of}
+use Rattle.cm_tool_stops.specs.Ends.{message_of}
 use Rattle.cm_tool.specs.TestEnds.{test_name}
 use Rattle.cm_tool.specs.Tested.{test_outcome}
 use Rattle.cm_tool.proofs.Outcomes.{nothing_said, stop_failed, stop_write}

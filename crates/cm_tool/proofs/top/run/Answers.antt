@@ -1,6 +1,6 @@
 use Rattle.std.proofs.Common.{[], ◌≡◌, ◌∙◌, Ok, ap, arith, sym, refl, inl, inr}
-use Rattle.cm_tool_files.specs.Messages.{usage_message}
-use Rattle.cm_tool_files.specs.Texts.{help_text, version_text}
+use Rattle.cm_tool_stops.specs.Messages.{usage_message}
+use Rattle.cm_tool_stops.specs.Texts.{help_text, version_text}
 use Rattle.cm_tool.specs.Outcome.{job_outcome}
 use Rattle.cm_tool.proofs.Clauses.{any_build, for_build, for_query, for_test, for_text, not_brz, not_build, not_job, not_query, not_risen, not_seven, not_test, out_alone, sent_none, text_is, text_unsent, unless_brz, unless_build, unless_job, usage_is}
 use Rattle.cm_tool.proofs.Words.{early_tested, printed, says_none, text_missing, text_status, unless_query, unless_test, usage_cut, usage_missing, usage_outcome, usage_said, usage_status}

@@ -1,0 +1,33 @@
+use Rattle.std.proofs.Common.{rules, ◌≡◌}
+use Rattle.cm_tool_stops.proofs.reporting.explain_query.Goals as goal
+
+pub returns-in-Memory-clause-noted : goal.returns-in-Memory-clause-noted
+returns-in-Memory-clause-noted g c = rw c.in-Memory.is c.note_want_of_memory.ensures.noted
+
+pub returns-in-NoFunction-clause-noted : goal.returns-in-NoFunction-clause-noted
+returns-in-NoFunction-clause-noted g c =
+    let function : c.as_bytes-function.result.now ≡ c.args.job.now.function = search rules in
+    rw c.in-NoFunction.is (rw function at c.note_unread.ensures.noted)
+
+pub returns-in-BadDump-clause-noted : goal.returns-in-BadDump-clause-noted
+returns-in-BadDump-clause-noted g c =
+    let function : c.as_bytes-function.result.now ≡ c.args.job.now.function = search rules in
+    rw c.in-BadDump.is (rw function at c.explain_dump.ensures.noted)
+
+pub returns-in-Read-clause-noted : goal.returns-in-Read-clause-noted
+returns-in-Read-clause-noted g c =
+    let keys : c.as_bytes-keys.result.now ≡ c.args.job.now.keys = search rules in
+    rw c.in-Read.is (rw keys at c.note_unread-in-Read.ensures.noted)
+
+pub returns-in-Write-clause-noted : goal.returns-in-Write-clause-noted
+returns-in-Write-clause-noted g c = rw c.in-Write.is c.note_out_fault.ensures.noted
+
+pub returns-in-TooLong-clause-noted : goal.returns-in-TooLong-clause-noted
+returns-in-TooLong-clause-noted g c =
+    let keys : c.as_bytes-keys.result.now ≡ c.args.job.now.keys = search rules in
+    rw c.in-TooLong.is (rw keys at c.note_long_line.ensures.noted)
+
+pub returns-in-TooMany-clause-noted : goal.returns-in-TooMany-clause-noted
+returns-in-TooMany-clause-noted g c =
+    let keys : c.as_bytes-keys.result.now ≡ c.args.job.now.keys = search rules in
+    rw c.in-TooMany.is (rw keys at c.note_many_keys.ensures.noted)

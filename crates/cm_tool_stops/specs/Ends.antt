@@ -1,0 +1,77 @@
+-- The status and the message of a job that stopped.
+use Rattle.std.specs.Prelude.{◌≡◌, ◌<◌, ◌^◌, ℕ, List, [], take, Option}
+use Rattle.cm_io.specs.Writing.{then_bytes}
+use Rattle.cm_tool_stops.specs.Messages.{bad_dump, cannot_write_out, out_of_memory, cannot_read, cannot_use_spill, cannot_write, keys_changed, no_keys, line_too_long, seed_failure_message, spill_damaged, too_many_keys}
+use Rattle.cm_tool_stops.specs.declared.stop.QueryStop.{QueryStop}
+use Rattle.cm_tool_stops.specs.declared.stop.QueryStop.TheVariants as query_stop
+use Rattle.cm_tool_stops.specs.declared.stop.Stop.{Stop}
+use Rattle.cm_tool_stops.specs.declared.stop.Stop.TheVariants.{Memory, Read, Write, WriteOut, Refused, Changed, Spill, SpillDamaged, NoKeys, TooLong, TooMany}
+use Rattle.cm_words.specs.declared.fault.UsageFault.{UsageFault}
+use Rattle.cm_words.specs.declared.fault.UsageFault.TheVariants as usage
+use Rattle.cm_words.specs.declared.jobs.QueryJob.{QueryJob}
+
+-- the status of a build that stopped
+abbrev pub status_of : Stop → ℕ
+status_of Memory = 6
+status_of Read = 4
+status_of Write = 5
+status_of WriteOut = 5
+status_of (Refused failure) = 1
+status_of (Changed first again) = 7
+status_of Spill = 5
+status_of (SpillDamaged offset expected found) = 7
+status_of NoKeys = 8
+status_of (TooLong line) = 8
+status_of TooMany = 8
+
+-- its message, by the paths of the keys file and of the function file and by the directory of the spill
+abbrev pub message_of : List ℕ → List ℕ → List ℕ → Stop → List ℕ
+message_of keys function dir Memory = out_of_memory
+message_of keys function dir Read = cannot_read keys
+message_of keys function dir Write = cannot_write function
+message_of keys function dir WriteOut = cannot_write_out
+message_of keys function dir (Refused failure) = seed_failure_message failure
+message_of keys function dir (Changed first again) = keys_changed keys first again
+message_of keys function dir Spill = cannot_use_spill dir
+message_of keys function dir (SpillDamaged offset expected found) = spill_damaged dir offset expected found
+message_of keys function dir NoKeys = no_keys keys
+message_of keys function dir (TooLong line) = line_too_long keys line
+message_of keys function dir TooMany = too_many_keys keys
+
+-- the status of a query that stopped
+abbrev pub query_status_of : QueryStop → ℕ
+query_status_of query_stop.Memory = 6
+query_status_of query_stop.NoFunction = 4
+query_status_of (query_stop.BadDump fault) = 3
+query_status_of query_stop.Read = 4
+query_status_of query_stop.Write = 5
+query_status_of (query_stop.TooLong line) = 8
+query_status_of query_stop.TooMany = 8
+
+-- its message
+abbrev pub query_message_of : QueryJob → QueryStop → List ℕ
+query_message_of job query_stop.Memory = out_of_memory
+query_message_of job query_stop.NoFunction = cannot_read job.function
+query_message_of job (query_stop.BadDump fault) = bad_dump job.function fault
+query_message_of job query_stop.Read = cannot_read job.keys
+query_message_of job query_stop.Write = cannot_write_out
+query_message_of job (query_stop.TooLong line) = line_too_long job.keys line
+query_message_of job query_stop.TooMany = too_many_keys job.keys
+
+-- the status of arguments that ask for no job
+abbrev pub usage_status_of : UsageFault → ℕ
+usage_status_of usage.Memory = 6
+usage_status_of usage.Words = 2
+usage_status_of (usage.BadValue letter) = 2
+usage_status_of usage.NoFile = 2
+
+-- the message of a text that is printed, by its status
+pub record IsPrintMessage (status : ℕ) (text : List ℕ) : Type 0 where
+  pub done : status ≡ 0 → text ≡ []
+  pub write : status ≡ 5 → text ≡ cannot_write_out
+  pub memory : status ≡ 6 → text ≡ out_of_memory
+
+-- err got the text, or a prefix of it if its own count rose
+pub record Says (text : List ℕ) (old new : Option (List ℕ)) (before now : ℕ) : Type 0 where
+  pub front : (n : ℕ) × (new ≡ then_bytes old (take n text))
+  pub whole : before < 2 ^ 63 → now ≡ before → new ≡ then_bytes old text
