@@ -1,4 +1,4 @@
--- Laws of what the calls of a disk make of its files.
+-- Lemmas about what the calls of a disk make of its files.
 use Rattle.std.proofs.Common.{◌≡◌, ℕ, zero, suc, length, arith, List, [], ◌∷◌, take, Bool, true, false, cond, Option, None, Some, Result, Ok, Err, unwrap_or, refl, sym, ◌∙◌, ap, subst}
 use Rattle.std.specs.Prelude.{is_some}
 use Rattle.std.specs.Option.{ForSome}

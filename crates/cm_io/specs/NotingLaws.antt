@@ -1,4 +1,4 @@
--- Laws of notes to one sink, one after another.
+-- Lemmas about notes to one sink, one after another.
 use Rattle.std.proofs.Common.{◌≡◌, ℕ, ◌+◌, ◌<◌, ◌≤◌, ◌^◌, min, List, [], ◌++◌, length, take, Bool, true, false, Option, inl, inr, refl, sym, ◌∙◌, ap, arith}
 use Rattle.std.proofs.lemmas.Bool.{false≢true}
 use Rattle.std.proofs.lemmas.List.{take_min, take_all, take-append-le}

@@ -1,3 +1,4 @@
+//! What a disk is.
 ghost use Rattle.std.specs.Prelude.{◌≡◌, ℕ, List, [], Option, Some, IfOk};
 ghost use Rattle.std.specs.Option.{ForSome};
 ghost use Rattle.cm_io.specs.Causes.{HasDiskCause, Collects, HasCloseCause};

@@ -1,4 +1,4 @@
-// How calls to the outside fail.
+//! How calls to the outside fail.
 ghost use Rattle.std.specs.Prelude.{◌≡◌};
 ghost use Rattle.cm_io.specs.declared.fault.DiskFault.TheVariants.{Memory, Failed as DiskFailed};
 

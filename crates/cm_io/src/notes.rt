@@ -1,3 +1,4 @@
+//! Messages to a sink that may fail.
 ghost use Rattle.std.specs.Prelude.{◌≡◌, OnOk, false, map};
 ghost use Rattle.cm_io.specs.Causes.{HasCause};
 ghost use Rattle.cm_io.specs.Noting.{Noted};

@@ -1,3 +1,4 @@
+//! What a sink is, and writes of several pieces to one.
 ghost use Rattle.std.specs.Prelude.{◌≡◌, [], ℕ, List, Option, OnOk, map};
 ghost use Rattle.cm_io.specs.Causes.{HasCause};
 ghost use Rattle.cm_io.specs.Writing.{Writes, joined};

@@ -1,4 +1,4 @@
-// A sink in memory, without a buffer.
+//! A sink in memory, without a buffer.
 ghost use Rattle.std.specs.Prelude.{◌≡◌, ◌≤◌, ◌<◌, ◌+◌, ◌-◌, ◌++◌, ◌↔◌, ◌⊎◌, IsTrue, IsErr, IfOk, OnOk, OnErr, Contains, Some, length, take};
 ghost use Rattle.cm_io.specs.Causes.{HasCause, Rose};
 ghost use Rattle.cm_io.specs.Writing.{Writes};

@@ -1,4 +1,4 @@
-// A spill in memory.
+//! A spill in memory.
 ghost use Rattle.std.specs.Prelude.{◌≡◌, ◌≤◌, ◌<◌, ◌-◌, ◌++◌, ◌↔◌, ◌⊎◌, ◌+◌, IsTrue, IsErr, IfOk, OnOk, OnErr, Contains, Some, length, min, take, drop};
 ghost use Rattle.std.specs.Option.{ForSome};
 ghost use Rattle.cm_io.specs.Causes.{HasCause};

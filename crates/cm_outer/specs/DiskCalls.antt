@@ -6,7 +6,8 @@ use denote.Enum.Bare.{sameb}
 use Rattle.cm_outer.specs.declared.disk_call.DiskCall.{DiskCall}
 use Rattle.cm_outer.specs.contracts.disk_call.DiskCall.{the_row, the_type}
 
--- the calls that fail, each by its kind and its number among the calls of that kind, from 0; and how many calls of its own a disk had, by kind
+-- the calls that fail, each by its kind and its number among the calls of that kind, from 0; and how many calls of its own a disk had, by
+-- kind
 pub record DiskCalls : Type 0 where
   pub listed : List (DiskCall × ℕ)
   pub opens : ℕ

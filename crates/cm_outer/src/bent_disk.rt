@@ -1,4 +1,4 @@
-// A disk in memory whose files change and whose spills have a byte that reads wrongly. Its files are not known.
+//! A disk in memory whose files change and whose spills have a byte that reads wrongly. Its files are not known.
 ghost use Rattle.std.specs.Prelude.{◌≡◌, ◌<◌, [], None, Some, IsOk, IfOk, IfErr, length, map, nat_lt, option_copied};
 ghost use Rattle.std.specs.Option.{ForSome};
 ghost use Rattle.cm_io.specs.Causes.{HasDiskCause, Collects, HasCloseCause};

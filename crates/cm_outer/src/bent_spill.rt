@@ -1,4 +1,4 @@
-// A spill in memory with a byte that reads wrongly, whose contents are not known.
+//! A spill in memory with a byte that reads wrongly, whose contents are not known.
 ghost use Rattle.std.specs.Prelude.{◌≡◌, ◌≤◌, ◌<◌, ◌-◌, ◌++◌, ◌↔◌, ◌+◌, IsTrue, IsErr, IsOk, IfOk, OnOk, OnErr, None, length, min, take, drop, slice_set};
 ghost use Rattle.cm_io.specs.Causes.{HasCause};
 ghost use Rattle.cm_io.specs.Writing.{Writes};

@@ -1,4 +1,4 @@
-// The kinds of calls that can be made to fail in a disk in memory.
+//! The kinds of calls that can be made to fail in a disk in memory.
 
 /// A kind of call. The first four are a disk's own; the others are those of each reader, writer and spill that it makes.
 #[derive(Clone, Copy, Debug, PartialEq, Eq)]

@@ -1,5 +1,5 @@
-//! Fakes of what `cm_io` names, in memory: disks, and sources and spills whose contents are not known. What they stand for, and the source, sink
-//! and spill in memory that they are made of, are exported too.
+//! Fakes of what `cm_io` names, in memory: disks, and sources and spills whose contents are not known. What they stand for, and the
+//! source, sink and spill in memory that they are made of, are exported too.
 #![tactic(auto)]
 
 mod bent_disk;

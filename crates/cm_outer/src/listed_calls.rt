@@ -1,4 +1,4 @@
-// The calls that are to fail, each listed by its kind and its number among the calls of that kind, from 0.
+//! The calls that are to fail, each listed by its kind and its number among the calls of that kind, from 0.
 ghost use Rattle.std.specs.Prelude.{◌≡◌, ◌↔◌, IsTrue, IfOk, Contains};
 ghost use Rattle.cm_io.specs.Counts.{counted};
 ghost use Rattle.cm_outer.specs.DiskCalls.{numbers};

@@ -1,4 +1,4 @@
-// Files in memory.
+//! Files in memory.
 ghost use Rattle.std.specs.Prelude.{◌≡◌, OnOk, OnErr, IsOk, IsTrue, position, string_bytes, option_copied};
 ghost use Rattle.std.specs.FinMap as maps;
 ghost use Rattle.std.specs.Str.{bytes_eq};

@@ -1,4 +1,4 @@
-// A source in memory whose contents change and are not known.
+//! A source in memory whose contents change and are not known.
 ghost use Rattle.std.specs.Prelude.{◌≡◌, ◌≤◌, ◌<◌, ◌+◌, ◌-◌, ◌^◌, ◌++◌, IsOk, IfOk, OnOk, None, length, map, min, take, drop};
 ghost use Rattle.cm_io.specs.Causes.{HasCause};
 ghost use Rattle.cm_outer.specs.TurnSources.{new_turns, contents, turned};
