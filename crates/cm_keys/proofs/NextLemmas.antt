@@ -128,7 +128,7 @@ many_gives max longest end first given told told' place place' ready ready' inv 
 pub start_leaves : (max longest end : ℕ) (first : Option ℕ) (told : Option (List ℕ)) (place : ℕ) (ready : List ℕ) → ForSome told (λ _. place ≡ 0) → ready ≡ [] → Leaves max longest end first 0 told place ready
 start_leaves max longest end first told place ready at_start none x is = rw (at_start x is) (rw none (left_first max longest end first x))
 
--- Where no byte is left, the keys have come to their end.
+-- If no byte is left, the keys have come to their end.
 pub none_gives : (max longest end : ℕ) (first : Option ℕ) (given : ℕ) (told told' : Option (List ℕ)) (place place' : ℕ) (ready ready' : List ℕ)
     → Leaves max longest end first given told place ready
     → left_bytes told' place' ready' ≡ left_bytes told place ready → told' ≡ told → ready' ≡ [] → ForSome told' (λ bytes. drop place' bytes ≡ [])

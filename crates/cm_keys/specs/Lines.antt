@@ -22,7 +22,8 @@ looked_at (Some first) lines = take first lines
 abbrev pub with_key : ℕ × List ℕ → Told → Told
 with_key key told = record { keys = key ∷ told.keys; fault = told.fault }
 
--- the lines as keys, numbered from `line` on, up to the first that is at fault: its number is above `max`, or it has more than `longest` bytes
+-- the lines as keys, numbered from `line` on, up to the first that is at fault: its number is above `max`, or it has more than `longest`
+-- bytes
 abbrev pub keys_from : ℕ → ℕ → ℕ → List (List ℕ) → Told
 keys_from max longest line [] = record { keys = []; fault = None }
 keys_from max longest line (p ∷ ps) =

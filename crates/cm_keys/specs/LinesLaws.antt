@@ -1,4 +1,4 @@
--- Worked rows of the keys of a text: 97 is the letter a, 98 is b, 13 and 10 are the carriage return and the line end.
+-- Statements, each proved as a clause of `worked_rows`: the keys of worked texts. 97 is a, 98 is b, 13 and 10 are CR and LF.
 use Rattle.std.specs.Prelude.{◌≡◌, [], ◌∷◌, None, Some}
 use Rattle.cm_io.specs.declared.key_pass.KeyFault.TheVariants.{TooLong, TooMany}
 use Rattle.cm_keys.specs.Lines.{lines_of}

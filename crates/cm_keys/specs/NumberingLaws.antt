@@ -1,4 +1,4 @@
--- What is true of the keys of every text.
+-- What `numbering` proves of the keys of every text: they are numbered from line 1 and keep within their limits.
 use Rattle.std.specs.Prelude.{◌≡◌, ◌<◌, ◌≤◌, ◌+◌, ℕ, List, length, All, Option, None, Some, slice_index_or}
 use Rattle.cm_io.specs.Passes.{Told}
 use Rattle.cm_io.specs.declared.key_pass.KeyFault.{KeyFault}

@@ -1,4 +1,4 @@
--- What makes lists of bytes the lines of a text.
+-- What `splitting` proves of the pieces of every text: they are its lines.
 use Rattle.std.specs.Prelude.{◌≡◌, ◌≢◌, ◌⊎◌, ◌++◌, ◌∷◌, [], ℕ, List, All}
 use Rattle.std.specs.List.{flat_map}
 

@@ -1,4 +1,4 @@
-// A source with a buffer.
+//! A source with a buffer.
 ghost use Rattle.std.specs.Prelude.{◌≡◌, ◌<◌, ◌≤◌, ◌++◌, ◌+◌, ℕ, List, [], ◌∷◌, true, false, Ok, IfOk, IfSome, IfNone, OnOk, length, slice_index, drop};
 ghost use Rattle.std.specs.Int.{bit_at};
 ghost use Rattle.std.specs.Option.{ForSome, option_map};

@@ -30,7 +30,7 @@ pub pair_is : (p : ℕ) → p < 100 → (get_or PAIRS (2 * p) 0 ≡ digit_at p 1
 unfolding are_pairs
 pair_is p lt = pair_below 100 p refl lt
 
--- Where two lists are alike from a place on, they are so from a later one.
+-- If two lists are alike from a place on, they are so from a later one.
 pub drop_later : (xs ys : List ℕ) (n m : ℕ) → n ≤ m → drop n xs ≡ drop n ys → drop m xs ≡ drop m ys
 drop_later xs ys n m later same =
     let is : n + (m - n) ≡ m = omega arith in
