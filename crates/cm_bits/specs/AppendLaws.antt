@@ -1,4 +1,4 @@
--- Laws of cells after which others are appended. They are proved here: crates that append cells cite them, and no contract needs them.
+-- Lemmas about cells after which others are appended. Crates that append cells cite them, and no contract needs them.
 use Rattle.std.specs.Prelude.{◌≡◌, ℕ, ◌-◌, ◌*◌, ◌<◌, ◌++◌, List, length, slice_index, replicate}
 use Rattle.std.proofs.Common.{arith, sym, ◌∙◌, inl, inr, refl}
 use Rattle.std.proofs.lemmas.Bool.{cases_lt}

@@ -1,4 +1,4 @@
--- Laws of tests of each byte. They are proved here, and no contract needs them.
+-- Lemmas about tests of each byte. No contract needs them.
 use Rattle.std.specs.Prelude.{◌≡◌, ℕ, suc, ◌<◌, zero, Bool, true, ◌&&◌}
 use Rattle.std.proofs.Common.{arith, inl, inr}
 use Rattle.std.proofs.lemmas.Bool.{cases_eq, and_parts}

@@ -1,4 +1,4 @@
--- Laws of cells at fault and cells with no fault. They are proved here, and no contract needs them.
+-- Lemmas about cells at fault and cells with no fault. No contract needs them.
 use Rattle.std.specs.Prelude.{◌≡◌, ℕ, ◌≤◌, List, length, refl, nat_le, None, ◌<◌, Some}
 use Rattle.std.specs.List.{position_or_len}
 use Rattle.std.proofs.Common.{arith, sym, ◌∙◌, inl, inr}

@@ -1,4 +1,4 @@
--- Laws of cells of w bits.
+-- Lemmas about cells of w bits.
 use Rattle.std.specs.Prelude.{◌≡◌, ℕ, suc, ◌+◌, ◌*◌, ◌/◌, ◌%◌, ◌^◌, ◌<◌, ◌≤◌, Bool, List, length, slice_index, get_or, refl, nat_le, None}
 use Rattle.std.specs.List.{position_or_len, range_with_len}
 use Rattle.std.proofs.Common.{arith, ap, sym, ◌∙◌, inl, inr, lit<}

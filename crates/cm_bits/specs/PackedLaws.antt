@@ -1,4 +1,4 @@
--- Laws of packed cells. They are proved here: the table of packed cells cites some of them, and no contract needs them.
+-- Lemmas about packed cells. The table of packed cells cites some of them, and no contract needs them.
 use Rattle.std.specs.Prelude.{◌≡◌, ℕ, ◌+◌, ◌*◌, ◌/◌, ◌%◌, ◌^◌, ◌<◌, ◌≤◌, min, List, length, slice_index, None, suc, ◌-◌, refl, nat_le}
 use Rattle.std.proofs.Common.{arith, ap, sym, ◌∙◌, inl, inr}
 use Rattle.std.proofs.Math.Nat.{zero-div, div-eq_of_lt, div-add-mod, div-div-eq-div-mul, div-eq_of_lt-le, mul-le-mul_left, zero-mod}

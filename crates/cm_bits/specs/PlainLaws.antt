@@ -1,4 +1,4 @@
--- Laws of cells of four bytes.
+-- Lemmas about cells of four bytes.
 use Rattle.std.specs.Prelude.{◌≡◌, ℕ, ◌+◌, ◌*◌, ◌/◌, ◌%◌, ◌^◌, ◌<◌, List, length, slice_index, refl, nat_le, None}
 use Rattle.std.specs.List.{position_or_len}
 use Rattle.std.proofs.Common.{arith, ◌∙◌, lit<}

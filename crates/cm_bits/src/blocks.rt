@@ -1,4 +1,4 @@
-// Which cells are below a bound, by blocks: many cells at once, without a branch.
+//! Which cells are below a bound, by blocks: many cells at once, without a branch.
 ghost use Rattle.std.specs.Prelude.{◌≡◌, ℕ, ◌+◌, ◌*◌, ◌/◌, ◌%◌, ◌^◌, ◌<◌, ◌≤◌, ◌↔◌, IsTrue, length, slice_index};
 ghost use Rattle.std.specs.Simd.Lanes.{zip2};
 ghost use Rattle.cm_bits.specs.Held.{AreBelow, HoldFields, carries_of, window_at};

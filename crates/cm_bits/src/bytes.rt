@@ -1,4 +1,4 @@
-// Searches in bytes, eight bytes as one number, and parts of such a number.
+//! Searches in bytes, eight bytes as one number, and parts of such a number.
 ghost use Rattle.std.specs.Prelude.{◌≡◌, ◌+◌, ◌*◌, ◌/◌, ◌%◌, ◌^◌, ◌<◌, ◌≤◌, ◌↔◌, ℕ, IsTrue, length, position, slice_index, nat_le};
 ghost use Rattle.cm_bits.specs.Held.{IsMask, PutsWindow, window_at};
 
