@@ -1,4 +1,4 @@
--- Facts of the residual graph: it is the greatest closed set. They are proved here, and no contract needs them.
+-- Lemmas about the residual graph: it is the greatest closed set. No contract needs them.
 use Rattle.std.proofs.Common.{◌≡◌, ◌⊎◌, ℕ, zero, suc, ◌+◌, ◌<◌, ◌≤◌, Bool, true, false, cond, ◌&&◌, List, [], ◌∷◌, length, get_or, sym, refl, ap, ◌∙◌, subst, inl, inr, arith, leb}
 use Rattle.std.specs.List.{Contains, filter, All, list_all}
 use Rattle.std.proofs.lemmas.Bool.{cases_Bool, false≢true, and_parts, and_from, leb-true, le-leb}

@@ -1,4 +1,4 @@
--- Facts of what a round removes and leaves. They are proved here, and no contract needs them.
+-- Lemmas about what a round removes and leaves. No contract needs them.
 use Rattle.std.proofs.Common.{◌≡◌, ◌⊎◌, ℕ, zero, suc, ◌+◌, ◌<◌, ◌≤◌, Bool, true, false, cond, eqb, ◌&&◌, List, [], ◌∷◌, length, get_or, sym, refl, ap, ◌∙◌, inl, inr, arith, leb, not, length-append}
 use Rattle.std.specs.List.{filter, list_all}
 use Rattle.std.proofs.lemmas.Bool.{both_ways, cases_Bool, cases_lt, eq-eqb, or_left, or_right, false≢true, and_parts, and_from, le-leb, and_right, cond-false}

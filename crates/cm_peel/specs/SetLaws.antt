@@ -1,4 +1,4 @@
--- Facts of sets of numbers, as rising lists and as tests. They are proved here. Of the definitions, contracts need `AreApart` alone.
+-- Lemmas about sets of numbers, as rising lists and as tests. Of the definitions, contracts need `AreApart` alone.
 use Rattle.std.proofs.Common.{◌≡◌, ◌⊎◌, ℕ, zero, suc, ◌+◌, ◌<◌, ◌≤◌, Bool, true, false, cond, eqb, ◌&&◌, ◌||◌, List, [], ◌∷◌, length, get_or, sym, refl, ap, ◌∙◌, subst, inl, inr, arith, ◌≢◌, not}
 use Rattle.std.specs.List.{Contains, count_by, filter, position_or_len}
 use Rattle.std.specs.List.Sorted.{IsStrictlyIncreasing}
