@@ -17,7 +17,7 @@ use std::alloc::{AllocError, Global};
 /// read of it waits for a store.
 const CHUNK: usize = 256;
 
-/// How many cells a table has at least whose chunks are settled at once where they can be. Of a smaller one most cells lie in the
+/// How many cells a table has at least whose chunks are settled at once if they can be. Of a smaller one most cells lie in the
 /// processor's caches, so that nothing is waited for.
 const MANY: u32 = 1_572_864;
 

@@ -1,4 +1,4 @@
--- What the cells of peeled graphs are for.
+-- What the cells of peeled graphs are for: those of each edge add up to what the rule asks for.
 use Rattle.std.specs.Prelude.{◌≡◌, ℕ, List, [], length}
 use Rattle.cm_spec.specs.Cells.{AreSolved, cells_of, plan_of}
 use Rattle.cm_spec.specs.Graph.{AreEdges}

@@ -1,4 +1,4 @@
--- Builds that fail.
+-- Lemmas about builds that fail.
 use Rattle.std.proofs.Common.{◌≡◌, ◌≢◌, ◌∙◌, ℕ, ◌<◌, ◌≤◌, List, [], length, get_or, Option, None, Result, Ok, Err, IfOk, IfErr, IsErrAnd, false, inl, inr, refl, ap, sym, subst, arith}
 use Rattle.std.specs.Option.{ForSome}
 use Rattle.cm_algo_names.specs.declared.algorithm.Algorithm.{Algorithm}
@@ -77,7 +77,7 @@ numbers_of m place gather_fault.Memory some other = tt
 numbers_of m place (gather_fault.Key fault) some other = tt
 numbers_of m place (gather_fault.Changed first now) some other = (omega (arith, other.0), other.1)
 
--- a pass that failed hands on its fault
+-- a build fails with the fault of its pass that failed
 pub failure_of : (failure : Option KeyFault) (fault : GatherFault) → HasFailure failure fault → HasBuildFailure failure (build_fault_of fault)
 failure_of failure gather_fault.Memory has = tt
 failure_of failure (gather_fault.Key fault) has = has

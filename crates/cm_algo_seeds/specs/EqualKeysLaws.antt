@@ -1,4 +1,4 @@
--- Equal keys have equal edges, which lie in the 2-core under every seed.
+-- Lemmas about equal keys: they have equal edges, which lie in the 2-core under every seed.
 use Rattle.std.proofs.Common.{◌≡◌, ◌≢◌, ◌∙◌, ℕ, suc, ◌<◌, ◌≤◌, true, false, List, [], ◌∷◌, ◌++◌, length, get_or, sym, refl, ap, subst, arith, Option, None, Some, append_assoc, bytes_eq, ⊎_elim, eqb, length-append}
 use Rattle.std.specs.List.{All, Contains}
 use Rattle.std.proofs.lemmas.Bool.{cases_Bool, cases_lt, cond-false, eq-eqb, or_left, or_right}

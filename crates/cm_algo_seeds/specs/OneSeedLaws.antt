@@ -1,4 +1,4 @@
--- One seed, and the list of them.
+-- Lemmas about one seed, and about the list of them.
 use Rattle.std.proofs.Common.{◌≡◌, ◌≢◌, ◌⊎◌, ℕ, zero, suc, ◌+◌, ◌*◌, ◌<◌, ◌≤◌, Bool, true, false, List, [], ◌∷◌, length, map, get_or, sym, refl, ap, ◌∙◌, subst, inl, inr, arith, Some, None, nat_eq}
 use Rattle.std.specs.Prelude.{find}
 use Rattle.std.proofs.Math.Nat.{mul-add, mul-le-mul_left}

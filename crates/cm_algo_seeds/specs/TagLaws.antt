@@ -1,4 +1,4 @@
--- Only the tag at each place counts, and a tag that is not there is 0.
+-- Lemmas about tags: only the tag of each edge counts, and a tag that is not there is 0.
 use Rattle.std.proofs.Common.{◌≡◌, ◌⊎◌, ℕ, zero, suc, Bool, true, false, List, [], ◌∷◌, length, map, get_or, set, refl, sym, ap, ◌∙◌, inl, inr}
 use Rattle.std.proofs.lemmas.Bool.{cases_Bool}
 use Rattle.cm_spec.specs.Built.{tag_of}

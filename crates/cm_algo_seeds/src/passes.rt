@@ -134,7 +134,7 @@ fn four_at_hand<P: KeyPass>(keys: &mut P, left: u32, seed: u32) -> Option<[[u32;
     keys.hash_four(seed)
 }
 
-/// The hash values of the next key under a seed, with its length, if it is buffered. Those that the pass has at hand are not computed
+/// The hash values of the next key under a seed, with its length, if it is buffered. Those that the pass keeps are not computed
 /// again.
 #[inline(always)]
 fn words_at_hand<P: KeyPass>(keys: &P, seed: u32) -> Option<([u32; 3], usize)>
