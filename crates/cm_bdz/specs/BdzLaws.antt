@@ -1,4 +1,4 @@
--- The rules of BDZ and BDZ_PH keep the laws of a rule.
+-- Lemmas about the rules of BDZ and BDZ_PH: they keep the laws of a rule. Of the definitions, contracts need `triple_rule` alone.
 use Rattle.std.specs.Prelude.{◌≡◌, ◌≢◌, ℕ, zero, suc, ◌+◌, ◌*◌, ◌/◌, ◌%◌, ◌<◌, ◌≤◌, List, [], ◌∷◌, length, slice_index, refl, All, AllPairs}
 use Rattle.std.proofs.Common.{arith, ap, sym, subst, ◌∙◌, ◌⊎◌, inl, inr, cond, eqb, true, false, Bool}
 use Rattle.std.proofs.Math.Nat.{mul-div_cancel_left, mul-le-mul_left, mul_comm}

@@ -186,7 +186,7 @@ building_known told b seeds (Changed first now) is form = absurd form
 building_known told b seeds SpillFailed is form = is
 building_known told b seeds (SpillDamaged offset expected found) is form = is
 
--- what a build of buckets never tells
+-- what a build of buckets never says
 pub building_other : (seeds : List ℕ) (e : BrzFault) (P : ℕ → ℕ → Type 0) (Q : ℕ → ℕ → ℕ → List Pair → Type 0) (R : Type 0) (failure : Option KeyFault) → HasBuildingForm seeds e → IfChanged e P × IfOverfull e Q × OnNoKeys e R × HasFailure failure e
 building_other seeds Memory P Q R failure h = (tt, tt, tt, tt)
 building_other seeds NoKeys P Q R failure h = absurd h

@@ -32,7 +32,7 @@ records_of-push j (x ∷ xs) r =
     let ih : length (records_of j (xs ++ r ∷ [])) ≡ length (records_of j xs) + cond (eqb r.bucket j) 1 0 = records_of-push j xs r in
     elim (eqb x.bucket j) as (λ b. length (cond b (x ∷ records_of j (xs ++ r ∷ [])) (records_of j (xs ++ r ∷ []))) ≡ length (cond b (x ∷ records_of j xs) (records_of j xs)) + cond (eqb r.bucket j) 1 0) [ true ↦ omega arith | false ↦ ih ]
 
--- its count, where that of this bucket is one more
+-- its count, if that of this bucket is one more
 pub count_one : (put : List ℕ) (i j n c : ℕ) → j < length put → n ≡ get_or put j 0 + 1 → c ≡ get_or put i 0 → c + cond (eqb j i) 1 0 ≡ get_or (set put j n) i 0
 count_one put i j n c l e h = go (cases_Bool (eqb j i)) where
   go : (eqb j i ≡ true) ⊎ (eqb j i ≡ false) → c + cond (eqb j i) 1 0 ≡ get_or (set put j n) i 0

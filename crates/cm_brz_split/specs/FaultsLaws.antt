@@ -1,4 +1,4 @@
--- What the faults of a build by BRZ hand on.
+-- Lemmas about the faults of a build by BRZ: what each says of the fault that it was made of.
 use Rattle.std.proofs.Common.{◌≡◌, ◌≢◌, ◌⊎◌, ℕ, Option, inl, inr, sym}
 use Rattle.cm_brz_split.specs.Faults.{HasFailure, HasPutFailure, IfChanged, IfDamage, brz_fault_of, put_fault_of, store_fault_of}
 use Rattle.cm_brz_split.specs.Passes.{IfChanged as IfPassChanged}

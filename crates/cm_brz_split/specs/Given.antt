@@ -56,7 +56,7 @@ pub record CountedBucket {P : Type 0} (at_end : P → Type 0) (gave : P → List
   pub ended : at_end state
   pub gave_count : GaveCount (gave state) k split bucket count
 
--- a pass gave a bucket `now` keys, where `first` had been counted, and these differ
+-- a pass gave a bucket `now` keys after `first` had been counted, and these differ
 pub record GaveOther (Gave : List (ℕ × List ℕ) → Type 0) (sizes : List ℕ) (k split first now : ℕ) : Type 0 where
   pub bucket : ℕ
   pub within : bucket < k

@@ -1,4 +1,4 @@
--- What a store holds of keys that were put, bucket by bucket.
+-- Lemmas about keys that were put into a store, bucket by bucket.
 use Rattle.std.proofs.Common.{◌≡◌, ℕ, true, false, cond, List, [], ◌∷◌, map, eqb, refl, ap}
 use Rattle.cm_brz_func.specs.Functions.{bucket_of}
 use Rattle.cm_brz_split.specs.Puts.{keys_in_bucket, record_of, records_under}

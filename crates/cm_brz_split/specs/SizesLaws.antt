@@ -1,4 +1,4 @@
--- Numbers of keys by bucket.
+-- Lemmas about the numbers of keys by bucket.
 use Rattle.std.proofs.Common.{◌≡◌, ◌≢◌, ◌∙◌, ◌⊎◌, ℕ, zero, suc, ◌+◌, ◌<◌, ◌≤◌, Bool, true, false, cond, List, [], ◌∷◌, ◌++◌, length, length-append, map, take, get_or, set, sum, eqb, leb, refl, sym, ap, subst, inl, inr, arith, None, Some}
 use Rattle.std.specs.Prelude.{find, filter, replicate}
 use Rattle.std.specs.List.{range_with_len}

@@ -1,4 +1,4 @@
--- Keys that wait for their buckets in a spill.
+-- Lemmas about keys that wait for their buckets in a spill.
 use Rattle.std.proofs.Common.{◌≡◌, ◌∙◌, ◌∷◌, ℕ, Bool, true, cond, List, [], ◌++◌, Option, None, Some, drop, length, refl, ap, sym, subst, Result, Ok, Err}
 use Rattle.std.specs.Prelude.{IfOk, OnOk, is_some}
 use Rattle.std.specs.Option.{ForSome}

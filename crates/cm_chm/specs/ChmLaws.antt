@@ -1,4 +1,4 @@
--- CHM's rule keeps the laws of a rule.
+-- Lemmas about CHM's rule: it keeps the laws of a rule.
 use Rattle.std.specs.Prelude.{◌≡◌, ◌≢◌, ℕ, zero, suc, ◌+◌, ◌*◌, ◌/◌, ◌%◌, ◌<◌, ◌≤◌, List, [], ◌∷◌, length, slice_index, refl, All, AllPairs}
 use Rattle.std.proofs.Common.{arith, ap, sym, ◌∙◌, ◌⊎◌, inl, inr, cond, eqb, true, false, Bool}
 use Rattle.std.proofs.lemmas.Nat.{mod_below, div_below}

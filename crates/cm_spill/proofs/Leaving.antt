@@ -74,7 +74,7 @@ pub header_whole : (x : List ℕ) (run : RunLeft) (r : Record) (rs : List Record
 header_whole x run r rs at left here =
     omega (arith, ap (λ (i : ℕ). length (drop i x)) here, ap length (next_bytes x run r rs left), length-append (encoded r) (flat_map encoded rs ++ left.rest), length-encoded r)
 
--- the same records are left where more of the next one was read
+-- the same records are left if more of the next one was read
 pub left_with : (x : List ℕ) (run : RunLeft) (header : Option Header) (ahead : Position) (records : List Record) → AreLeft x run records → IsAhead x ahead
     → IsHeaderRead records (record { until = run.until; next = run.next; header = header; ahead = ahead }) header
     → AreLeft x (record { until = run.until; next = run.next; header = header; ahead = ahead }) records

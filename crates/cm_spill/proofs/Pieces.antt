@@ -79,7 +79,7 @@ header_read bytes buf h is read = header_more bytes buf (drop 10 bytes) h is (sy
 pub header_cut : (bytes buf : List ℕ) → buf ≡ take 10 bytes → length buf < 10 → length bytes < 10
 header_cut bytes buf read short = omega (arith, ap length read, length-take 10 bytes, short)
 
--- the bytes that were ready and those read since, after more were read where none was ready
+-- the bytes that were ready and those read since, after more were read if none was ready
 pub order_more : (old more buf ready now : List ℕ) → old ++ more ≡ buf ++ ready → (0 < length ready → now ≡ ready) → (all : List ℕ) × (old ++ all ≡ buf ++ now)
 order_more old more buf [] now is kept = (more ++ now, sym (append_assoc old more now) ∙ ap (λ (b : List ℕ). b ++ now) (is ∙ append-nil buf))
 order_more old more buf (x ∷ xs) now is kept = (more, is ∙ ap (λ (b : List ℕ). buf ++ b) (sym (kept (omega arith))))

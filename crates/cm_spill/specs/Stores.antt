@@ -9,10 +9,10 @@ use Rattle.cm_spill.specs.Reading.{IsStill, RunLeft, end_from, new_run}
 use Rattle.cm_spill.specs.declared.fault.SpillError.{SpillError}
 use Rattle.cm_spill.specs.declared.fault.SpillError.TheVariants as faults
 
--- what the spill holds, where known, and its count of faults; how many bytes may wait; the records that wait, those of each bucket in the
--- order in which they were put; the line put last, or 0; whether no call has failed; whether all was put; the bucket asked last, or 0; how many of its
--- records were given; the line of the last of them, or 0; whether it was found to have no more; the offset after that record, or 0; how far
--- the runs in the spill were read; and at which of them the store stands
+-- what the spill holds, if known, and its count of faults; how many bytes may wait; the records that wait, those of each bucket in the
+-- order in which they were put; the line put last, or 0; whether no call has failed; whether all was put; the bucket asked last, or 0;
+-- how many of its records were given; the line of the last of them, or 0; whether it was found to have no more; the offset after that
+-- record, or 0; how far the runs in the spill were read; and at which of them the store stands
 pub record Store : Type 0 where
   pub known : Option (List ℕ)
   pub faults : ℕ

@@ -1,4 +1,4 @@
--- What is true of every store, and worked rows: 120 is the letter x, 121 is y.
+-- Statements, each proved as a clause in `src/laws.rt`: what is true of every store, and worked rows. 120 is x, 121 is y.
 use Rattle.std.specs.Prelude.{◌≡◌, ◌+◌, ◌++◌, [], ◌∷◌, ℕ, List, length, filter, Some}
 use Rattle.std.specs.List.{sum_by}
 use Rattle.std.specs.List.Sorted.{IsPermutation}
