@@ -36,8 +36,8 @@ pub enum Algorithm {
 #[derive(Clone, Copy, Drop)]
 pub struct Kind {
     pub algorithm: Algorithm,
-    /// Every `2^b`-th cell of BDZ has its rank kept, with b from 3 to 10; a bucket of BRZ has b keys on average, from `MIN_WIDTH` to `MAX_WIDTH`;
-    /// 0 for the others.
+    /// Every `2^b`-th cell of BDZ has its rank kept, with b from 3 to 10; a bucket of BRZ has b keys on average, from `MIN_WIDTH` to
+    /// `MAX_WIDTH`; 0 for the others.
     pub b: u8,
 }
 
@@ -45,8 +45,8 @@ pub struct Kind {
 #[derive(Clone, Copy, Drop)]
 pub struct Header {
     pub algorithm: Algorithm,
-    /// Every `2^b`-th cell of BDZ has its rank kept, with b from 3 to 10; a bucket of BRZ has b keys on average, from `MIN_WIDTH` to `MAX_WIDTH`;
-    /// 0 for the others.
+    /// Every `2^b`-th cell of BDZ has its rank kept, with b from 3 to 10; a bucket of BRZ has b keys on average, from `MIN_WIDTH` to
+    /// `MAX_WIDTH`; 0 for the others.
     pub b: u8,
     /// How many keys the function was built over, from 1 to `MAX_KEYS`.
     pub keys: u32,

@@ -1,4 +1,4 @@
--- Lemmas of the cells of an image, and of the faults of one, which the proofs of readers cite. No contract needs them.
+-- Lemmas about the cells of an image, and about its faults, which the proofs of readers cite. No contract needs them.
 use Rattle.std.proofs.Common.{◌≡◌, ◌∙◌, ℕ, ◌-◌, ◌*◌, ◌/◌, ◌<◌, ◌≤◌, ◌^◌, List, length, get_or, sym, ap, arith, refl, Option, Some, None, Ok, Bool, true, false, subst, if◌then◌else◌}
 use Rattle.std.proofs.Math.Nat.{mul-le-mul_left, div-le_self}
 use Rattle.std.proofs.lemmas.List.FromFn.{length-map-range_with_len, get_or-map-range_with_len}

@@ -1,4 +1,4 @@
--- Lemmas of bytes that are written in pieces, which the proofs of writers cite. No contract needs them.
+-- Lemmas about bytes that are written in pieces, which the proofs of writers cite. No contract needs them.
 use Rattle.std.proofs.Common.{◌≡◌, ◌∙◌, ℕ, List, ◌++◌, take, ap, Option, Result}
 use Rattle.std.specs.Prelude.{IsErr}
 use Rattle.cm_io.specs.declared.fault.Failed.{Failed}

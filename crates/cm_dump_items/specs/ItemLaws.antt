@@ -1,4 +1,4 @@
--- Lemmas of items at an offset, which the proofs of readers cite. No contract needs them.
+-- Lemmas about items at an offset, which the proofs of readers cite. No contract needs them.
 use Rattle.std.proofs.Common.{◌≡◌, ◌∙◌, ℕ, ◌+◌, ◌<◌, ◌≤◌, List, ◌++◌, length, take, drop, ap, sym, arith, refl, length-append, Bool, true, false, nat_lt, Result, Ok, Err, if◌then◌else◌}
 use Rattle.std.proofs.lemmas.List.{drop_at, take_at}
 use Rattle.cm_dump_items.specs.declared.fault.LoadFault.{LoadFault}

@@ -1,4 +1,4 @@
--- Lemmas of a part of a file that is in memory, which the proofs of readers cite. No contract needs them.
+-- Lemmas about a part of a file that is in memory, which the proofs of readers cite. No contract needs them.
 use Rattle.std.proofs.Common.{◌≡◌, ◌∙◌, ℕ, ◌+◌, ◌-◌, ◌≤◌, List, length, take, drop, ap, sym, subst, arith, length-drop}
 use Rattle.std.proofs.lemmas.List.{drop-drop, drop-take, take_all}
 use Rattle.cm_dump_items.specs.Reading.{IsPart}

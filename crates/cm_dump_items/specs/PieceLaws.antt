@@ -1,4 +1,4 @@
--- Lemmas of the bytes of a source that were read and not used yet, which the proofs of readers cite. No contract needs them.
+-- Lemmas about the bytes of a source that were read and not used yet, which the proofs of readers cite. No contract needs them.
 use Rattle.std.proofs.Common.{◌≡◌, ◌∙◌, ℕ, ◌+◌, ◌-◌, ◌<◌, ◌≤◌, List, [], length, take, drop, ap, sym, arith, refl, length-drop, Bool, true, false}
 use Rattle.std.proofs.lemmas.Bool.{false≢true}
 use Rattle.cm_dump_items.specs.PartLaws.{part_after}

@@ -1,4 +1,4 @@
--- Lemmas of what is read after an item, which the proofs of readers cite. No contract needs them.
+-- Lemmas about what is read after an item, which the proofs of readers cite. No contract needs them.
 use Rattle.std.proofs.Common.{◌≡◌, sym, arith, refl, ℕ, Bool, true, false, Result, Ok, Err, if◌then◌else◌}
 use Rattle.cm_dump_items.specs.declared.fault.LoadFault.{LoadFault}
 use Rattle.cm_dump_items.specs.declared.fault.LoadFault.TheVariants as faults

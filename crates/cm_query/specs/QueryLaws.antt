@@ -1,4 +1,4 @@
--- Laws of where a query stops, for those who call it.
+-- Lemmas about where a query stops, for those who call it.
 use Rattle.std.proofs.Common.{ℕ, arith, subst, sym}
 use Rattle.cm_io.specs.Passes.{Told}
 use Rattle.cm_query.specs.Stops.{IsReached, StopsAt}

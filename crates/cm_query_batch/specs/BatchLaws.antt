@@ -52,7 +52,7 @@ none_waits f span w keys answers = record {
   inside = All-same (λ (a : Option ℕ). IfSome a (λ v. v < span)) _ _ answers (All-nil (λ (a : Option ℕ). IfSome a (λ v. v < span)));
 }
 
--- the first, whatever is said where none waits
+-- the first, whatever is said if none waits
 pub same_first : (keys : List (ℕ × List ℕ)) → 0 < length keys → (none d : ℕ × List ℕ) → get_or keys 0 none ≡ get_or keys 0 d
 same_first [] some none d = absurd (omega (arith, some))
 same_first (k ∷ ks) some none d = refl
