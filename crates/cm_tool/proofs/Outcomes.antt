@@ -104,7 +104,7 @@ stopped job old new TooMany out out_new err err_new before now files leaves same
     let refused = leaves.1 files is in
     quiet_end job files new _ _ out out_new err err_new before now (there job files refused.0 _ refused.1 (over_fault job files _ _ key_fault.TooMany refused.2)) same says (leaves.0 ∙ is)
 
--- where the keys file is there, there is an outcome
+-- if the keys file is there, there is an outcome
 none_there : (job : BuildJob) (files : Files) (bytes : List ℕ) → file_at files job.keys ≡ Some bytes → job_outcome files (Ok (Build job)) ≡ None → ⊥
 none_there job files bytes file none = none_some (sym none ∙ there job files bytes _ file refl)
 
@@ -112,7 +112,7 @@ none_there job files bytes file none = none_some (sym none ∙ there job files b
 pub none_saved : (job : BuildJob) (files : Files) (dump : List ℕ) → Saves job files dump → job_outcome files (Ok (Build job)) ≡ None → ⊥
 none_saved job files dump saves none = none_some (sym none ∙ outcome_saving job files dump saves)
 
--- a build for which memory ran out left no file empty, where there is no outcome
+-- a build for which memory ran out left no file empty, if there is no outcome
 kept : (job : BuildJob) (old new : Option Files) (out out_new : Option (List ℕ)) (files : Files) → Leaves job old new out out_new (Err Memory) → old ≡ Some files → job_outcome files (Ok (Build job)) ≡ None → new ≡ old
 kept job old new out out_new files (inl same) is none = same
 kept job old new out out_new files (inr left) is none = absurd (none_saved job files left.0 (left.2 files is) none)

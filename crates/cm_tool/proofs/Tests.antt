@@ -96,7 +96,7 @@ fault_ends job algorithm files (func_fault.Changed first again) old new stop fai
 fault_ends job algorithm files func_fault.Spill old new stop fails stops = rw stops.0 (got_nothing (tested_by job files (algorithm ∷ [])).out old new stops.1)
 fault_ends job algorithm files (func_fault.SpillDamaged offset expected found) old new stop fails stops = absurd fails
 
--- what such a stop has, whatever the disk tells
+-- what such a stop has, whether the files are known or not
 report_form : (algorithm : Algorithm) (shown : FailureReport) (old new : Option (List ℕ)) (stop : Stop) → IsSeedFailureBy algorithm shown.failure → GotReport shown old new stop → HasTestForm algorithm stop
 report_form algorithm shown old new Memory failure got = tt
 report_form algorithm shown old new Read failure got = got

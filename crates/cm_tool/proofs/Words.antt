@@ -1,4 +1,4 @@
--- From what the words ask for to what the top call promises.
+-- From what the arguments ask for to what the top call promises.
 use Rattle.std.proofs.Common.{◌≡◌, ◌≢◌, ◌∙◌, ◌⊎◌, ℕ, List, [], Option, None, Some, Ok, Err, inl, inr, refl, ap, sym, subst, arith}
 use Rattle.cm_algo_names.specs.declared.algorithm.Algorithm.TheVariants.{Chm}
 use Rattle.cm_io.specs.Files.{Files}

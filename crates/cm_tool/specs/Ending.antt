@@ -1,4 +1,4 @@
--- What a job comes to.
+-- What a job comes to: its status, what out and err get, and the files that are left.
 use Rattle.std.specs.Prelude.{ℕ, List, []}
 use Rattle.cm_io.specs.Files.{Files}
 use Rattle.cm_tool_stops.specs.Messages.{seed_failure_message}

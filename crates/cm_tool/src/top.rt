@@ -47,8 +47,8 @@ pub fn run<D: Disk, O: Sink, E: Sink>(
         Reaches (outcome_of (map string_bytes words.now) files) result (O.written out.old) (O.written out.new) (E.written err.old) (E.written err.new) (E.faults err.old) (E.faults err.new) (D.files disk.new)) }
 
     // A build takes the first seed whose graph has an empty 2-core. If there is none, it fails, and its report shows the 2-core of the
-    // first seed. A build by BRZ takes the first seed under which no bucket has more than `MAX_BUCKET` keys, and for each bucket with keys the
-    // first seed whose graph of these keys has an empty 2-core. If there is no such seed, for the split or for some bucket, it fails.
+    // first seed. A build by BRZ takes the first seed under which no bucket has more than `MAX_BUCKET` keys, and for each bucket with keys
+    // the first seed whose graph of these keys has an empty 2-core. If there is no such seed, for the split or for some bucket, it fails.
     ensures first { result ≡ 0 → ForSome (D.files disk.old) (λ files. ForBuild (job_of (map string_bytes words.now)) (TookFirst files)) }
     ensures cored { result ≡ 1 → ForSome (D.files disk.old) (λ files. ForBuild (job_of (map string_bytes words.now)) (IsCored files)) }
 

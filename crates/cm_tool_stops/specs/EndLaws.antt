@@ -1,4 +1,4 @@
--- Laws of counts that rise and of what is said, for those who call the steps of a job.
+-- Lemmas about counts that rise and about what is said, for those who call the steps of a job.
 use Rattle.std.proofs.Common.{◌≡◌, ℕ, ◌<◌, ◌≤◌, ◌^◌, lit<, List, Option, Bool, arith}
 use Rattle.cm_io.specs.Causes.{Collects, Rose}
 use Rattle.cm_io.specs.Noting.{HasNoted}

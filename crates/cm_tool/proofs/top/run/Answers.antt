@@ -9,7 +9,7 @@ use Rattle.cm_words.specs.declared.jobs.Job.{Job}
 use Rattle.cm_words.specs.declared.jobs.Job.TheVariants.{Help, Version}
 use Rattle.cm_tool.proofs.top.run.Goals as goal
 
--- the job that was read is what the words ask for
+-- the job that was read is what the arguments ask for
 asks : (asked : Reading Job) (read job : Job) → Ok read ≡ asked → read ≡ job → asked ≡ Ok job
 asks asked read job is same = sym is ∙ ap (λ (j : Job). Ok j) same
 
