@@ -1,4 +1,4 @@
-// What is measured of a table.
+//! What is measured of a table.
 ghost use Rattle.std.specs.Prelude.{◌≡◌, ◌<◌, ◌≤◌, length, IfOk};
 
 use crate::random::{below, random};

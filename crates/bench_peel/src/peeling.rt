@@ -1,4 +1,4 @@
-// Peeling as a build does it: over the incidence of 8 bytes a vertex, without levels, and with steps that nobody reads.
+//! Peeling as a build does it: over the incidence of 8 bytes a vertex, without levels, and with steps that nobody reads.
 ghost use Rattle.std.specs.Prelude.{◌≡◌, ◌<◌, length, IfOk};
 
 use cm_graph::{Edges, Steps, Xored};

@@ -1,4 +1,4 @@
-// Numbers that look random and can be computed in any order.
+//! Numbers that look random and can be computed in any order.
 ghost use Rattle.std.specs.Prelude.{◌<◌};
 
 /// Number `turn` of a fixed sequence that looks random: the upper halves of what SplitMix64 makes.

@@ -1,3 +1,4 @@
+//! Builds over keys that change from pass to pass, a build after one that failed, and the cells of a path.
 ghost use Rattle.std.specs.Prelude.{◌≡◌, ◌⊎◌, ◌<◌, ◌≤◌, ◌+◌, None, length, slice_index_or, true};
 ghost use Rattle.test_commands.specs.Changing.{letter_at};
 ghost use Rattle.cm_spec.specs.declared.limits.TheConstants.{MAX_KEYS};

@@ -1,3 +1,4 @@
+//! Cases, each a command over a disk in memory with what it returns, writes and leaves; and the builds by CHM among them.
 use crate::equal::{expect_equal, expect_true};
 use cm_io::Disk;
 use cm_outer::{DiskCall, MemDisk, MemSink};

@@ -1,3 +1,4 @@
+//! Queries over a disk in memory: their answers, damaged and missing files, and sinks without room.
 use crate::cases::{Case, EMPTY_AND_A, ONE_EMPTY, changed, check_all};
 use std::test::Fail;
 

@@ -1,3 +1,4 @@
+//! A build and queries over real files.
 use crate::equal::{expect_bytes, expect_equal};
 use cm_real::{FileDisk, StdSink};
 use cm_tool::run;

@@ -1,3 +1,4 @@
+//! The images of packed tables, and the faults of bytes that are none.
 ghost use Rattle.std.specs.Prelude.{◌≡◌, ◌<◌, length, IfOk, IfErr};
 ghost use Rattle.cm_bits.specs.declared.fault.ImageFault.TheVariants.{Memory};
 ghost use Rattle.cm_spec.specs.Lists.{list_of};

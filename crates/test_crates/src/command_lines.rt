@@ -1,3 +1,4 @@
+//! Command lines, and the job that each asks for or why it is refused.
 use crate::equal::{expect_equal, expect_equal_at};
 use cm_words::{UsageFault, read_words};
 use std::alloc::{AllocError, Global};

@@ -1,3 +1,4 @@
+//! Real files, folders and spills, and sinks over std's writers.
 use crate::equal::{expect_bytes, expect_equal, expect_true};
 use crate::memory::{Uses, store};
 use cm_io::{Disk, DiskFault, Failed, Source, Spill, write_pieces};

@@ -1,3 +1,4 @@
+//! Incidences of a few edges, and lists of edges.
 ghost use Rattle.std.specs.Prelude.{◌≡◌, ◌<◌};
 
 use crate::equal::expect_equal;

@@ -1,3 +1,4 @@
+//! Hash values that were published, and those that another program computed.
 use crate::equal::expect_equal_at;
 use cm_lookup2::{words, words_of_four, words_under_four};
 use std::test::Fail;

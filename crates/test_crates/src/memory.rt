@@ -1,3 +1,4 @@
+//! Sources, sinks, spills and disks in memory, used by their traits alone, and notes to a sink.
 ghost use Rattle.std.specs.Prelude.{◌++◌, codes};
 ghost use Rattle.cm_io.specs.Causes.{HasCause};
 ghost use Rattle.cm_io.specs.Noting.{Noted};

@@ -1,3 +1,4 @@
+//! Peeling of small graphs and of a long path, over each incidence, and without levels.
 ghost use Rattle.std.specs.Prelude.{◌≡◌, ◌<◌, length, IfOk};
 
 use crate::equal::{expect_equal, expect_true};

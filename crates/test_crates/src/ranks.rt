@@ -1,3 +1,4 @@
+//! Ranks and counts of cells that are not idle, compared with a plain loop, and how many cells a rank reads.
 ghost use Rattle.std.specs.Prelude.{◌≤◌, length};
 ghost use Rattle.cm_rank.specs.Ranks.{StandsFor};
 

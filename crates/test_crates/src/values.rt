@@ -1,3 +1,4 @@
+//! The numbers that the values of options stand for.
 use crate::equal::expect_equal_at;
 use cm_words_values::{millionths, whole};
 use std::test::Fail;

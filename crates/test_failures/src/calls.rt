@@ -110,7 +110,8 @@ fn fail_each(
     Ok(())
 }
 
-/// The calls of a build by CHM. It opens its keys file once, reads it in several passes, and then creates, writes and closes its function file.
+/// The calls of a build by CHM. It opens its keys file once, reads it in several passes, and then creates, writes and closes its
+/// function file.
 const CHM_BUILD: [(DiskCall, Calls); 9] = [
     (DiskCall::Open, Calls::Exactly(&[KEYS_UNREAD])),
     (DiskCall::Create, Calls::Exactly(&[FUNCTION_UNWRITTEN])),
@@ -123,8 +124,8 @@ const CHM_BUILD: [(DiskCall, Calls); 9] = [
     (DiskCall::ReadAt, Calls::Exactly(&[])),
 ];
 
-/// The calls of a query. It opens its function file and then its keys file. It reads the function file of two keys in more pieces than the keys
-/// file, so each call of `read` that it comes to is first one of the function file.
+/// The calls of a query. It opens its function file and then its keys file. It reads the function file of two keys in more pieces than the
+/// keys file, so each call of `read` that it comes to is first one of the function file.
 const CHM_QUERY: [(DiskCall, Calls); 9] = [
     (
         DiskCall::Open,

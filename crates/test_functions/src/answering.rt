@@ -1,3 +1,4 @@
+//! A comparison of the answers of a function.
 use crate::equal::expect_equal;
 use cm_algo_scheme::{Answers, answer};
 use std::process::Abort;

@@ -1,3 +1,4 @@
+//! The parts and answers of functions by BDZ and BDZ_PH.
 ghost use Rattle.std.specs.Prelude.{◌≤◌};
 
 use crate::answering::expect_answers;

@@ -1,3 +1,4 @@
+//! The answers of functions by CHM.
 ghost use Rattle.std.specs.Prelude.{◌≡◌, ◌<◌, ◌≤◌};
 ghost use Rattle.std.specs.Option.{ForSome};
 ghost use Rattle.cm_spec.specs.Chm.{chm_size};

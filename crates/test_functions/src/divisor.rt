@@ -1,3 +1,4 @@
+//! Remainders by a fixed number.
 use crate::equal::expect_equal_at;
 use cm_algo_scheme::Divisor;
 use std::test::Fail;

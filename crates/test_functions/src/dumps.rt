@@ -1,3 +1,4 @@
+//! Dumps of functions by CHM, BDZ and BDZ_PH: whole, changed, cut off, and with reads that fail.
 ghost use Rattle.std.specs.Prelude.{◌≡◌, IfOk};
 
 use crate::answering::expect_answers;

@@ -1,3 +1,4 @@
+//! The parts of functions by BDZ that were read from dumps, and a dump with many ranks.
 use crate::dumps::{BDZ_ONE, BDZ_TWO, changed, check_change, is_saved_again, source_of};
 use crate::equal::{expect_equal, expect_true};
 use cm_bits::Cells;

@@ -1,3 +1,4 @@
+//! Queries over the keys of a list: what they return and write, and sinks that fail.
 use crate::equal::expect_equal;
 use crate::listed::Listed;
 use cm_algo_scheme::{Answers, Place};

@@ -150,8 +150,8 @@ fn two_records(rt: HostRuntime) -> Result<(), Fail> {
     Ok(())
 }
 
-/// What a store returns of the two records, the first in a bucket, if a byte of the spill is read as another, and those from `end` on aren't
-/// read.
+/// What a store returns of the two records, the first in a bucket, if a byte of the spill is read as another, and those from `end` on
+/// aren't read.
 fn give_damaged(
     alloc: Global,
     bucket: u32,
