@@ -77,7 +77,7 @@ numbers_of m place gather_fault.Memory some other = tt
 numbers_of m place (gather_fault.Key fault) some other = tt
 numbers_of m place (gather_fault.Changed first now) some other = (omega (arith, other.0), other.1)
 
--- a build fails with the fault of its pass that failed
+-- a pass that failed hands on its fault
 pub failure_of : (failure : Option KeyFault) (fault : GatherFault) → HasFailure failure fault → HasBuildFailure failure (build_fault_of fault)
 failure_of failure gather_fault.Memory has = tt
 failure_of failure (gather_fault.Key fault) has = has

@@ -1,4 +1,4 @@
-//! The lines of a source as a pass over keys.
+//! The pass over the lines of a source.
 ghost use Rattle.std.specs.Prelude.{◌≡◌, ◌⊎◌, ◌<◌, ◌≤◌, ◌+◌, ◌++◌, ℕ, List, [], ◌∷◌, length, map, drop, Ok, None, true, false, OnOk, OnErr, IfOk, IfErr, IfSome, IfNone, IsTrue, IsOkUnless, if◌then◌else◌, option_map};
 ghost use Rattle.std.specs.Option.{ForSome};
 ghost use Rattle.cm_io.specs.Passes.{HasKeyCause, GivesFour, GivesKey, PassesKeys, failure_of};

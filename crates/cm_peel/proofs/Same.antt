@@ -1,4 +1,4 @@
--- What the steps of a round by blocks hand on stays the same.
+-- What stays the same from step to step of a round by blocks.
 use Rattle.std.proofs.Common.{◌≡◌, ◌∙◌, ℕ, List, subst}
 use Rattle.cm_graph_edges.specs.declared.incidence.Half.{Half}
 use Rattle.cm_graph_edges.specs.Graph.{Graph, Links}

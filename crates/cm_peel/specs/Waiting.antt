@@ -57,8 +57,7 @@ pub record Leads (t blocks each : ℕ) (marks bytes freed after next : List ℕ)
   pub taken : AreTaken t waiting bytes after [] fresh
   pub members : (e : ℕ) → has next e ≡ (is_marked marks e || has fresh e)
 
--- in a round by blocks: the half-edges at the places in `gone` are removed so far, and the edges that this has freed are marked, or a
--- place of theirs waits
+-- in a round by blocks: the half-edges at the places in `gone` are removed so far, and the edges that this has freed are marked, or a place of theirs waits
 pub record InTaking (graph : Graph) (t blocks each : ℕ) (gone : List ℕ) (l : Links) (marks bytes freed : List ℕ) : Type 0 where
   pub after : List ℕ
   pub next : List ℕ

@@ -318,7 +318,7 @@ pub fn gather_with<P: KeyPass, const K: usize>(
     requires inside { All (λ e. e < length edges.now.edges) rest.now }
     requires equal_keys { ForSome (P.told keys.old) (λ told. EqualKeysMeet told.keys edges.now.edges) }
 
-    // Whether its keys are known or not.
+    // Whatever the pass tells.
     ensures told { P.told keys.new ≡ P.told keys.old }
     ensures cause { HasGatherCause (P.faults keys.old) (P.faults keys.new) result }
     ensures failed { IfErr result (HasFailure (P.failure keys.new)) }
@@ -330,7 +330,7 @@ pub fn gather_with<P: KeyPass, const K: usize>(
     ensures given { OnOk result (P.place keys.new ≡ length edges.now.edges) }
     ensures changed { IfErr result (HasOther (length edges.now.edges) (P.place keys.new)) }
 
-    // Over known keys.
+    // Over told keys.
     ensures end { OnOk result (ForSome (P.told keys.old) (λ told. (length told.keys ≡ length edges.now.edges) × (told.fault ≡ None))) }
     ensures edges { IfOk result (λ made. ForSome (P.told keys.old) (λ told. made.edges.items ≡ core_edges told.keys edges.now.edges rest.now)) }
     ensures equal { IfOk result (λ made. ForSome (P.told keys.old) (λ told. made.equal.items ≡ pairs (keys_at told.keys rest.now))) }
