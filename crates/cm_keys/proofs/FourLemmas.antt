@@ -3,7 +3,7 @@ use Rattle.std.proofs.Common.{◌≡◌, ◌∙◌, ℕ, ◌+◌, ◌-◌, ◌�
 use Rattle.std.proofs.lemmas.List.{get_or-drop}
 use Rattle.cm_io.specs.Passes.{Told, GivesFour, PassesKeys}
 use Rattle.cm_lookup2.specs.Four.{words_of_each}
-use Rattle.cm_keys.specs.Buffering.{BeginsWith}
+use Rattle.cm_keys.specs.Buffering.{BeginsWith, line_rule}
 use Rattle.cm_keys.specs.LinePass.{IsAtHand, LinePass}
 use Rattle.cm_keys.specs.NumberingLaws.{IsWithin}
 use Rattle.cm_keys.proofs.LeaveLemmas.{open_within}
@@ -13,7 +13,7 @@ use Rattle.cm_keys.proofs.PieceLemmas.{lines_after}
 pub record AreNext (max longest end : ℕ) (pass : LinePass) (lines : List (List ℕ)) : Type 0 where
   pub within : IsWithin pass.first (pass.given + length lines)
   pub few : pass.given + length lines ≤ max
-  pub begin : BeginsWith longest end pass.waiting lines
+  pub begin : BeginsWith (line_rule longest end) pass.waiting lines
 
 -- The first of them is the next key.
 pub first_at_hand : (max longest end : ℕ) (pass : LinePass) (line : List ℕ) (lines : List (List ℕ)) → AreNext max longest end pass (line ∷ lines) → IsAtHand max longest end pass line

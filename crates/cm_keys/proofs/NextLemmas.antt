@@ -5,8 +5,8 @@ use Rattle.cm_io.specs.declared.key_pass.KeyFault.TheVariants.{TooLong, TooMany}
 use Rattle.cm_io.specs.Passes.{Told, Ends, PassesKeys}
 use Rattle.cm_keys.specs.Lines.{push_first, pieces, with_key, lines_of}
 use Rattle.cm_keys.specs.LinePass.{IsAtHand, IsFull, IsOpen, LinePass, NoneAtHand}
-use Rattle.cm_keys.specs.Leaving.{keys_after, IsLeft, Leaves}
-use Rattle.cm_keys.specs.Buffering.{IsLong, TakesLines, left_bytes, ready_in}
+use Rattle.cm_keys.specs.Leaving.{keys_after, IsLeft, Leaves, bytes_left}
+use Rattle.cm_keys.specs.Buffering.{IsLong, TakesLines, left_bytes, ready_in, line_rule}
 use Rattle.cm_keys.specs.NumberingLaws.{IsWithin}
 use Rattle.cm_keys.proofs.NumberingLemmas.{lines_are_numbered}
 use Rattle.cm_keys.proofs.PieceLemmas.{no_line, none_some, some_same}
@@ -18,7 +18,7 @@ from_told f None P h x is = absurd (none_some x is)
 from_told f (Some all) P h x is = subst P (some_same is) (h all refl)
 
 pub key_given : (max longest end : ℕ) (first : Option ℕ) (given : ℕ) (told told' : Option (List ℕ)) (place place' : ℕ) (ready ready' key : List ℕ)
-    → Leaves max longest end first given told place ready
+    → Leaves max (line_rule longest end) first given (bytes_left told place ready)
     → option_map (pieces end) (left_bytes told place ready) ≡ option_map (λ rest. key ∷ pieces end rest) (left_bytes told' place' ready')
     → told' ≡ told → IsOpen first given → given < max → length key ≤ longest
     → ForSome told (λ all. IsLeft (lines_of max longest end first all) (given + 1) (keys_after max longest first (given + 1) (pieces end (ready' ++ drop place' all)))
@@ -35,16 +35,16 @@ key_given max longest end first given (Some bytes) told' place place' ready read
 
 -- After a key the next ones are left.
 pub key_leaves : (max longest end : ℕ) (first : Option ℕ) (given : ℕ) (told told' : Option (List ℕ)) (place place' : ℕ) (ready ready' key : List ℕ)
-    → Leaves max longest end first given told place ready
+    → Leaves max (line_rule longest end) first given (bytes_left told place ready)
     → option_map (pieces end) (left_bytes told place ready) ≡ option_map (λ rest. key ∷ pieces end rest) (left_bytes told' place' ready')
     → told' ≡ told → IsOpen first given → given < max → length key ≤ longest
-    → Leaves max longest end first (given + 1) told' place' ready'
+    → Leaves max (line_rule longest end) first (given + 1) (bytes_left told' place' ready')
 key_leaves max longest end first given told told' place place' ready ready' key inv same t open_first few short x is =
     (key_given max longest end first given told told' place place' ready ready' key inv same t open_first few short x (rw (← t) is)).0
 
 -- A key is the next of the known ones.
 pub key_gives : (max longest end : ℕ) (first : Option ℕ) (given : ℕ) (told told' : Option (List ℕ)) (place place' : ℕ) (ready ready' key : List ℕ)
-    → Leaves max longest end first given told place ready
+    → Leaves max (line_rule longest end) first given (bytes_left told place ready)
     → option_map (pieces end) (left_bytes told place ready) ≡ option_map (λ rest. key ∷ pieces end rest) (left_bytes told' place' ready')
     → told' ≡ told → IsOpen first given → given < max → length key ≤ longest
     → ForSome (option_map (lines_of max longest end first) told) (λ told. drop given told.keys ≡ (given + 1, key) ∷ drop (given + 1) told.keys)
@@ -57,9 +57,9 @@ within_less None n more le within = _
 within_less (Some first) n more le within = omega (arith, le, within)
 
 lines_left : (max longest end : ℕ) (first : Option ℕ) (given count room : ℕ) (told : Option (List ℕ)) (place : ℕ) (ready ready' : List ℕ)
-    → Leaves max longest end first given told place ready → TakesLines longest end ready ready' count
+    → Leaves max (line_rule longest end) first given (bytes_left told place ready) → TakesLines (line_rule longest end) ready ready' count
     → count ≤ room → given + room ≤ max → IsWithin first (given + room)
-    → Leaves max longest end first (given + count) told place ready'
+    → Leaves max (line_rule longest end) first (given + count) (bytes_left told place ready')
 lines_left max longest end first given count room told place ready ready' inv takes few most within x is =
     let whole = lines_of max longest end first x in
     let ps = pieces end (ready' ++ drop place x) in
@@ -70,15 +70,15 @@ lines_left max longest end first given count room told place ready ready' inv ta
 
 -- After some lines the next ones are left.
 pub lines_leave : (max longest end : ℕ) (first : Option ℕ) (given count room : ℕ) (told told' : Option (List ℕ)) (place place' : ℕ) (ready ready' : List ℕ)
-    → Leaves max longest end first given told place ready → told' ≡ told → place' ≡ place → TakesLines longest end ready ready' count
+    → Leaves max (line_rule longest end) first given (bytes_left told place ready) → told' ≡ told → place' ≡ place → TakesLines (line_rule longest end) ready ready' count
     → count ≤ room → given + room ≤ max → IsWithin first (given + room)
-    → Leaves max longest end first (given + count) told' place' ready'
+    → Leaves max (line_rule longest end) first (given + count) (bytes_left told' place' ready')
 lines_leave max longest end first given count room told told' place place' ready ready' inv t p takes few most within =
     rw t (rw p (lines_left max longest end first given count room told place ready ready' inv takes few most within))
 
 -- The lines are the next of the known keys.
 pub lines_give : (max longest end : ℕ) (first : Option ℕ) (given count room : ℕ) (told : Option (List ℕ)) (place : ℕ) (ready ready' : List ℕ)
-    → Leaves max longest end first given told place ready → TakesLines longest end ready ready' count
+    → Leaves max (line_rule longest end) first given (bytes_left told place ready) → TakesLines (line_rule longest end) ready ready' count
     → count ≤ room → given + room ≤ max → IsWithin first (given + room) → 0 < count
     → ForSome (option_map (lines_of max longest end first) told) (λ told. PassesKeys told (given + count) (given + count))
 lines_give max longest end first given count room told place ready ready' inv takes few most within some =
@@ -89,7 +89,7 @@ lines_give max longest end first given count room told place ready ready' inv ta
     (inside, λ d. (lines_are_numbered max longest end first x).numbered (given + count - 1) d (omega (arith, inside, some)) ∙ omega (arith, some)))
 
 pub long_gives : (max longest end : ℕ) (first : Option ℕ) (given : ℕ) (told : Option (List ℕ)) (place : ℕ) (ready : List ℕ)
-    → Leaves max longest end first given told place ready
+    → Leaves max (line_rule longest end) first given (bytes_left told place ready)
     → ((rest : List ℕ) → left_bytes told place ready ≡ Some rest → IsLong longest (pieces end rest))
     → IsOpen first given → given < max
     → ForSome (option_map (lines_of max longest end first) told) (λ told. Ends told given (Some (TooLong (given + 1))))
@@ -112,7 +112,7 @@ pub ready_some : (room : ℕ) (buf : List ℕ) (start until : ℕ) → start < u
 ready_some room buf start until some inside size = omega (arith, length-take (until - start) (drop start buf), length-drop start buf, size, inside, some)
 
 pub many_gives : (max longest end : ℕ) (first : Option ℕ) (given : ℕ) (told told' : Option (List ℕ)) (place place' : ℕ) (ready ready' : List ℕ)
-    → Leaves max longest end first given told place ready
+    → Leaves max (line_rule longest end) first given (bytes_left told place ready)
     → left_bytes told' place' ready' ≡ left_bytes told place ready → told' ≡ told → 0 < length ready'
     → IsOpen first given → max ≤ given
     → ForSome (option_map (lines_of max longest end first) told) (λ told. Ends told given (Some TooMany))
@@ -125,12 +125,12 @@ many_gives max longest end first given told told' place place' ready ready' inv 
     (subst (IsLeft whole given) (left_many max longest first given (pieces end (ready ++ drop place x)) open_first all (pieces_some end (ready ++ drop place x) more)) (inv x is)))
 
 -- at the start
-pub start_leaves : (max longest end : ℕ) (first : Option ℕ) (told : Option (List ℕ)) (place : ℕ) (ready : List ℕ) → ForSome told (λ _. place ≡ 0) → ready ≡ [] → Leaves max longest end first 0 told place ready
+pub start_leaves : (max longest end : ℕ) (first : Option ℕ) (told : Option (List ℕ)) (place : ℕ) (ready : List ℕ) → ForSome told (λ _. place ≡ 0) → ready ≡ [] → Leaves max (line_rule longest end) first 0 (bytes_left told place ready)
 start_leaves max longest end first told place ready at_start none x is = rw (at_start x is) (rw none (left_first max longest end first x))
 
 -- If no byte is left, the keys have come to their end.
 pub none_gives : (max longest end : ℕ) (first : Option ℕ) (given : ℕ) (told told' : Option (List ℕ)) (place place' : ℕ) (ready ready' : List ℕ)
-    → Leaves max longest end first given told place ready
+    → Leaves max (line_rule longest end) first given (bytes_left told place ready)
     → left_bytes told' place' ready' ≡ left_bytes told place ready → told' ≡ told → ready' ≡ [] → ForSome told' (λ bytes. drop place' bytes ≡ [])
     → ForSome (option_map (lines_of max longest end first) told) (λ told. Ends told given None)
 none_gives max longest end first given told told' place place' ready ready' inv same t none_ready none_left =

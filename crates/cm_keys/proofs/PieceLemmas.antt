@@ -4,7 +4,7 @@ use Rattle.std.specs.Option.{option_map, ForSome}
 use Rattle.std.proofs.lemmas.List.{drop-drop, drop-take, take_all}
 use Rattle.memchr.specs.Find.{Nowhere, Passes, is_byte}
 use Rattle.cm_keys.specs.Lines.{push_first, pieces}
-use Rattle.cm_keys.specs.Buffering.{with_front, BeginsWith, HasFewer, HasNoEnd, IsLong, TakesPart, left_bytes, ready_in}
+use Rattle.cm_keys.specs.Buffering.{with_front, BeginsWith, HasFewer, HasNoEnd, IsLong, TakesPart, left_bytes, ready_in, line_rule}
 use Rattle.cm_keys.specs.declared.buffered.Part.TheVariants.{Whole, More, Long}
 
 pub not_true : (b : Bool) → (b ≡ true → ⊥) → b ≡ false
@@ -129,7 +129,7 @@ ready_split end buf start until n inside p =
 
 -- the first line of some bytes
 pub line_taken : (end longest : ℕ) (hay : List ℕ) (n : ℕ) → n < length hay → Nowhere (Passes (is_byte end) hay) 0 n → Passes (is_byte end) hay n → length hay ≤ longest + 1
-    → TakesPart longest end hay (ready_in hay (n + 1) (length hay)) [] (take n hay) Whole
+    → TakesPart (line_rule longest end) hay (ready_in hay (n + 1) (length hay)) [] (take n hay) Whole
 line_taken end longest hay n inside before at room =
     let e : suc n ≡ n + 1 = omega arith in
     let left : ready_in hay (n + 1) (length hay) ≡ drop (n + 1) hay = take_all (length hay - (n + 1)) (drop (n + 1) hay) (omega (arith, length-drop (n + 1) hay)) in (
@@ -141,7 +141,7 @@ line_taken end longest hay n inside before at room =
     )
 
 -- Bytes that have no end of a line don't begin with a line and its end.
-pub no_line : (longest end : ℕ) (ready left key : List ℕ) → HasNoEnd end ready → TakesPart longest end ready left [] key Whole → ⊥
+pub no_line : (longest end : ℕ) (ready left key : List ℕ) → HasNoEnd end ready → TakesPart (line_rule longest end) ready left [] key Whole → ⊥
 no_line longest end ready left key none takes =
     let part = takes.0 in
     let first : with_front ready (pieces end []) ≡ part ∷ pieces end (left ++ []) =
@@ -153,30 +153,30 @@ drop_front end [] left = refl
 drop_front end (b ∷ bs) left = drop_front end bs left
 
 -- A whole line in the buffer is within the buffered bytes.
-pub line_inside : (longest end len : ℕ) (ready left key : List ℕ) → TakesPart longest end ready left [] key Whole → length key ≡ len → len < length ready
+pub line_inside : (longest end len : ℕ) (ready left key : List ℕ) → TakesPart (line_rule longest end) ready left [] key Whole → length key ≡ len → len < length ready
 line_inside longest end len ready left key takes long =
     omega (arith, long, ap length takes.2, ap length takes.3, length-append takes.0 (end ∷ left))
 
 -- After it comes what is left.
-pub after_line : (longest end len : ℕ) (ready left key after : List ℕ) → TakesPart longest end ready left [] key Whole → length key ≡ len → after ≡ drop (len + 1) ready → after ≡ left
+pub after_line : (longest end len : ℕ) (ready left key after : List ℕ) → TakesPart (line_rule longest end) ready left [] key Whole → length key ≡ len → after ≡ drop (len + 1) ready → after ≡ left
 after_line longest end len ready left key after takes long is =
     let part = takes.0 in
     let many : len + 1 ≡ suc (length part) = omega (arith, long, ap length takes.2) in
     is ∙ ap (λ (k : ℕ). drop k ready) many ∙ ap (drop (suc (length part))) takes.3 ∙ drop_front end part left
 
-pub line_passed : (longest end len : ℕ) (ready left key after : List ℕ) → TakesPart longest end ready left [] key Whole → length key ≡ len → after ≡ drop (len + 1) ready
-    → TakesPart longest end ready after [] key Whole
+pub line_passed : (longest end len : ℕ) (ready left key after : List ℕ) → TakesPart (line_rule longest end) ready left [] key Whole → length key ≡ len → after ≡ drop (len + 1) ready
+    → TakesPart (line_rule longest end) ready after [] key Whole
 line_passed longest end len ready left key after takes long is =
-    subst (λ (rest : List ℕ). TakesPart longest end ready rest [] key Whole) (sym (after_line longest end len ready left key after takes long is)) takes
+    subst (λ (rest : List ℕ). TakesPart (line_rule longest end) ready rest [] key Whole) (sym (after_line longest end len ready left key after takes long is)) takes
 
 -- After the first of some lines come the others.
-pub lines_after : (longest end len : ℕ) (ready after line : List ℕ) (lines : List (List ℕ)) → BeginsWith longest end ready (line ∷ lines) → length line ≡ len → after ≡ drop (len + 1) ready
-    → BeginsWith longest end after lines
+pub lines_after : (longest end len : ℕ) (ready after line : List ℕ) (lines : List (List ℕ)) → BeginsWith (line_rule longest end) ready (line ∷ lines) → length line ≡ len → after ≡ drop (len + 1) ready
+    → BeginsWith (line_rule longest end) after lines
 lines_after longest end len ready after line lines (left, takes, others) long is =
-    subst (λ (rest : List ℕ). BeginsWith longest end rest lines) (sym (after_line longest end len ready left line after takes long is)) others
+    subst (λ (rest : List ℕ). BeginsWith (line_rule longest end) rest lines) (sym (after_line longest end len ready left line after takes long is)) others
 
 -- Bytes begin with one line only.
-same_left_after : (longest end : ℕ) (ready left left' key key' : List ℕ) → TakesPart longest end ready left [] key Whole → TakesPart longest end ready left' [] key' Whole → left' ≡ left
+same_left_after : (longest end : ℕ) (ready left left' key key' : List ℕ) → TakesPart (line_rule longest end) ready left [] key Whole → TakesPart (line_rule longest end) ready left' [] key' Whole → left' ≡ left
 same_left_after longest end ready left left' key key' takes takes' =
     let part = takes.0 in
     let part' = takes'.0 in
@@ -186,15 +186,15 @@ same_left_after longest end ready left left' key key' takes takes' =
     sym (drop_front end part' left') ∙ ap (λ (l : List ℕ). drop (suc (length part')) l) bytes ∙ ap (λ (k : ℕ). drop (suc k) (part ++ end ∷ left)) (ap first_len first) ∙ drop_front end part left
 
 -- Without an end there is no line.
-pub fewer_here : (longest end count : ℕ) (ready : List ℕ) → 0 < count → HasNoEnd end ready → HasFewer longest end count ready
+pub fewer_here : (longest end count : ℕ) (ready : List ℕ) → 0 < count → HasNoEnd end ready → HasFewer (line_rule longest end) count ready
 fewer_here longest end count ready some none [] many begin = absurd (omega (arith, some, many))
 fewer_here longest end count ready some none (line ∷ lines) many (left, takes, others) = no_line longest end ready left line none takes
 
 -- After a line there is one less.
-pub fewer_after : (longest end count : ℕ) (ready left key : List ℕ) → TakesPart longest end ready left [] key Whole → HasFewer longest end count left → HasFewer longest end (suc count) ready
+pub fewer_after : (longest end count : ℕ) (ready left key : List ℕ) → TakesPart (line_rule longest end) ready left [] key Whole → HasFewer (line_rule longest end) count left → HasFewer (line_rule longest end) (suc count) ready
 fewer_after longest end count ready left key takes fewer [] many begin = absurd (omega (arith, many))
 fewer_after longest end count ready left key takes fewer (line ∷ lines) many (left', takes', others) =
-    fewer lines (omega (arith, many)) (subst (λ (rest : List ℕ). BeginsWith longest end rest lines) (same_left_after longest end ready left left' key line takes takes') others)
+    fewer lines (omega (arith, many)) (subst (λ (rest : List ℕ). BeginsWith (line_rule longest end) rest lines) (same_left_after longest end ready left left' key line takes takes') others)
 
 -- A line that is read part by part.
 
@@ -207,7 +207,7 @@ same_left end key all before told place ready ready' inv same is =
 
 pub read_whole : (longest end : ℕ) (key new : List ℕ) (all before : Option (List ℕ)) (told told' : Option (List ℕ)) (place place' : ℕ) (ready left : List ℕ)
     → option_map (pieces end) all ≡ option_map (λ rest. with_front key (pieces end rest)) before
-    → left_bytes told place ready ≡ before → told' ≡ told → place' ≡ place → TakesPart longest end ready left key new Whole
+    → left_bytes told place ready ≡ before → told' ≡ told → place' ≡ place → TakesPart (line_rule longest end) ready left key new Whole
     → option_map (pieces end) all ≡ option_map (λ rest. new ∷ pieces end rest) (left_bytes told' place' left)
 read_whole longest end key new all before told told' place place' ready left inv same t p takes =
     let e = same_left end key all before told place ready (takes.0 ++ end ∷ left) inv same takes.3 ∙ told_whole end key takes.0 left told place takes.1 in
@@ -215,7 +215,7 @@ read_whole longest end key new all before told told' place place' ready left inv
 
 pub read_more : (longest end : ℕ) (key new : List ℕ) (all before : Option (List ℕ)) (told told' : Option (List ℕ)) (place place' : ℕ) (ready left : List ℕ)
     → option_map (pieces end) all ≡ option_map (λ rest. with_front key (pieces end rest)) before
-    → left_bytes told place ready ≡ before → told' ≡ told → place' ≡ place → TakesPart longest end ready left key new More
+    → left_bytes told place ready ≡ before → told' ≡ told → place' ≡ place → TakesPart (line_rule longest end) ready left key new More
     → option_map (pieces end) all ≡ option_map (λ rest. with_front new (pieces end rest)) (left_bytes told' place' left)
 read_more longest end key new all before told told' place place' ready left inv same t p takes =
     let e = same_left end key all before told place ready ready inv same refl ∙ told_more end key ready told place takes.0 in
@@ -223,7 +223,7 @@ read_more longest end key new all before told told' place place' ready left inv 
 
 pub read_long : (longest end : ℕ) (key new : List ℕ) (all before : Option (List ℕ)) (told : Option (List ℕ)) (place : ℕ) (ready left : List ℕ)
     → option_map (pieces end) all ≡ option_map (λ rest. with_front key (pieces end rest)) before
-    → left_bytes told place ready ≡ before → TakesPart longest end ready left key new Long
+    → left_bytes told place ready ≡ before → TakesPart (line_rule longest end) ready left key new Long
     → (rest : List ℕ) → all ≡ Some rest → IsLong longest (pieces end rest)
 read_long longest end key new all before told place ready left inv same takes =
     told_long longest end key takes.0 takes.1 told place all takes.2 takes.4 (same_left end key all before told place ready (takes.0 ++ takes.1) inv same takes.3)

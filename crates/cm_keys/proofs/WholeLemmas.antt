@@ -5,7 +5,7 @@ use Rattle.std.proofs.lemmas.List.Elements.{All-cons, All-head, All-nil, All-tai
 use Rattle.std.proofs.lemmas.List.Sums.{count_by_more_yes, sum_by-append, sum_by-cons, sum_by-take-le}
 use Rattle.memchr.specs.Find.{Nowhere, Passes, is_byte}
 use Rattle.cm_keys.specs.Lines.{push_first, pieces}
-use Rattle.cm_keys.specs.Buffering.{TakesLines, ready_in}
+use Rattle.cm_keys.specs.Buffering.{TakesLines, ready_in, line_rule}
 use Rattle.cm_keys.proofs.PieceLemmas.{not_true, ready_after, ready_split, same_byte}
 
 -- A text with an end behind it is some lines: as many as it has ends, and one more.
@@ -66,7 +66,7 @@ nowhere_after end (b ∷ bs) (suc n) f = nowhere_after end bs n (λ k low high. 
 -- All lines up to the last end pass.
 pub lines_taken : (end longest : ℕ) (buf : List ℕ) (start until last : ℕ) → last < length (ready_in buf start until) → Passes (is_byte end) (ready_in buf start until) last
     → Nowhere (Passes (is_byte end) (ready_in buf start until)) (last + 1) (length (ready_in buf start until)) → until ≤ longest + 1
-    → TakesLines longest end (ready_in buf start until) (ready_in buf (start + (last + 1)) until) (count_by (is_byte end) (ready_in buf start until))
+    → TakesLines (line_rule longest end) (ready_in buf start until) (ready_in buf (start + (last + 1)) until) (count_by (is_byte end) (ready_in buf start until))
 lines_taken end longest buf start until last inside at after room =
     let hay = ready_in buf start until in
     let left = ready_in buf (start + (last + 1)) until in

@@ -36,31 +36,39 @@ pub record MarksEnds (end : ℕ) (bytes : List ℕ) (marks : ℕ) : Type 0 where
   pub ends : (i : ℕ) → bit_at marks i ≡ 1 → (i < length bytes) × (slice_index bytes i ≡ end)
   pub all : (i j : ℕ) → i < j → bit_at marks j ≡ 1 → slice_index bytes i ≡ end → bit_at marks i ≡ 1
 
+-- what a line is: the most bytes that it has, and the byte that ends it
+pub record LineRule : Type 0 where
+  pub longest : ℕ
+  pub end : ℕ
+
+abbrev pub line_rule : ℕ → ℕ → LineRule
+line_rule longest end = record { longest = longest; end = end }
+
 -- What a key took of the buffered bytes: all up to the end of its line, all of them, or not all of its line.
-abbrev pub TakesPart : ℕ → ℕ → List ℕ → List ℕ → List ℕ → List ℕ → Part → Type 0
-TakesPart longest end ready left old new Whole = (part : List ℕ) × HasNoEnd end part × (new ≡ old ++ part) × (ready ≡ part ++ end ∷ left) × (length new ≤ longest)
-TakesPart longest end ready left old new More = HasNoEnd end ready × (new ≡ old ++ ready) × (left ≡ []) × (0 < length ready) × (length new ≤ longest)
-TakesPart longest end ready left old new Long = (part : List ℕ) × (rest : List ℕ) × HasNoEnd end part × (ready ≡ part ++ rest) × (longest < length old + length part)
+abbrev pub TakesPart : LineRule → List ℕ → List ℕ → List ℕ → List ℕ → Part → Type 0
+TakesPart rule ready left old new Whole = (part : List ℕ) × HasNoEnd rule.end part × (new ≡ old ++ part) × (ready ≡ part ++ rule.end ∷ left) × (length new ≤ rule.longest)
+TakesPart rule ready left old new More = HasNoEnd rule.end ready × (new ≡ old ++ ready) × (left ≡ []) × (0 < length ready) × (length new ≤ rule.longest)
+TakesPart rule ready left old new Long = (part : List ℕ) × (rest : List ℕ) × HasNoEnd rule.end part × (ready ≡ part ++ rest) × (rule.longest < length old + length part)
 
 -- The bytes begin with these lines, each with its end.
-abbrev pub BeginsWith : ℕ → ℕ → List ℕ → List (List ℕ) → Type 0
-BeginsWith longest end ready [] = Unit {0}
-BeginsWith longest end ready (line ∷ lines) = (left : List ℕ) × TakesPart longest end ready left [] line Whole × BeginsWith longest end left lines
+abbrev pub BeginsWith : LineRule → List ℕ → List (List ℕ) → Type 0
+BeginsWith rule ready [] = Unit {0}
+BeginsWith rule ready (line ∷ lines) = (left : List ℕ) × TakesPart rule ready left [] line Whole × BeginsWith rule left lines
 
 -- The bytes don't begin with this many lines, each with its end.
-abbrev pub HasFewer : ℕ → ℕ → ℕ → List ℕ → Type 0
-HasFewer longest end count ready = (lines : List (List ℕ)) → length lines ≡ count → BeginsWith longest end ready lines → ⊥
+abbrev pub HasFewer : LineRule → ℕ → List ℕ → Type 0
+HasFewer rule count ready = (lines : List (List ℕ)) → length lines ≡ count → BeginsWith rule ready lines → ⊥
 
 -- This many whole lines in the buffer pass with their ends.
-pub record TakesLines (longest end : ℕ) (ready left : List ℕ) (count : ℕ) : Type 0 where
+pub record TakesLines (rule : LineRule) (ready left : List ℕ) (count : ℕ) : Type 0 where
   pub lines : List (List ℕ)
   pub many : length lines ≡ count
-  pub short : All (λ line. length line ≤ longest) lines
-  pub front : (more : List ℕ) → pieces end (ready ++ more) ≡ lines ++ pieces end (left ++ more)
+  pub short : All (λ line. length line ≤ rule.longest) lines
+  pub front : (more : List ℕ) → pieces rule.end (ready ++ more) ≡ lines ++ pieces rule.end (left ++ more)
 
 -- What was read of the pieces that were left.
-abbrev pub ReadsLine : ℕ → ℕ → Option (List ℕ) → Option (List ℕ) → List ℕ → Result Line Failed → Type 0
-ReadsLine longest end old new key (Ok lines.Key) = (option_map (pieces end) old ≡ option_map (λ rest. key ∷ pieces end rest) new) × (length key ≤ longest)
-ReadsLine longest end old new key (Ok lines.End) = (option_map (pieces end) old ≡ option_map (λ rest. []) new) × (option_map (pieces end) new ≡ option_map (λ rest. []) new)
-ReadsLine longest end old new key (Ok lines.TooLong) = (rest : List ℕ) → old ≡ Some rest → IsLong longest (pieces end rest)
-ReadsLine longest end old new key (Err f) = Unit {0}
+abbrev pub ReadsLine : LineRule → Option (List ℕ) → Option (List ℕ) → List ℕ → Result Line Failed → Type 0
+ReadsLine rule old new key (Ok lines.Key) = (option_map (pieces rule.end) old ≡ option_map (λ rest. key ∷ pieces rule.end rest) new) × (length key ≤ rule.longest)
+ReadsLine rule old new key (Ok lines.End) = (option_map (pieces rule.end) old ≡ option_map (λ rest. []) new) × (option_map (pieces rule.end) new ≡ option_map (λ rest. []) new)
+ReadsLine rule old new key (Ok lines.TooLong) = (rest : List ℕ) → old ≡ Some rest → IsLong rule.longest (pieces rule.end rest)
+ReadsLine rule old new key (Err f) = Unit {0}

@@ -5,7 +5,7 @@ use Rattle.cm_io.specs.Passes.{Told}
 use Rattle.cm_io.specs.declared.key_pass.KeyFault.{KeyFault}
 use Rattle.cm_io.specs.declared.key_pass.KeyFault.TheVariants.{Read, TooLong, TooMany}
 use Rattle.cm_keys.specs.Lines.{lines_of}
-use Rattle.cm_keys.specs.Buffering.{HasNoEnd, TakesPart}
+use Rattle.cm_keys.specs.Buffering.{HasNoEnd, TakesPart, line_rule}
 use Rattle.cm_keys.specs.declared.buffered.Part.TheVariants.{Whole}
 
 -- the known bytes of the source; how many lines are read, if not all; how many keys were yielded since the last rewind; whether the
@@ -55,7 +55,7 @@ IsNextLine max pass TooMany = (pass.given ≡ max) × IsOpen pass.first pass.giv
 
 -- These bytes are those of the next key, and its whole line is in the buffer, with its end.
 abbrev pub IsAtHand : ℕ → ℕ → ℕ → LinePass → List ℕ → Type 0
-IsAtHand max longest end pass key = IsOpen pass.first pass.given × (pass.given < max) × (left : List ℕ) × TakesPart longest end pass.waiting left [] key Whole
+IsAtHand max longest end pass key = IsOpen pass.first pass.given × (pass.given < max) × (left : List ℕ) × TakesPart (line_rule longest end) pass.waiting left [] key Whole
 
 -- No key is buffered: no further line is read, or there are `max` keys, or the next line is not whole in the buffer.
 abbrev pub NoneAtHand : ℕ → ℕ → LinePass → Type 0

@@ -4,7 +4,7 @@ ghost use Rattle.std.specs.Int.{bit_at};
 ghost use Rattle.std.specs.Option.{ForSome, option_map};
 ghost use Rattle.cm_io.specs.Causes.{HasCause};
 ghost use Rattle.memchr.specs.Find.{IsFirstByte, is_byte};
-ghost use Rattle.cm_keys.specs.Buffering.{ready_in, left_bytes, BeginsWith, HasFewer, HasNoEnd, MarksEnds, TakesLines, TakesPart, ReadsLine};
+ghost use Rattle.cm_keys.specs.Buffering.{ready_in, left_bytes, BeginsWith, HasFewer, HasNoEnd, MarksEnds, TakesLines, TakesPart, ReadsLine, line_rule};
 ghost use Rattle.cm_keys.specs.declared.buffered.TheConstants.{ROOM};
 
 use cm_io::{Failed, KeyBuf, MAX_KEY_LEN, Source};
@@ -123,8 +123,7 @@ impl<S: Source> Buffered<S> {
     fn take_part(&mut self, end: u8, key: &mut KeyBuf) -> Part
         requires waits { self.old.start < self.old.until }
         ensures source { self.new.source ≡ self.old.source }
-        ensures takes { TakesPart MAX_KEY_LEN end (ready_in self.old.buf self.old.start self.old.until)
-            (ready_in self.new.buf self.new.start self.new.until) key.old.items key.new.items result }
+        ensures takes { TakesPart (line_rule MAX_KEY_LEN end) (ready_in self.old.buf self.old.start self.old.until) (ready_in self.new.buf self.new.start self.new.until) key.old.items key.new.items result }
     {
         let ready = &self.buf[self.start..self.until];
         match memchr(end, ready) {
@@ -148,12 +147,9 @@ impl<S: Source> Buffered<S> {
     /// Reads a line into the key, without its end.
     pub fn read_line(&mut self, end: u8, key: &mut KeyBuf) -> Result<Line, Failed>
         ensures told { S.told self.new.source ≡ S.told self.old.source }
-        ensures line { ReadsLine MAX_KEY_LEN end
-            (left_bytes (S.told self.old.source) (S.place self.old.source)
-            (ready_in self.old.buf self.old.start self.old.until))
-            (left_bytes (S.told self.new.source) (S.place self.new.source)
-            (ready_in self.new.buf self.new.start self.new.until))
-            key.new.items result }
+        ensures line { ReadsLine (line_rule MAX_KEY_LEN end) (left_bytes (S.told self.old.source) (S.place self.old.source)
+            (ready_in self.old.buf self.old.start self.old.until)) (left_bytes (S.told self.new.source) (S.place self.new.source)
+            (ready_in self.new.buf self.new.start self.new.until)) key.new.items result }
         ensures ended { IfOk result (λ line. line ≡ Line.End → self.new.ended ≡ true) }
         ensures stays { self.old.ended ≡ true → result ≡ Ok Line.End }
         ensures cause { HasCause (S.faults self.old.source) (S.faults self.new.source) result }
@@ -179,7 +175,7 @@ impl<S: Source> Buffered<S> {
     /// The next line, without its end, if the whole line is in the buffer with its end.
     pub fn peek_line(&self, end: u8) -> Option<&[u8]>
         ensures line { IfSome result (λ line. (left : List ℕ)
-            × TakesPart MAX_KEY_LEN end (ready_in self.now.buf self.now.start self.now.until) left [] line.now Part.Whole) }
+            × TakesPart (line_rule MAX_KEY_LEN end) (ready_in self.now.buf self.now.start self.now.until) left [] line.now Part.Whole) }
         ensures none { IfNone result (HasNoEnd end (ready_in self.now.buf self.now.start self.now.until)) }
     {
         match first_line(end, &self.buf[self.start..self.until], 0) {
@@ -191,9 +187,8 @@ impl<S: Source> Buffered<S> {
     /// The next four lines, without their ends, if all of them are in the buffer with their ends.
     #[inline(always)]
     pub fn peek_four(&self, end: u8) -> Option<(&[u8], &[u8], &[u8], &[u8])>
-        ensures lines { IfSome result (λ four. BeginsWith MAX_KEY_LEN end (ready_in self.now.buf self.now.start self.now.until)
-            (four.0.now ∷ four.1.now ∷ four.2.now ∷ four.3.now ∷ [])) }
-        ensures none { IfNone result (HasFewer MAX_KEY_LEN end 4 (ready_in self.now.buf self.now.start self.now.until)) }
+        ensures lines { IfSome result (λ four. BeginsWith (line_rule MAX_KEY_LEN end) (ready_in self.now.buf self.now.start self.now.until) (four.0.now ∷ four.1.now ∷ four.2.now ∷ four.3.now ∷ [])) }
+        ensures none { IfNone result (HasFewer (line_rule MAX_KEY_LEN end) 4 (ready_in self.now.buf self.now.start self.now.until)) }
     {
         let ready = &self.buf[self.start..self.until];
         let marks = mark_ends(end, ready);
@@ -229,8 +224,7 @@ impl<S: Source> Buffered<S> {
     pub fn skip_lines(&mut self, end: u8) -> u32
         ensures source { self.new.source ≡ self.old.source }
         ensures ended { self.new.ended ≡ self.old.ended }
-        ensures lines { TakesLines MAX_KEY_LEN end (ready_in self.old.buf self.old.start self.old.until)
-            (ready_in self.new.buf self.new.start self.new.until) result }
+        ensures lines { TakesLines (line_rule MAX_KEY_LEN end) (ready_in self.old.buf self.old.start self.old.until) (ready_in self.new.buf self.new.start self.new.until) result }
         ensures all { HasNoEnd end (ready_in self.new.buf self.new.start self.new.until) }
         ensures few { result ≤ ROOM }
         ensures unchanged { result ≡ 0 → self.new ≡ self.old }
@@ -291,7 +285,7 @@ fn first_end(end: u8, bytes: &[u8], marks: u64) -> Option<(usize, u64)>
 fn first_line(end: u8, bytes: &[u8], marks: u64) -> Option<(&[u8], &[u8], u64)>
     requires few { length bytes.now ≤ ROOM }
     requires marks { MarksEnds end bytes.now marks }
-    ensures line { IfSome result (λ split. TakesPart MAX_KEY_LEN end bytes.now split.1.now [] split.0.now Part.Whole) }
+    ensures line { IfSome result (λ split. TakesPart (line_rule MAX_KEY_LEN end) bytes.now split.1.now [] split.0.now Part.Whole) }
     ensures marks { IfSome result (λ split. MarksEnds end split.1.now split.2) }
     ensures none { IfNone result (HasNoEnd end bytes.now) }
 {

@@ -3,7 +3,7 @@ ghost use Rattle.std.specs.Prelude.{◌≡◌, ◌⊎◌, ◌<◌, ◌≤◌, �
 ghost use Rattle.std.specs.Option.{ForSome};
 ghost use Rattle.cm_io.specs.Passes.{HasKeyCause, GivesFour, GivesKey, PassesKeys, failure_of};
 ghost use Rattle.cm_spec.specs.Lookup2.{words};
-ghost use Rattle.cm_keys.specs.Buffering.{HasFewer, HasNoEnd};
+ghost use Rattle.cm_keys.specs.Buffering.{HasFewer, HasNoEnd, line_rule};
 ghost use Rattle.cm_keys.specs.Lines.{lines_of};
 ghost use Rattle.cm_keys.specs.NumberingLaws.{IsWithin};
 ghost use Rattle.cm_keys.specs.declared.buffered.TheConstants.{ROOM};
@@ -30,8 +30,8 @@ pub struct Keys<S: Source> {
 impl<S: Source> Model for Keys<S> {
     ghost use Rattle.std.specs.Prelude.{is_none};
     ghost use Rattle.cm_keys.specs.LinePass.{LinePass};
-    ghost use Rattle.cm_keys.specs.Leaving.{IsPassing};
-    ghost use Rattle.cm_keys.specs.Buffering.{ready_in};
+    ghost use Rattle.cm_keys.specs.Leaving.{IsPassing, bytes_left};
+    ghost use Rattle.cm_keys.specs.Buffering.{ready_in, line_rule};
     ghost use Rattle.cm_keys.specs.declared.keys.TheConstants.{LINE_END};
     ghost use Rattle.cm_io.specs.declared.key_pass.TheConstants.{MAX_KEY_LEN};
     ghost use Rattle.cm_spec.specs.declared.limits.TheConstants.{MAX_KEYS};
@@ -49,8 +49,7 @@ impl<S: Source> Model for Keys<S> {
       waiting = ready_in k.bytes.buf k.bytes.start k.bytes.until;
     } };
 
-    ghost invariant = { λ k. IsPassing MAX_KEYS MAX_KEY_LEN LINE_END k.first k.given (is_none k.failure) (S.told k.bytes.source)
-        (S.place k.bytes.source) (ready_in k.bytes.buf k.bytes.start k.bytes.until) };
+    ghost invariant = { λ k. IsPassing MAX_KEYS (line_rule MAX_KEY_LEN LINE_END) k.first k.given (is_none k.failure) (bytes_left (S.told k.bytes.source) (S.place k.bytes.source) (ready_in k.bytes.buf k.bytes.start k.bytes.until)) };
 }
 
 impl<S: Source> Keys<S> {
@@ -160,7 +159,7 @@ impl<S: Source> KeyPass for Keys<S> {
 
     ghost next_line = { λ k. k.given + 1 };
 
-    ghost lacks_four = { λ k. IsNearEnd MAX_KEYS 4 k.first k.given ⊎ HasFewer MAX_KEY_LEN LINE_END 4 k.waiting };
+    ghost lacks_four = { λ k. IsNearEnd MAX_KEYS 4 k.first k.given ⊎ HasFewer (line_rule MAX_KEY_LEN LINE_END) 4 k.waiting };
 
     fn usable(&self) -> bool {
         self.failure.is_none()
@@ -283,7 +282,7 @@ impl<S: Source> KeyPass for Keys<S> {
         ensures unchanged { IfNone result (self.new ≡ self.old) }
 
         // Passes four lines if they are in the buffer, except near the last line to read and near `MAX_KEYS` keys.
-        ensures none { IfNone result (IsNearEnd MAX_KEYS 4 self.old.first self.old.given ⊎ HasFewer MAX_KEY_LEN LINE_END 4 self.old.waiting) }
+        ensures none { IfNone result (IsNearEnd MAX_KEYS 4 self.old.first self.old.given ⊎ HasFewer (line_rule MAX_KEY_LEN LINE_END) 4 self.old.waiting) }
 
         // The bytes of the source, the number of lines to read and `ended` stay the same.
         ensures bytes { self.new.bytes ≡ self.old.bytes }

@@ -2,7 +2,7 @@ use Rattle.std.proofs.Common.{◌+◌, ◌∙◌, ap, arith, length, drop, subst
 use Rattle.memchr.specs.Find.{is_byte}
 use Rattle.memchr.proofs.lemmas.CallerLemmas.{length-places}
 use Rattle.cm_io.specs.declared.key_pass.TheConstants.{MAX_KEY_LEN}
-use Rattle.cm_keys.specs.Buffering.{TakesLines, HasNoEnd, ready_in}
+use Rattle.cm_keys.specs.Buffering.{TakesLines, HasNoEnd, ready_in, line_rule}
 use Rattle.cm_keys.proofs.PieceLemmas.{no_end, ready_after}
 use Rattle.cm_keys.proofs.WholeLemmas.{lines_taken, nowhere_after, some_counted}
 use Rattle.cm_keys.proofs.buffered.Buffered.skip_lines.Goals as goal
@@ -14,7 +14,7 @@ returns-clause-lines g c =
     let hay = ready_in self.buf self.start self.until in
     let left = ready_in self.buf (self.start + (c.in-Some.last + 1)) self.until in
     let many = c.count-count.ensures ∙ ap length c.memchr_iter.ensures.value ∙ length-places (is_byte c.args.end) hay in
-    subst (TakesLines MAX_KEY_LEN c.args.end hay left) (sym many)
+    subst (TakesLines (line_rule MAX_KEY_LEN c.args.end) hay left) (sym many)
     (lines_taken c.args.end MAX_KEY_LEN self.buf self.start self.until c.in-Some.last m.0.high m.1 m.0.after self.in_buf)
 
 pub returns-clause-all : goal.returns-clause-all
