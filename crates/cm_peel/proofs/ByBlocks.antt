@@ -17,7 +17,7 @@ use Rattle.cm_peel.specs.Incident.{is_half_left, other_halves_all, pivot_in}
 use Rattle.cm_peel.specs.Marks.{IsUnmarked, is_marked}
 use Rattle.cm_peel.specs.RoundLaws.{removed_rises}
 use Rattle.cm_peel.specs.SetLaws.{Rises-filter, Rises-from_increasing, Rises-numbers, AreApart, Rises-apart}
-use Rattle.cm_peel.specs.Waiting.{AreEmpty, AreOpen, IsEnd, IsRoom, InBlocks, InTaking, Leads, halves_in, marked_of, waiting_in}
+use Rattle.cm_peel.specs.Waiting.{AreEmpty, AreOpen, InBlocks, InTaking, IsEnd, IsRoom, Leads, edge_blocks, halves_in, marked_of, vertex_blocks, waiting_in}
 use Rattle.cm_peel.proofs.Halves.{All-others_all, all_rise, others_agree}
 use Rattle.cm_peel.proofs.Incident.{AreLinked-agree, place_in}
 use Rattle.cm_peel.proofs.InRound.{in_round_more}
@@ -41,7 +41,7 @@ pub marked_none : (marks : List ℕ) → marks ≡ replicate (length marks) 0 �
 marked_none marks clear = none_pass (is_marked marks) (numbers_from 0 (64 * length marks)) (λ e. unmarked marks e clear)
 
 -- before the first half-edge waits
-pub blocks_begun : (graph : Graph) (t size blocks each : ℕ) (room counts : List ℕ) (l : Links) (marks bytes freed : List ℕ) → InTaking graph t blocks each [] l marks bytes freed → AreEmpty counts → InBlocks graph t size blocks each room counts l marks bytes freed []
+pub blocks_begun : (graph : Graph) (t size blocks each : ℕ) (room counts : List ℕ) (l : Links) (marks bytes freed : List ℕ) → InTaking graph [] l (edge_blocks t blocks each marks bytes freed) → AreEmpty counts → InBlocks graph (vertex_blocks size room counts) l (edge_blocks t blocks each marks bytes freed) []
 blocks_begun graph t size blocks each room counts l marks bytes freed r empty = record {
   gone = [];
   round = r;
@@ -70,7 +70,7 @@ in_round_gone graph t gone gone' l next bytes r same = record {
 }
 
 -- once none waits, all of them are gone
-pub blocks_ended : (graph : Graph) (t size blocks each : ℕ) (room counts : List ℕ) (l : Links) (marks bytes freed done : List ℕ) → InBlocks graph t size blocks each room counts l marks bytes freed done → AreEmpty counts → InTaking graph t blocks each done l marks bytes freed
+pub blocks_ended : (graph : Graph) (t size blocks each : ℕ) (room counts : List ℕ) (l : Links) (marks bytes freed done : List ℕ) → InBlocks graph (vertex_blocks size room counts) l (edge_blocks t blocks each marks bytes freed) done → AreEmpty counts → InTaking graph done l (edge_blocks t blocks each marks bytes freed)
 blocks_ended graph t size blocks each room counts l marks bytes freed done r empty = record {
   after = r.round.after;
   next = r.round.next;
@@ -85,13 +85,13 @@ blocks_ended graph t size blocks each room counts l marks bytes freed done r emp
       absurd (false≢true (ap (λ (hs : List Half). has (map place_in hs) q) (sym (none_waits size room counts f.0 (empty f.0 f.1))) ∙ f.2))
 
 -- once no place waits either, the edges that are freed are those that are marked
-pub taking_ended : (graph : Graph) (t blocks each : ℕ) (gone : List ℕ) (l : Links) (marks bytes freed after next : List ℕ) → Leads t blocks each marks bytes freed after next → ((b : ℕ) → b < blocks → get_or freed b 0 ≡ 0) → InRound graph t gone l next after → InRound graph t gone l (marked_of marks) bytes
+pub taking_ended : (graph : Graph) (t blocks each : ℕ) (gone : List ℕ) (l : Links) (marks bytes freed after next : List ℕ) → Leads (edge_blocks t blocks each marks bytes freed) after next → ((b : ℕ) → b < blocks → get_or freed b 0 ≡ 0) → InRound graph t gone l next after → InRound graph t gone l (marked_of marks) bytes
 taking_ended graph t blocks each gone l marks bytes freed after next leads none r =
     let e = leads_ended t blocks each marks bytes freed after next leads none in
     subst (λ (xs : List ℕ). InRound graph t gone l (marked_of marks) xs) e.0 (in_round_members graph t gone l next (marked_of marks) after r (Rises-apart 0 (marked_of marks) (Rises-filter (is_marked marks) 0 _ (Rises-numbers 0 (64 * length marks)))) e.1)
 
 -- before a place waits
-pub taking_begun : (graph : Graph) (t blocks each : ℕ) (l : Links) (marks bytes freed : List ℕ) → InRound graph t [] l [] bytes → Leads t blocks each marks bytes freed bytes [] → ((b : ℕ) → b < blocks → get_or freed b 0 ≡ 0) → 0 < each → InTaking graph t blocks each [] l marks bytes freed
+pub taking_begun : (graph : Graph) (t blocks each : ℕ) (l : Links) (marks bytes freed : List ℕ) → InRound graph t [] l [] bytes → Leads (edge_blocks t blocks each marks bytes freed) bytes [] → ((b : ℕ) → b < blocks → get_or freed b 0 ≡ 0) → 0 < each → InTaking graph [] l (edge_blocks t blocks each marks bytes freed)
 taking_begun graph t blocks each l marks bytes freed r leads none some = record {
   after = bytes;
   next = [];
@@ -101,8 +101,8 @@ taking_begun graph t blocks each l marks bytes freed r leads none some = record 
 }
 
 -- some half-edges of the round are removed, and the places that this frees wait, or are taken
-pub taking_more : (k : ℕ) (graph : Graph) (t blocks each : ℕ) (gone : List ℕ) (l m : Links) (part : List Half) (places marks bytes freed marks' bytes' freed' : List ℕ) → k ≤ 3 → AreEdges k graph.vertices graph.edges → InTaking graph t blocks each gone l marks bytes freed → IsPart graph.edges t l part → m ≡ removed_all l part → places ≡ places_of m part
-    → AreOpen blocks each freed' → ((after next : List ℕ) → Leads t blocks each marks bytes freed after next → (after' : List ℕ) × (next' : List ℕ) × AreTaken t places after after' next next' × Leads t blocks each marks' bytes' freed' after' next') → InTaking graph t blocks each (gone ++ map place_in part) m marks' bytes' freed'
+pub taking_more : (k : ℕ) (graph : Graph) (t blocks each : ℕ) (gone : List ℕ) (l m : Links) (part : List Half) (places marks bytes freed marks' bytes' freed' : List ℕ) → k ≤ 3 → AreEdges k graph.vertices graph.edges → InTaking graph gone l (edge_blocks t blocks each marks bytes freed) → IsPart graph.edges t l part → m ≡ removed_all l part → places ≡ places_of m part
+    → AreOpen blocks each freed' → ((after next : List ℕ) → Leads (edge_blocks t blocks each marks bytes freed) after next → (after' : List ℕ) × (next' : List ℕ) × AreTaken t places after after' next next' × Leads (edge_blocks t blocks each marks' bytes' freed') after' next') → InTaking graph (gone ++ map place_in part) m (edge_blocks t blocks each marks' bytes' freed')
 taking_more k graph t blocks each gone l m part places marks bytes freed marks' bytes' freed' small are r p is listed free step =
     let w = step r.after r.next r.leads in
     record {
@@ -114,7 +114,7 @@ taking_more k graph t blocks each gone l m part places marks bytes freed marks' 
     }
 
 -- the byte of an edge of this round is what it is once all places are taken
-round_byte : (t blocks each : ℕ) (marks bytes freed after next : List ℕ) (e : ℕ) → Leads t blocks each marks bytes freed after next → e < length bytes → get_or after e 0 / 4 ≡ t % 2 → get_or bytes e 0 ≡ get_or after e 0
+round_byte : (t blocks each : ℕ) (marks bytes freed after next : List ℕ) (e : ℕ) → Leads (edge_blocks t blocks each marks bytes freed) after next → e < length bytes → get_or after e 0 / 4 ≡ t % 2 → get_or bytes e 0 ≡ get_or after e 0
 round_byte t blocks each marks bytes freed after next e r h at =
     let here : eqb (get_or bytes e 0 / 4) (t % 2) ≡ true = sym (tag_kept t r.waiting bytes after [] r.fresh e r.taken h) ∙ eq-eqb _ _ at in
     sym (r.taken.byte e h ∙ cond-true _ (get_or bytes e 0) (least (tag_of (suc t)) r.waiting e (get_or bytes e 0)) here)
@@ -155,7 +155,7 @@ chunk_next k graph t d n small are few = record {
       absurd (both_ways _ (parts_apart 0 d round (q / 4) (removed_rises graph.edges t) (take_member n (drop d round) (q / 4) (in_chunk q m).0)) early.0)
 
 -- the half-edges of a chunk, by the bytes
-chunk_pivots : (k : ℕ) (graph : Graph) (t blocks each d n : ℕ) (gone : List ℕ) (l : Links) (marks bytes freed : List ℕ) → k ≤ 3 → AreEdges k graph.vertices graph.edges → InTaking graph t blocks each gone l marks bytes freed → other_halves_all graph.edges (pivot_in bytes) (chunk_of graph t d n) ≡ other_halves_all graph.edges (pivot_of graph.edges) (chunk_of graph t d n)
+chunk_pivots : (k : ℕ) (graph : Graph) (t blocks each d n : ℕ) (gone : List ℕ) (l : Links) (marks bytes freed : List ℕ) → k ≤ 3 → AreEdges k graph.vertices graph.edges → InTaking graph gone l (edge_blocks t blocks each marks bytes freed) → other_halves_all graph.edges (pivot_in bytes) (chunk_of graph t d n) ≡ other_halves_all graph.edges (pivot_of graph.edges) (chunk_of graph t d n)
 chunk_pivots k graph t blocks each d n gone l marks bytes freed small are r = others_agree graph.edges (pivot_in bytes) (pivot_of graph.edges) (chunk_of graph t d n) (λ e m.
     let at : has (removed_after graph.edges t) e ≡ true = chunk_member graph t d n e m in
     let h : e < length graph.edges = (round_inside graph.edges t e at).0 in
@@ -168,7 +168,7 @@ chunk_pivots k graph t blocks each d n gone l marks bytes freed small are r = ot
     let same : get_or bytes e 0 ≡ get_or r.after e 0 = round_byte t blocks each marks bytes freed r.after r.next e r.leads (omega (arith, h, r.round.bytes_long, r.leads.taken.bytes_long)) tag in
     omega (arith, same, byte, small))
 
-pub are_next : (k : ℕ) (graph : Graph) (t blocks each d n : ℕ) (gone : List ℕ) (l : Links) (marks bytes freed chunk : List ℕ) (halves : List Half) → k ≤ 3 → AreEdges k graph.vertices graph.edges → InTaking graph t blocks each gone l marks bytes freed → d + n ≤ length (removed_after graph.edges t) → chunk ≡ chunk_of graph t d n
+pub are_next : (k : ℕ) (graph : Graph) (t blocks each d n : ℕ) (gone : List ℕ) (l : Links) (marks bytes freed chunk : List ℕ) (halves : List Half) → k ≤ 3 → AreEdges k graph.vertices graph.edges → InTaking graph gone l (edge_blocks t blocks each marks bytes freed) → d + n ≤ length (removed_after graph.edges t) → chunk ≡ chunk_of graph t d n
     → halves ≡ other_halves_all graph.edges (pivot_in bytes) chunk → AreNext graph t d n halves
 are_next k graph t blocks each d n gone l marks bytes freed chunk halves small are r few is listed = subst (AreNext graph t d n) (sym (listed ∙ (ap (other_halves_all graph.edges (pivot_in bytes)) is ∙ chunk_pivots k graph t blocks each d n gone l marks bytes freed small are r))) (chunk_next k graph t d n small are few)
 

@@ -6,7 +6,7 @@ use Rattle.std.proofs.lemmas.List.{get_or-set_same}
 use Rattle.cm_spec.specs.Lists.{has}
 use Rattle.cm_peel.specs.AtRound.{AreTaken, is_listed, least, tag_of}
 use Rattle.cm_peel.specs.Marks.{is_marked}
-use Rattle.cm_peel.specs.Waiting.{AreWaiting, Leads, freed_in, put_freed}
+use Rattle.cm_peel.specs.Waiting.{AreWaiting, Leads, edge_blocks, freed_in, put_freed}
 use Rattle.cm_peel.proofs.Sets.{same_from}
 use Rattle.cm_peel.proofs.Taking.{has-append, has-push_other, least-is, least-le, least-le_listed, taken_more}
 use Rattle.cm_peel.proofs.Waits.{piece_set, step_over}
@@ -172,7 +172,7 @@ waiting_put many blocks each freed waiting q r h free = record {
       has-push_other waiting q p (λ s. other (ap (λ x. x / 524288) (sym s))) ∙ (r.same p low ∙ ap (λ xs. has xs p) (sym (there (p / 524288) (omega (arith, r.all)) other).1))
 
 -- one more place waits
-pub leads_put : (t blocks each : ℕ) (marks bytes freed after next : List ℕ) (q : ℕ) → Leads t blocks each marks bytes freed after next → q / 4 < length bytes → get_or freed (q / 524288) 0 < each → Leads t blocks each marks bytes (put_freed blocks each freed (q / 524288) (get_or freed (q / 524288) 0) q) (byte_set t after q) (next ++ fresh_one after q)
+pub leads_put : (t blocks each : ℕ) (marks bytes freed after next : List ℕ) (q : ℕ) → Leads (edge_blocks t blocks each marks bytes freed) after next → q / 4 < length bytes → get_or freed (q / 524288) 0 < each → Leads (edge_blocks t blocks each marks bytes (put_freed blocks each freed (q / 524288) (get_or freed (q / 524288) 0) q)) (byte_set t after q) (next ++ fresh_one after q)
 leads_put t blocks each marks bytes freed after next q r h free = record {
   all_marks = r.all_marks;
   few_marks = r.few_marks;

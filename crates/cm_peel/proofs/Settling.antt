@@ -13,7 +13,7 @@ use Rattle.cm_peel.specs.CoreLaws.{filter_no_longer}
 use Rattle.cm_peel.specs.Marks.{is_marked}
 use Rattle.cm_peel.specs.Peeling.{is_taken}
 use Rattle.cm_peel.specs.SetLaws.{Rises-filter, Rises-numbers, has-filter, has-from_Contains, has-numbers_high, length-numbers, AreApart, Rises-apart}
-use Rattle.cm_peel.specs.Waiting.{AreMarked, AreWaiting, Leads, freed_in, marked_of}
+use Rattle.cm_peel.specs.Waiting.{AreMarked, AreWaiting, Leads, edge_blocks, edge_tags, freed_in, marked_of}
 use Rattle.cm_peel.proofs.Leading.{cond_same, least_same, listed_at, listed_from, listed_same, taken_none}
 use Rattle.cm_peel.proofs.Listing.{kept_moved}
 use Rattle.cm_peel.proofs.Marked.{has_marked}
@@ -104,7 +104,7 @@ AreApart-filter p (x ∷ xs) a = go (p x) (AreApart-filter p xs a.1) where
   go false ih = ih
 
 -- the edges of a block's places are taken and marked
-pub leads_block : (t blocks each b count : ℕ) (marks marks' bytes bytes' freed after next : List ℕ) → b < blocks → length marks' ≡ length marks → AreMarked t (freed_in blocks each freed b) bytes bytes' marks marks' count → Leads t blocks each marks bytes freed after next → Leads t blocks each marks' bytes' (set freed b 0) after next
+pub leads_block : (t blocks each b count : ℕ) (marks marks' bytes bytes' freed after next : List ℕ) → b < blocks → length marks' ≡ length marks → AreMarked (edge_tags bytes marks) (edge_tags bytes' marks') t (freed_in blocks each freed b) count → Leads (edge_blocks t blocks each marks bytes freed) after next → Leads (edge_blocks t blocks each marks' bytes' (set freed b 0)) after next
 leads_block t blocks each b count marks marks' bytes bytes' freed after next low long a r = record {
   all_marks = omega (arith, r.all_marks, long, a.taken.bytes_long);
   few_marks = omega (arith, r.few_marks, long);
@@ -222,7 +222,7 @@ leads_block t blocks each b count marks marks' bytes bytes' freed after next low
 pub marked_few : (marks : List ℕ) → length (marked_of marks) ≤ 64 * length marks
 marked_few marks = omega (arith, filter_no_longer (is_marked marks) (numbers_from 0 (64 * length marks)), length-numbers 0 (64 * length marks))
 
-pub marked_count : (t blocks each b count : ℕ) (marks marks' bytes bytes' freed after next : List ℕ) → b < blocks → length marks' ≡ length marks → AreMarked t (freed_in blocks each freed b) bytes bytes' marks marks' count → Leads t blocks each marks bytes freed after next → length (marked_of marks') ≡ length (marked_of marks) + count
+pub marked_count : (t blocks each b count : ℕ) (marks marks' bytes bytes' freed after next : List ℕ) → b < blocks → length marks' ≡ length marks → AreMarked (edge_tags bytes marks) (edge_tags bytes' marks') t (freed_in blocks each freed b) count → Leads (edge_blocks t blocks each marks bytes freed) after next → length (marked_of marks') ≡ length (marked_of marks) + count
 marked_count t blocks each b count marks marks' bytes bytes' freed after next low long a r =
     let moved = kept_moved (is_marked marks') all (64 * length marks') apart same (λ e m. inside e (or_cases (has (marked_of marks) e) (has a.fresh e) (sym (has-append (marked_of marks) a.fresh e) ∙ m))) in
     omega (arith, length_permutation _ _ moved, length-append (marked_of marks) a.fresh, a.many) where
@@ -250,7 +250,7 @@ marked_count t blocks each b count marks marks' bytes bytes' freed after next lo
       inside e (inr m) = omega (arith, below e m, r.all_marks, long)
 
 -- before a place waits, and once none waits
-pub leads_begun : (t blocks each : ℕ) (marks bytes freed : List ℕ) → blocks + blocks * each ≤ length freed → length freed ≤ 67109056 → each ≤ 16384 → length bytes ≤ 131072 * blocks → length bytes ≤ 64 * length marks → 64 * length marks ≤ MAX_EDGES → marks ≡ replicate (length marks) 0 → ((b : ℕ) → b < blocks → get_or freed b 0 ≡ 0) → Leads t blocks each marks bytes freed bytes []
+pub leads_begun : (t blocks each : ℕ) (marks bytes freed : List ℕ) → blocks + blocks * each ≤ length freed → length freed ≤ 67109056 → each ≤ 16384 → length bytes ≤ 131072 * blocks → length bytes ≤ 64 * length marks → 64 * length marks ≤ MAX_EDGES → marks ≡ replicate (length marks) 0 → ((b : ℕ) → b < blocks → get_or freed b 0 ≡ 0) → Leads (edge_blocks t blocks each marks bytes freed) bytes []
 leads_begun t blocks each marks bytes freed within few short all room fits clear empty = record {
   all_marks = room;
   few_marks = fits;
@@ -273,7 +273,7 @@ leads_begun t blocks each marks bytes freed within few short all room fits clear
   none : (b : ℕ) → b < blocks → freed_in blocks each freed b ≡ []
   none b low = ap (λ n. take n (drop (blocks + b * each) freed)) (empty b low)
 
-pub leads_ended : (t blocks each : ℕ) (marks bytes freed after next : List ℕ) → Leads t blocks each marks bytes freed after next → ((b : ℕ) → b < blocks → get_or freed b 0 ≡ 0) → (after ≡ bytes) × ((e : ℕ) → has (marked_of marks) e ≡ has next e)
+pub leads_ended : (t blocks each : ℕ) (marks bytes freed after next : List ℕ) → Leads (edge_blocks t blocks each marks bytes freed) after next → ((b : ℕ) → b < blocks → get_or freed b 0 ≡ 0) → (after ≡ bytes) × ((e : ℕ) → has (marked_of marks) e ≡ has next e)
 leads_ended t blocks each marks bytes freed after next r empty = (same_number_lists after bytes r.taken.bytes_long (λ e h. r.taken.byte e (omega (arith, h, r.taken.bytes_long)) ∙ (ap (λ n. cond (eqb (get_or bytes e 0 / 4) (t % 2)) (get_or bytes e 0) n) (least-unlisted (tag_of (suc t)) r.waiting e (get_or bytes e 0) (unlisted e)) ∙ cond_same (eqb (get_or bytes e 0 / 4) (t % 2)) (get_or bytes e 0))), λ e. has_marked marks e ∙ sym (r.members e ∙ (ap (λ c. is_marked marks e || c) (ap (λ (xs : List ℕ). has xs e) r.taken.next_is ∙ (r.taken.members e ∙ and_left _ (not (is_taken bytes e)) (unlisted e))) ∙ or_none (is_marked marks e)))) where
   none : (q : ℕ) → has r.waiting q ≡ false
   none q = elim (cases_Bool (has r.waiting q)) [

@@ -10,7 +10,7 @@ use Rattle.cm_spec.specs.Graph.{AreEdges, ends_at}
 use Rattle.cm_graph_edges.specs.declared.incidence.Half.{Half}
 use Rattle.cm_graph_edges.specs.Graph.{Graph, Links, IsHalf}
 use Rattle.cm_peel.specs.AtRound.{InRound, IsOtherPlace, is_half_kept}
-use Rattle.cm_peel.specs.Waiting.{put_room, halves_in, waiting_in, IsEnd, IsOpen, IsRoom, Waits, InBlocks, InTaking}
+use Rattle.cm_peel.specs.Waiting.{InBlocks, InTaking, IsEnd, IsOpen, IsRoom, Waits, edge_blocks, halves_in, put_room, vertex_blocks, waiting_in}
 use Rattle.cm_peel.specs.SetLaws.{Contains-from_has, AreApart}
 use Rattle.cm_peel.proofs.Halves.{All-one, found_in}
 use Rattle.cm_peel.proofs.Incident.{place_in, slot_is, where_get}
@@ -112,8 +112,8 @@ not_gone gone done q inside none = elim (cases_Bool (has gone q)) [
 ]
 
 -- the state after one more half-edge waits
-pub blocks_put : (graph : Graph) (t size blocks each : ℕ) (room counts : List ℕ) (l : Links) (marks bytes freed done : List ℕ) (b c : ℕ) (h : Half) → InBlocks graph t size blocks each room counts l marks bytes freed done → IsEnd graph.edges h → IsOtherPlace graph.edges t h.place → has done h.place ≡ false → h.vertex / 65536 ≡ b → b < length counts → c ≡ get_or counts b 0 → 2 * c + 2 ≤ size → b * size + size ≤ length room
-    → InBlocks graph t size blocks each (put_room size room b c h) (set counts b (c + 1)) l marks bytes freed (done ++ h.place ∷ [])
+pub blocks_put : (graph : Graph) (t size blocks each : ℕ) (room counts : List ℕ) (l : Links) (marks bytes freed done : List ℕ) (b c : ℕ) (h : Half) → InBlocks graph (vertex_blocks size room counts) l (edge_blocks t blocks each marks bytes freed) done → IsEnd graph.edges h → IsOtherPlace graph.edges t h.place → has done h.place ≡ false → h.vertex / 65536 ≡ b → b < length counts → c ≡ get_or counts b 0 → 2 * c + 2 ≤ size → b * size + size ≤ length room
+    → InBlocks graph (vertex_blocks size (put_room size room b c h) (set counts b (c + 1))) l (edge_blocks t blocks each marks bytes freed) (done ++ h.place ∷ [])
 blocks_put graph t size blocks each room counts l marks bytes freed done b c h r end other fresh block low is fits within = record {
   gone = r.gone;
   round = r.round;
@@ -175,7 +175,7 @@ blocks_put graph t size blocks each room counts l marks bytes freed done b c h r
     ]
 
 -- what waits for a block is there, and is removed at once
-pub block_halves : (graph : Graph) (t size blocks each : ℕ) (room counts : List ℕ) (l : Links) (marks bytes freed done : List ℕ) (b : ℕ) → (r : InBlocks graph t size blocks each room counts l marks bytes freed done) → b < length counts → IsPart graph.edges t l (waiting_in size room counts b)
+pub block_halves : (graph : Graph) (t size blocks each : ℕ) (room counts : List ℕ) (l : Links) (marks bytes freed done : List ℕ) (b : ℕ) → (r : InBlocks graph (vertex_blocks size room counts) l (edge_blocks t blocks each marks bytes freed) done) → b < length counts → IsPart graph.edges t l (waiting_in size room counts b)
 block_halves graph t size blocks each room counts l marks bytes freed done b r low = record {
   halves = (λ k d h. let w = r.waits b low k d h in half_there graph t r.gone l _ _ _ r.round.round w.end w.other w.there, pairs_from_apart _ (r.apart b low));
   others = λ q m.
@@ -184,8 +184,8 @@ block_halves graph t size blocks each room counts l marks bytes freed done b r l
 }
 
 -- the state after a block is emptied
-pub blocks_emptied : (graph : Graph) (t size blocks each : ℕ) (room counts : List ℕ) (l m : Links) (marks bytes freed marks' bytes' freed' done : List ℕ) (b : ℕ) → (r : InBlocks graph t size blocks each room counts l marks bytes freed done) → b < length counts
-    → ((gone : List ℕ) → InTaking graph t blocks each gone l marks bytes freed → InTaking graph t blocks each (gone ++ map place_in (waiting_in size room counts b)) m marks' bytes' freed') → InBlocks graph t size blocks each room (set counts b 0) m marks' bytes' freed' done
+pub blocks_emptied : (graph : Graph) (t size blocks each : ℕ) (room counts : List ℕ) (l m : Links) (marks bytes freed marks' bytes' freed' done : List ℕ) (b : ℕ) → (r : InBlocks graph (vertex_blocks size room counts) l (edge_blocks t blocks each marks bytes freed) done) → b < length counts
+    → ((gone : List ℕ) → InTaking graph gone l (edge_blocks t blocks each marks bytes freed) → InTaking graph (gone ++ map place_in (waiting_in size room counts b)) m (edge_blocks t blocks each marks' bytes' freed')) → InBlocks graph (vertex_blocks size room (set counts b 0)) m (edge_blocks t blocks each marks' bytes' freed') done
 blocks_emptied graph t size blocks each room counts l m marks bytes freed marks' bytes' freed' done b r low moved = record {
   gone = r.gone ++ map place_in here;
   round = moved r.gone r.round;
@@ -259,10 +259,10 @@ room_kept graph size room counts marks room' counts' marks' r a b c = record {
 
 -- the state after the next half-edge of a list waits
 pub wait_one : (k : ℕ) (graph : Graph) (t size blocks each : ℕ) (room counts : List ℕ) (l : Links) (marks bytes freed done : List ℕ) (halves : List Half) (i : ℕ) (h : Half) → AreEdges k graph.vertices graph.edges → IsRoom graph size room counts marks → IsOpen size counts → All (IsEnd graph.edges) halves
-    → ((q : ℕ) → has (map place_in halves) q ≡ true → IsOtherPlace graph.edges t q) → AreApart (map place_in halves) → ((q : ℕ) → has (map place_in halves) q ≡ true → has done q ≡ false) → i < length halves → get_or halves i h ≡ h → InBlocks graph t size blocks each room counts l marks bytes freed (done ++ map place_in (take i halves))
-    → InBlocks graph t size blocks each (put_room size room (h.vertex / 65536) (get_or counts (h.vertex / 65536) 0) h) (set counts (h.vertex / 65536) (get_or counts (h.vertex / 65536) 0 + 1)) l marks bytes freed (done ++ map place_in (take (i + 1) halves))
+    → ((q : ℕ) → has (map place_in halves) q ≡ true → IsOtherPlace graph.edges t q) → AreApart (map place_in halves) → ((q : ℕ) → has (map place_in halves) q ≡ true → has done q ≡ false) → i < length halves → get_or halves i h ≡ h → InBlocks graph (vertex_blocks size room counts) l (edge_blocks t blocks each marks bytes freed) (done ++ map place_in (take i halves))
+    → InBlocks graph (vertex_blocks size (put_room size room (h.vertex / 65536) (get_or counts (h.vertex / 65536) 0) h) (set counts (h.vertex / 65536) (get_or counts (h.vertex / 65536) 0 + 1))) l (edge_blocks t blocks each marks bytes freed) (done ++ map place_in (take (i + 1) halves))
 wait_one k graph t size blocks each room counts l marks bytes freed done halves i h are fits free ends others apart fresh low is r =
-    subst (InBlocks graph t size blocks each (put_room size room b c h) (set counts b (c + 1)) l marks bytes freed) more (blocks_put graph t size blocks each room counts l marks bytes freed (done ++ map place_in (take i halves)) b c h r end (others h.place member) new refl below refl (omega (arith, free b below, fits.even)) (omega (arith, step_over b (length counts) size below, fits.within))) where
+    subst (InBlocks graph (vertex_blocks size (put_room size room b c h) (set counts b (c + 1))) l (edge_blocks t blocks each marks bytes freed)) more (blocks_put graph t size blocks each room counts l marks bytes freed (done ++ map place_in (take i halves)) b c h r end (others h.place member) new refl below refl (omega (arith, free b below, fits.even)) (omega (arith, step_over b (length counts) size below, fits.within))) where
       b : ℕ
       b = h.vertex / 65536
 

@@ -16,12 +16,50 @@ use Rattle.cm_spec.specs.declared.limits.TheConstants.{MAX_EDGES}
 abbrev pub marked_of : List ℕ → List ℕ
 marked_of marks = filter (is_marked marks) (numbers_from 0 (64 * length marks))
 
+-- the bytes of all edges, and their marks
+pub record EdgeTags : Type 0 where
+  pub bytes : List ℕ
+  pub marks : List ℕ
+
+abbrev pub edge_tags : List ℕ → List ℕ → EdgeTags
+edge_tags bytes marks = record { bytes = bytes; marks = marks }
+
 -- the edges of some places are taken as `AreTaken` says, and those that are new, `count` of them, are marked
-pub record AreMarked (t : ℕ) (places bytes bytes' marks marks' : List ℕ) (count : ℕ) : Type 0 where
+pub record AreMarked (old new : EdgeTags) (t : ℕ) (places : List ℕ) (count : ℕ) : Type 0 where
   pub fresh : List ℕ
-  pub taken : AreTaken t places bytes bytes' [] fresh
-  pub marked : (e : ℕ) → is_marked marks' e ≡ (is_marked marks e || has fresh e)
+  pub taken : AreTaken t places old.bytes new.bytes [] fresh
+  pub marked : (e : ℕ) → is_marked new.marks e ≡ (is_marked old.marks e || has fresh e)
   pub many : count ≡ length fresh
+
+-- what a round by blocks knows of the edges: how many rounds went before; how many blocks of edges there are, and how many places wait for
+-- each at most; the marks and the bytes of the edges; and the places that wait
+pub record EdgeBlocks : Type 0 where
+  pub rounds : ℕ
+  pub blocks : ℕ
+  pub each : ℕ
+  pub marks : List ℕ
+  pub bytes : List ℕ
+  pub freed : List ℕ
+
+abbrev pub edge_blocks : ℕ → ℕ → ℕ → List ℕ → List ℕ → List ℕ → EdgeBlocks
+edge_blocks rounds blocks each marks bytes freed = record { rounds = rounds; blocks = blocks; each = each; marks = marks; bytes = bytes; freed = freed }
+
+-- the same by a plan
+abbrev pub by_plan : Plan → List ℕ → List ℕ → List ℕ → EdgeBlocks
+by_plan plan marks bytes freed = edge_blocks plan.rounds plan.blocks plan.each marks bytes freed
+
+-- and of what the steps of a round take and change
+abbrev pub edges_of : Taking → EdgeBlocks
+edges_of taking = by_plan taking.plan taking.marks.now taking.bytes.now taking.freed.now
+
+-- what it knows of the vertices: how many numbers of the room each block of vertices has, the room, and how many half-edges wait for each
+pub record VertexBlocks : Type 0 where
+  pub size : ℕ
+  pub room : List ℕ
+  pub counts : List ℕ
+
+abbrev pub vertex_blocks : ℕ → List ℕ → List ℕ → VertexBlocks
+vertex_blocks size room counts = record { size = size; room = room; counts = counts }
 
 -- the places that wait for block b of edges: the room has a count for each of the blocks, and then `each` numbers for each
 abbrev pub freed_in : ℕ → ℕ → List ℕ → ℕ → List ℕ
@@ -47,23 +85,23 @@ pub record AreWaiting (many blocks each : ℕ) (freed waiting : List ℕ) : Type
   pub same : (q : ℕ) → q / 4 < many → has waiting q ≡ has (freed_in blocks each freed (q / 524288)) q
 
 -- once the edges of all places that wait are taken, the bytes are those in `after`, and the marked edges are those in `next`
-pub record Leads (t blocks each : ℕ) (marks bytes freed after next : List ℕ) : Type 0 where
-  pub all_marks : length bytes ≤ 64 * length marks
-  pub few_marks : 64 * length marks ≤ MAX_EDGES
-  pub old : (e : ℕ) → is_marked marks e ≡ true → is_taken bytes e ≡ true
+pub record Leads (edges : EdgeBlocks) (after next : List ℕ) : Type 0 where
+  pub all_marks : length edges.bytes ≤ 64 * length edges.marks
+  pub few_marks : 64 * length edges.marks ≤ MAX_EDGES
+  pub old : (e : ℕ) → is_marked edges.marks e ≡ true → is_taken edges.bytes e ≡ true
   pub waiting : List ℕ
-  pub waits : AreWaiting (length bytes) blocks each freed waiting
+  pub waits : AreWaiting (length edges.bytes) edges.blocks edges.each edges.freed waiting
   pub fresh : List ℕ
-  pub taken : AreTaken t waiting bytes after [] fresh
-  pub members : (e : ℕ) → has next e ≡ (is_marked marks e || has fresh e)
+  pub taken : AreTaken edges.rounds waiting edges.bytes after [] fresh
+  pub members : (e : ℕ) → has next e ≡ (is_marked edges.marks e || has fresh e)
 
 -- in a round by blocks: the half-edges at the places in `gone` are removed so far, and the edges that this has freed are marked, or a place of theirs waits
-pub record InTaking (graph : Graph) (t blocks each : ℕ) (gone : List ℕ) (l : Links) (marks bytes freed : List ℕ) : Type 0 where
+pub record InTaking (graph : Graph) (gone : List ℕ) (l : Links) (edges : EdgeBlocks) : Type 0 where
   pub after : List ℕ
   pub next : List ℕ
-  pub leads : Leads t blocks each marks bytes freed after next
-  pub free : AreOpen blocks each freed
-  pub round : InRound graph t gone l next after
+  pub leads : Leads edges after next
+  pub free : AreOpen edges.blocks edges.each edges.freed
+  pub round : InRound graph edges.rounds gone l next after
 
 -- the half-edges that numbers stand for, two each: vertex and place
 abbrev pub halves_in : List ℕ → List Half
@@ -87,18 +125,18 @@ pub record Waits (edges : List (List ℕ)) (t b : ℕ) (gone : List ℕ) (h : Ha
   pub there : has gone h.place ≡ false
 
 -- in a round by blocks: each half-edge at a place in `done` is removed, or waits for its block
-pub record InBlocks (graph : Graph) (t size blocks each : ℕ) (room counts : List ℕ) (l : Links) (marks bytes freed done : List ℕ) : Type 0 where
+pub record InBlocks (graph : Graph) (vertices : VertexBlocks) (l : Links) (edges : EdgeBlocks) (done : List ℕ) : Type 0 where
   -- those that are removed, and what this leaves; the edges that it frees are marked, or wait
   pub gone : List ℕ
-  pub round : InTaking graph t blocks each gone l marks bytes freed
+  pub round : InTaking graph gone l edges
   -- those that wait: each for its block, and none of them twice
-  pub fits : (b : ℕ) → b < length counts → 2 * slice_index counts b ≤ size
-  pub waits : (b : ℕ) → b < length counts → All (Waits graph.edges t b gone) (waiting_in size room counts b)
-  pub apart : (b : ℕ) → b < length counts → AreApart (map (λ h. h.place) (waiting_in size room counts b))
+  pub fits : (b : ℕ) → b < length vertices.counts → 2 * slice_index vertices.counts b ≤ vertices.size
+  pub waits : (b : ℕ) → b < length vertices.counts → All (Waits graph.edges edges.rounds b gone) (waiting_in vertices.size vertices.room vertices.counts b)
+  pub apart : (b : ℕ) → b < length vertices.counts → AreApart (map (λ h. h.place) (waiting_in vertices.size vertices.room vertices.counts b))
   -- both together are those in `done`
-  pub waits_done : (b q : ℕ) → b < length counts → has (map (λ h. h.place) (waiting_in size room counts b)) q ≡ true → has done q ≡ true
+  pub waits_done : (b q : ℕ) → b < length vertices.counts → has (map (λ h. h.place) (waiting_in vertices.size vertices.room vertices.counts b)) q ≡ true → has done q ≡ true
   pub gone_done : (q : ℕ) → has gone q ≡ true → has done q ≡ true
-  pub all : (q : ℕ) → has done q ≡ true → (has gone q ≡ false) → (b : ℕ) × (b < length counts) × (has (map (λ h. h.place) (waiting_in size room counts b)) q ≡ true)
+  pub all : (q : ℕ) → has done q ≡ true → (has gone q ≡ false) → (b : ℕ) × (b < length vertices.counts) × (has (map (λ h. h.place) (waiting_in vertices.size vertices.room vertices.counts b)) q ≡ true)
 
 -- the room once a half-edge is written behind the c that wait for block b
 abbrev pub put_room : ℕ → List ℕ → ℕ → ℕ → Half → List ℕ
@@ -121,16 +159,16 @@ abbrev pub AreEmpty : List ℕ → Type 0
 AreEmpty counts = (b : ℕ) → b < length counts → slice_index counts b ≡ 0
 
 -- in a round by blocks, with room for all of them, as `InBlocks` says
-pub record AtBlocks (k : ℕ) (graph : Graph) (plan : Plan) (room counts : List ℕ) (l : Links) (marks bytes freed done : List ℕ) : Type 0 where
+pub record AtBlocks (k : ℕ) (graph : Graph) (vertices : VertexBlocks) (l : Links) (edges : EdgeBlocks) (done : List ℕ) : Type 0 where
   pub small : IsSmall k graph
-  pub early : plan.rounds < length graph.edges
-  pub positive : 0 < plan.size
-  pub space : IsRoom graph plan.size room counts marks
-  pub state : InBlocks graph plan.rounds plan.size plan.blocks plan.each room counts l marks bytes freed done
+  pub early : edges.rounds < length graph.edges
+  pub positive : 0 < vertices.size
+  pub space : IsRoom graph vertices.size vertices.room vertices.counts edges.marks
+  pub state : InBlocks graph vertices l edges done
 
 -- the same of what the steps of a round take and change
 abbrev pub AtTaking : ℕ → Graph → Taking → List ℕ → Links → List ℕ → Type 0
-AtTaking k graph taking room l done = AtBlocks k graph taking.plan room taking.counts.now l taking.marks.now taking.bytes.now taking.freed.now done
+AtTaking k graph taking room l done = AtBlocks k graph (vertex_blocks taking.plan.size room taking.counts.now) l (edges_of taking) done
 
 -- the same plan, and the same slices
 pub record IsSameTaking (a b : Taking) : Type 0 where
@@ -145,12 +183,12 @@ pub record IsSameTaking (a b : Taking) : Type 0 where
   pub counts_long : length a.counts.now ≡ length b.counts.now
 
 -- in a round by blocks, as `InTaking` says, and these half-edges can be removed
-pub record AtPart (k : ℕ) (graph : Graph) (plan : Plan) (gone : List ℕ) (l : Links) (marks bytes freed : List ℕ) (halves : List Half) : Type 0 where
+pub record AtPart (k : ℕ) (graph : Graph) (gone : List ℕ) (l : Links) (edges : EdgeBlocks) (halves : List Half) : Type 0 where
   pub small : IsSmall k graph
-  pub early : plan.rounds < length graph.edges
-  pub state : InTaking graph plan.rounds plan.blocks plan.each gone l marks bytes freed
+  pub early : edges.rounds < length graph.edges
+  pub state : InTaking graph gone l edges
   pub linked : AreHalves l halves
-  pub others : (q : ℕ) → has (map (λ h. h.place) halves) q ≡ true → IsOtherPlace graph.edges plan.rounds q
+  pub others : (q : ℕ) → has (map (λ h. h.place) halves) q ≡ true → IsOtherPlace graph.edges edges.rounds q
 
 -- these half-edges of the edges that this round removes can wait, since none is removed or waits
 pub record CanWait (edges : List (List ℕ)) (t : ℕ) (done : List ℕ) (halves : List Half) : Type 0 where

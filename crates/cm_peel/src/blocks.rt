@@ -6,7 +6,7 @@ ghost use Rattle.cm_spec.specs.Rounds.{left_after, removed_after};
 ghost use Rattle.cm_graph_edges.specs.Graph.{Graph};
 ghost use Rattle.cm_peel.specs.AtRound.{InRound, IsSmall, other_places};
 ghost use Rattle.cm_peel.specs.Marks.{IsUnmarked};
-ghost use Rattle.cm_peel.specs.Waiting.{AreEmpty, AreTables, AtPart, CanWait, InTaking, IsOpen, IsSameTaking, AtTaking, halves_in, marked_of, put_room};
+ghost use Rattle.cm_peel.specs.Waiting.{AreEmpty, AreTables, AtPart, AtTaking, CanWait, InTaking, IsOpen, IsSameTaking, edges_of, halves_in, marked_of, put_room};
 ghost use Rattle.cm_spec.specs.declared.limits.TheConstants.{MAX_EDGES};
 
 use crate::chunk::{CHUNK, CHUNK_ENDS, list_halves};
@@ -81,8 +81,8 @@ fn empty<const K: usize, I: Incidence<K>, L: Ledger>(
     steps: &mut Steps<L>,
 ) -> usize
     requires even { length pairs.now ≡ 2 * length (halves_in pairs.now) }
-    requires state { (graph : Graph) × (gone : List ℕ) × AtPart K graph taking.old.plan gone (I.links incidence.old) taking.old.marks.now taking.old.bytes.now taking.old.freed.now (halves_in pairs.now) }
-    ensures state { (graph : Graph) (gone : List ℕ) → AtPart K graph taking.old.plan gone (I.links incidence.old) taking.old.marks.now taking.old.bytes.now taking.old.freed.now (halves_in pairs.now) → InTaking graph taking.new.plan.rounds taking.new.plan.blocks taking.new.plan.each (gone ++ map (λ h. h.place) (halves_in pairs.now)) (I.links incidence.new) taking.new.marks.now taking.new.bytes.now taking.new.freed.now }
+    requires state { (graph : Graph) × (gone : List ℕ) × AtPart K graph gone (I.links incidence.old) (edges_of taking.old) (halves_in pairs.now) }
+    ensures state { (graph : Graph) (gone : List ℕ) → AtPart K graph gone (I.links incidence.old) (edges_of taking.old) (halves_in pairs.now) → InTaking graph (gone ++ map (λ h. h.place) (halves_in pairs.now)) (I.links incidence.new) (edges_of taking.new) }
     ensures taking { IsSameTaking taking.new taking.old }
     ensures counts { taking.new.counts.now ≡ taking.old.counts.now }
     ensures count { length (marked_of taking.new.marks.now) ≡ length (marked_of taking.old.marks.now) + result }

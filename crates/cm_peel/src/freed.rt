@@ -2,7 +2,7 @@
 //! block are read and written while they are in the L2 cache.
 ghost use Rattle.std.specs.Prelude.{◌≡◌, ◌≢◌, ℕ, List, ◌+◌, ◌*◌, ◌/◌, ◌<◌, ◌≤◌, length, All, slice_index, slice_set};
 ghost use Rattle.cm_peel.specs.AtRound.{AreTaken};
-ghost use Rattle.cm_peel.specs.Waiting.{AreMarked, AreOpen, Leads, marked_of, put_freed};
+ghost use Rattle.cm_peel.specs.Waiting.{AreMarked, AreOpen, Leads, by_plan, edge_tags, marked_of, put_freed};
 ghost use Rattle.cm_spec.specs.declared.limits.TheConstants.{MAX_EDGES};
 
 use crate::chunk::{UNTAKEN, look_up_places};
@@ -75,7 +75,7 @@ fn mark_listed(
     requires long { length places.now ≤ length known.now }
     requires known { (i : ℕ) → i < length places.now → slice_index known.now i ≡ slice_index bytes.old (slice_index places.now i / 4) }
     requires room { length bytes.old ≤ 64 * length marks.old }
-    ensures marked { AreMarked rounds places.now bytes.old bytes.new marks.old marks.new result }
+    ensures marked { AreMarked (edge_tags bytes.old marks.old) (edge_tags bytes.new marks.new) rounds places.now result }
     ensures few { result ≤ length places.now }
 {
     let here = (rounds % 2) as u8;
@@ -118,9 +118,9 @@ fn put_place(place: u32, plan: Plan, freed: &mut [u32]) -> usize
 fn take_block(b: usize, plan: Plan, bytes: &mut [u8], freed: &mut [u32], marks: &mut [u64]) -> usize
     requires rounds { plan.rounds < MAX_EDGES }
     requires there { b < plan.blocks }
-    requires state { (after : List ℕ) × (next : List ℕ) × Leads plan.rounds plan.blocks plan.each marks.old bytes.old freed.old after next }
+    requires state { (after : List ℕ) × (next : List ℕ) × Leads (by_plan plan marks.old bytes.old freed.old) after next }
     ensures room { freed.new ≡ slice_set freed.old b 0 }
-    ensures state { (after next : List ℕ) → Leads plan.rounds plan.blocks plan.each marks.old bytes.old freed.old after next → Leads plan.rounds plan.blocks plan.each marks.new bytes.new freed.new after next }
+    ensures state { (after next : List ℕ) → Leads (by_plan plan marks.old bytes.old freed.old) after next → Leads (by_plan plan marks.new bytes.new freed.new) after next }
     ensures count { length (marked_of marks.new) ≡ length (marked_of marks.old) + result }
 {
     let mut known = [0u8; FREED];
@@ -136,11 +136,11 @@ fn take_block(b: usize, plan: Plan, bytes: &mut [u8], freed: &mut [u32], marks: 
 fn settle(b: usize, plan: Plan, bytes: &mut [u8], freed: &mut [u32], marks: &mut [u64]) -> usize
     requires rounds { plan.rounds < MAX_EDGES }
     requires there { b < plan.blocks }
-    requires state { (after : List ℕ) × (next : List ℕ) × Leads plan.rounds plan.blocks plan.each marks.old bytes.old freed.old after next }
+    requires state { (after : List ℕ) × (next : List ℕ) × Leads (by_plan plan marks.old bytes.old freed.old) after next }
     requires others { (k : ℕ) → k < plan.blocks → k ≢ b → slice_index freed.old k < plan.each }
     requires positive { 0 < plan.each }
     ensures free { AreOpen plan.blocks plan.each freed.new }
-    ensures state { (after next : List ℕ) → Leads plan.rounds plan.blocks plan.each marks.old bytes.old freed.old after next → Leads plan.rounds plan.blocks plan.each marks.new bytes.new freed.new after next }
+    ensures state { (after next : List ℕ) → Leads (by_plan plan marks.old bytes.old freed.old) after next → Leads (by_plan plan marks.new bytes.new freed.new) after next }
     ensures count { length (marked_of marks.new) ≡ length (marked_of marks.old) + result }
 {
     if (freed[b] as usize) < plan.each {
@@ -160,9 +160,9 @@ pub(crate) fn wait(
     requires rounds { plan.rounds < MAX_EDGES }
     requires places { All (λ q. q / 4 < length bytes.old) places.now }
     requires free { AreOpen plan.blocks plan.each freed.old }
-    requires state { (after : List ℕ) × (next : List ℕ) × Leads plan.rounds plan.blocks plan.each marks.old bytes.old freed.old after next }
+    requires state { (after : List ℕ) × (next : List ℕ) × Leads (by_plan plan marks.old bytes.old freed.old) after next }
     ensures free { AreOpen plan.blocks plan.each freed.new }
-    ensures state { (after next : List ℕ) → Leads plan.rounds plan.blocks plan.each marks.old bytes.old freed.old after next → (after' : List ℕ) × (next' : List ℕ) × AreTaken plan.rounds places.now after after' next next' × Leads plan.rounds plan.blocks plan.each marks.new bytes.new freed.new after' next' }
+    ensures state { (after next : List ℕ) → Leads (by_plan plan marks.old bytes.old freed.old) after next → (after' : List ℕ) × (next' : List ℕ) × AreTaken plan.rounds places.now after after' next next' × Leads (by_plan plan marks.new bytes.new freed.new) after' next' }
     ensures count { length (marked_of marks.new) ≡ length (marked_of marks.old) + result }
 {
     let mut count = 0;
@@ -176,9 +176,9 @@ pub(crate) fn wait(
 /// Takes the edges of all places that wait. Returns how many are new.
 pub(crate) fn take_all(plan: Plan, bytes: &mut [u8], freed: &mut [u32], marks: &mut [u64]) -> usize
     requires rounds { plan.rounds < MAX_EDGES }
-    requires state { (after : List ℕ) × (next : List ℕ) × Leads plan.rounds plan.blocks plan.each marks.old bytes.old freed.old after next }
+    requires state { (after : List ℕ) × (next : List ℕ) × Leads (by_plan plan marks.old bytes.old freed.old) after next }
     ensures none { (b : ℕ) → b < plan.blocks → slice_index freed.new b ≡ 0 }
-    ensures state { (after next : List ℕ) → Leads plan.rounds plan.blocks plan.each marks.old bytes.old freed.old after next → Leads plan.rounds plan.blocks plan.each marks.new bytes.new freed.new after next }
+    ensures state { (after next : List ℕ) → Leads (by_plan plan marks.old bytes.old freed.old) after next → Leads (by_plan plan marks.new bytes.new freed.new) after next }
     ensures count { length (marked_of marks.new) ≡ length (marked_of marks.old) + result }
 {
     let mut count = 0;

@@ -7,7 +7,7 @@ use Rattle.cm_graph_edges.specs.declared.incidence.Half.{Half}
 use Rattle.cm_graph_edges.specs.Graph.{Graph, Links, places_of, removed_all}
 use Rattle.cm_peel.specs.declared.freed.Plan.{Plan}
 use Rattle.cm_peel.specs.AtRound.{AreTaken}
-use Rattle.cm_peel.specs.Waiting.{AreOpen, AtPart, InTaking, Leads, halves_in}
+use Rattle.cm_peel.specs.Waiting.{AreOpen, AtPart, InTaking, Leads, by_plan, edge_blocks, edges_of, halves_in}
 use Rattle.cm_peel.proofs.ByBlocks.{taking_more}
 use Rattle.cm_peel.proofs.Incident.{place_in}
 use Rattle.cm_peel.proofs.InRound.{places_inside}
@@ -49,7 +49,7 @@ remove-alone-requires-clause-halves g c =
     part.halves
 
 -- the places that are left alone
-places_for : (k : ℕ) (graph : Graph) (t blocks each : ℕ) (gone : List ℕ) (l m : Links) (part : List Half) (places marks bytes freed : List ℕ) → k ≤ 3 → AreEdges k graph.vertices graph.edges → InTaking graph t blocks each gone l marks bytes freed → IsPart graph.edges t l part → m ≡ removed_all l part → places ≡ places_of m part → All (λ q. q / 4 < length bytes) places
+places_for : (k : ℕ) (graph : Graph) (t blocks each : ℕ) (gone : List ℕ) (l m : Links) (part : List Half) (places marks bytes freed : List ℕ) → k ≤ 3 → AreEdges k graph.vertices graph.edges → InTaking graph gone l (edge_blocks t blocks each marks bytes freed) → IsPart graph.edges t l part → m ≡ removed_all l part → places ≡ places_of m part → All (λ q. q / 4 < length bytes) places
 places_for k graph t blocks each gone l m part places marks bytes freed small are r p is listed =
     subst (λ (n : ℕ). All (λ q. q / 4 < n) places) r.leads.taken.bytes_long (subst (λ (xs : List ℕ). All (λ q. q / 4 < length r.after) xs) (sym listed) (places_inside k graph t gone l m part r.next r.after small are r.round p.halves.0 p.others is))
 
@@ -91,11 +91,11 @@ long_for : (hs part : List Half) (i n : ℕ) → i + n ≤ length hs → part �
 long_for hs part i n few is = ap length is ∙ part_long hs i n few
 
 -- the state after a part
-next_for : (k : ℕ) (graph : Graph) (plan : Plan) (gone : List ℕ) (l₀ l m : Links) (hs part : List Half) (i n : ℕ) (places marks₀ bytes₀ freed₀ marks bytes freed marks' bytes' freed' : List ℕ) → AtPart k graph plan gone l₀ marks₀ bytes₀ freed₀ hs → i + n ≤ length hs → l ≡ removed_all l₀ (take i hs) → part ≡ take n (drop i hs) → m ≡ removed_all l part → places ≡ places_of m part
-    → InTaking graph plan.rounds plan.blocks plan.each (gone ++ map place_in (take i hs)) l marks bytes freed → AreOpen plan.blocks plan.each freed' → ((after next : List ℕ) → Leads plan.rounds plan.blocks plan.each marks bytes freed after next → (after' : List ℕ) × (next' : List ℕ) × AreTaken plan.rounds places after after' next next' × Leads plan.rounds plan.blocks plan.each marks' bytes' freed' after' next')
-    → InTaking graph plan.rounds plan.blocks plan.each (gone ++ map place_in (take (i + n) hs)) m marks' bytes' freed'
+next_for : (k : ℕ) (graph : Graph) (plan : Plan) (gone : List ℕ) (l₀ l m : Links) (hs part : List Half) (i n : ℕ) (places marks₀ bytes₀ freed₀ marks bytes freed marks' bytes' freed' : List ℕ) → AtPart k graph gone l₀ (by_plan plan marks₀ bytes₀ freed₀) hs → i + n ≤ length hs → l ≡ removed_all l₀ (take i hs) → part ≡ take n (drop i hs) → m ≡ removed_all l part → places ≡ places_of m part
+    → InTaking graph (gone ++ map place_in (take i hs)) l (by_plan plan marks bytes freed) → AreOpen plan.blocks plan.each freed' → ((after next : List ℕ) → Leads (by_plan plan marks bytes freed) after next → (after' : List ℕ) × (next' : List ℕ) × AreTaken plan.rounds places after after' next next' × Leads (by_plan plan marks' bytes' freed') after' next')
+    → InTaking graph (gone ++ map place_in (take (i + n) hs)) m (by_plan plan marks' bytes' freed')
 next_for k graph plan gone l₀ l m hs part i n places marks₀ bytes₀ freed₀ marks bytes freed marks' bytes' freed' p few links is unlinked listed r free more =
-    subst (λ (xs : List ℕ). InTaking graph plan.rounds plan.blocks plan.each xs m marks' bytes' freed') (ap (λ (xs : List Half). (gone ++ map place_in (take i hs)) ++ map place_in xs) is ∙ parts_next hs gone i n)
+    subst (λ (xs : List ℕ). InTaking graph xs m (by_plan plan marks' bytes' freed')) (ap (λ (xs : List Half). (gone ++ map place_in (take i hs)) ++ map place_in xs) is ∙ parts_next hs gone i n)
     (taking_more k graph plan.rounds plan.blocks plan.each _ l m part places marks bytes freed marks' bytes' freed' p.small.ends p.small.edges r (is_part graph.edges plan.rounds l₀ l hs part i n few p.linked p.others links is) unlinked listed free more)
 
 pub parts-preserved : goal.parts-preserved
@@ -128,7 +128,7 @@ parts-preserved g c =
         counts_long = inv.taking.counts_long;
       };
       counts = inv.counts;
-      state = λ graph gone p. subst (λ (j : ℕ). InTaking graph c.parts.taking.plan.rounds c.parts.taking.plan.blocks c.parts.taking.plan.each (gone ++ map place_in (take j hs)) m c.wait-count.new.marks c.wait-count.new.bytes c.wait-count.new.freed) (sym half)
+      state = λ graph gone p. subst (λ (j : ℕ). InTaking graph (gone ++ map place_in (take j hs)) m (by_plan c.parts.taking.plan c.wait-count.new.marks c.wait-count.new.bytes c.wait-count.new.freed)) (sym half)
           (next_for g.row.K graph c.parts.taking.plan gone l₀ l m hs _ i n _ c.args.taking.now.marks.now c.args.taking.now.bytes.now c.args.taking.now.freed.now c.parts.taking.marks.now c.parts.taking.bytes.now c.parts.taking.freed.now c.wait-count.new.marks c.wait-count.new.bytes c.wait-count.new.freed (part_plan g.row.K graph c.args.taking.now.plan c.parts.taking.plan gone l₀ c.args.taking.now.marks.now c.args.taking.now.bytes.now c.args.taking.now.freed.now hs (sym inv.taking.plan) p) few inv.links is c.remove-alone.ensures.links c.remove-alone.ensures.places (inv.state graph gone p) c.wait-count.ensures.free c.wait-count.ensures.state);
       count = omega (arith, c.wait-count.ensures.count, inv.count);
       steps = omega (arith, c.remove-alone.ensures.steps, inv.steps, half, long_for hs _ i n few is);
@@ -139,4 +139,4 @@ returns-clause-state g c =
     let inv = c.parts.invariant in
     let hs : List Half = halves_in c.args.pairs.now in
     let all : take (c.parts.at / 2) hs ≡ hs = take_all (c.parts.at / 2) hs (omega (arith, c.parts-test.false, inv.even, inv.high, c.requires.even)) in
-    λ graph gone s. subst (λ (xs : List Half). InTaking graph c.parts.taking.plan.rounds c.parts.taking.plan.blocks c.parts.taking.plan.each (gone ++ map place_in xs) (g.I.Incidence.links c.parts.incidence) c.parts.taking.marks.now c.parts.taking.bytes.now c.parts.taking.freed.now) all (inv.state graph gone s)
+    λ graph gone s. subst (λ (xs : List Half). InTaking graph (gone ++ map place_in xs) (g.I.Incidence.links c.parts.incidence) (edges_of c.parts.taking)) all (inv.state graph gone s)

@@ -1,6 +1,6 @@
 use Rattle.std.proofs.Common.{◌≡◌, ◌≤◌, ◌+◌, ◌-◌, ◌*◌, ◌/◌, ◌++◌, ℕ, List, length, map, take}
 use Rattle.cm_graph_edges.specs.Graph.{Graph, removed_all}
-use Rattle.cm_peel.specs.Waiting.{AtPart, InTaking, IsSameTaking, halves_in, marked_of}
+use Rattle.cm_peel.specs.Waiting.{AtPart, InTaking, IsSameTaking, edges_of, halves_in, marked_of}
 use Rattle.cm_peel.proofs.Incident.{place_in}
 use Rattle.cm_peel.proofs.blocks.empty.Given as goal
 
@@ -13,7 +13,7 @@ invariant-parts g l = record {
   links : g.I.Incidence.links l.incidence ≡ removed_all (g.I.Incidence.links l.fn.incidence) (take (l.at / 2) (halves_in l.pairs));
   taking : IsSameTaking l.taking l.fn.taking;
   counts : l.taking.counts.now ≡ l.fn.taking.counts.now;
-  state : (graph : Graph) (gone : List ℕ) → AtPart g.row.K graph l.fn.taking.plan gone (g.I.Incidence.links l.fn.incidence) l.fn.taking.marks.now l.fn.taking.bytes.now l.fn.taking.freed.now (halves_in l.pairs) → InTaking graph l.taking.plan.rounds l.taking.plan.blocks l.taking.plan.each (gone ++ map place_in (take (l.at / 2) (halves_in l.pairs))) (g.I.Incidence.links l.incidence) l.taking.marks.now l.taking.bytes.now l.taking.freed.now;
+  state : (graph : Graph) (gone : List ℕ) → AtPart g.row.K graph gone (g.I.Incidence.links l.fn.incidence) (edges_of l.fn.taking) (halves_in l.pairs) → InTaking graph (gone ++ map place_in (take (l.at / 2) (halves_in l.pairs))) (g.I.Incidence.links l.incidence) (edges_of l.taking);
   count : length (marked_of l.taking.marks.now) ≡ length (marked_of l.fn.taking.marks.now) + l.count;
   steps : l.steps ≤ l.fn.steps + 3 * (l.at / 2);
 }

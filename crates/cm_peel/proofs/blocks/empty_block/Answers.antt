@@ -3,7 +3,7 @@ use Rattle.std.proofs.Math.ListN.{length-set}
 use Rattle.std.proofs.lemmas.List.{length-take-le}
 use Rattle.cm_graph_edges.specs.Graph.{Graph, Links}
 use Rattle.cm_peel.specs.declared.freed.Plan.{Plan}
-use Rattle.cm_peel.specs.Waiting.{AtBlocks, AtPart, InBlocks, InTaking, halves_in, waiting_in}
+use Rattle.cm_peel.specs.Waiting.{AtBlocks, AtPart, InBlocks, InTaking, by_plan, edge_blocks, halves_in, vertex_blocks, waiting_in}
 use Rattle.cm_peel.proofs.Incident.{place_in}
 use Rattle.cm_peel.proofs.Parts.{IsPart}
 use Rattle.cm_peel.proofs.Pairs.{pairs_long}
@@ -15,7 +15,7 @@ use Rattle.cm_peel.proofs.blocks.empty_block.Goals as goal
 raw_is : (room : List ℕ) (s n : ℕ) → take (s + n - s) (drop s room) ≡ take n (drop s room)
 raw_is room s n = let moved : s + n - s ≡ n = omega arith in ap (λ k. take k (drop s room)) moved
 
-block_long : (graph : Graph) (t size blocks each : ℕ) (room counts : List ℕ) (l : Links) (marks bytes freed done : List ℕ) (b : ℕ) → InBlocks graph t size blocks each room counts l marks bytes freed done → length counts * size ≤ length room → b < length counts
+block_long : (graph : Graph) (t size blocks each : ℕ) (room counts : List ℕ) (l : Links) (marks bytes freed done : List ℕ) (b : ℕ) → InBlocks graph (vertex_blocks size room counts) l (edge_blocks t blocks each marks bytes freed) done → length counts * size ≤ length room → b < length counts
     → (length (take (2 * get_or counts b 0) (drop (b * size) room)) ≡ 2 * get_or counts b 0) × (length (waiting_in size room counts b) ≡ get_or counts b 0)
 block_long graph t size blocks each room counts l marks bytes freed done b r within low =
     let long : length (take (2 * get_or counts b 0) (drop (b * size) room)) ≡ 2 * get_or counts b 0 = length-take-le (2 * get_or counts b 0) (drop (b * size) room) (omega (arith, length-drop (b * size) room, step_over b (length counts) size low, within, r.fits b low)) in
@@ -26,7 +26,7 @@ record AreReady (graph : Graph) (t : ℕ) (l : Links) (pairs : List ℕ) : Type 
   pub even : length pairs ≡ 2 * length (halves_in pairs)
   pub part : IsPart graph.edges t l (halves_in pairs)
 
-pairs_for : (k : ℕ) (graph : Graph) (plan : Plan) (room counts : List ℕ) (l : Links) (marks bytes freed done : List ℕ) (b : ℕ) → AtBlocks k graph plan room counts l marks bytes freed done → b < length counts → AreReady graph plan.rounds l (take (b * plan.size + 2 * get_or counts b 0 - b * plan.size) (drop (b * plan.size) room))
+pairs_for : (k : ℕ) (graph : Graph) (plan : Plan) (room counts : List ℕ) (l : Links) (marks bytes freed done : List ℕ) (b : ℕ) → AtBlocks k graph (vertex_blocks plan.size room counts) l (by_plan plan marks bytes freed) done → b < length counts → AreReady graph plan.rounds l (take (b * plan.size + 2 * get_or counts b 0 - b * plan.size) (drop (b * plan.size) room))
 pairs_for k graph plan room counts l marks bytes freed done b r low =
     let long = block_long graph plan.rounds plan.size plan.blocks plan.each room counts l marks bytes freed done b r.state r.space.within low in
     subst (AreReady graph plan.rounds l) (sym (raw_is room (b * plan.size) (2 * get_or counts b 0))) (record {
@@ -34,16 +34,16 @@ pairs_for k graph plan room counts l marks bytes freed done b r low =
       part = block_halves graph plan.rounds plan.size plan.blocks plan.each room counts l marks bytes freed done b r.state low;
     })
 
-part_for : (k : ℕ) (graph : Graph) (plan : Plan) (room counts : List ℕ) (l : Links) (marks bytes freed done : List ℕ) (b : ℕ) (gone : List ℕ) → AtBlocks k graph plan room counts l marks bytes freed done → b < length counts → InTaking graph plan.rounds plan.blocks plan.each gone l marks bytes freed
-    → AtPart k graph plan gone l marks bytes freed (halves_in (take (b * plan.size + 2 * get_or counts b 0 - b * plan.size) (drop (b * plan.size) room)))
+part_for : (k : ℕ) (graph : Graph) (plan : Plan) (room counts : List ℕ) (l : Links) (marks bytes freed done : List ℕ) (b : ℕ) (gone : List ℕ) → AtBlocks k graph (vertex_blocks plan.size room counts) l (by_plan plan marks bytes freed) done → b < length counts → InTaking graph gone l (by_plan plan marks bytes freed)
+    → AtPart k graph gone l (by_plan plan marks bytes freed) (halves_in (take (b * plan.size + 2 * get_or counts b 0 - b * plan.size) (drop (b * plan.size) room)))
 part_for k graph plan room counts l marks bytes freed done b gone r low state =
     let ready = pairs_for k graph plan room counts l marks bytes freed done b r low in
     record { small = r.small; early = r.early; state = state; linked = ready.part.halves; others = ready.part.others }
 
 -- the blocks once this one is empty
-emptied_for : (k : ℕ) (graph : Graph) (plan plan' : Plan) (room counts : List ℕ) (l m : Links) (marks bytes freed marks' bytes' freed' done : List ℕ) (b : ℕ) → AtBlocks k graph plan room counts l marks bytes freed done → b < length counts → plan' ≡ plan → length marks' ≡ length marks
-    → ((graph : Graph) (gone : List ℕ) → AtPart k graph plan gone l marks bytes freed (halves_in (take (b * plan.size + 2 * get_or counts b 0 - b * plan.size) (drop (b * plan.size) room))) → InTaking graph plan'.rounds plan'.blocks plan'.each (gone ++ map place_in (halves_in (take (b * plan.size + 2 * get_or counts b 0 - b * plan.size) (drop (b * plan.size) room)))) m marks' bytes' freed')
-    → AtBlocks k graph plan' room (set counts b 0) m marks' bytes' freed' done
+emptied_for : (k : ℕ) (graph : Graph) (plan plan' : Plan) (room counts : List ℕ) (l m : Links) (marks bytes freed marks' bytes' freed' done : List ℕ) (b : ℕ) → AtBlocks k graph (vertex_blocks plan.size room counts) l (by_plan plan marks bytes freed) done → b < length counts → plan' ≡ plan → length marks' ≡ length marks
+    → ((graph : Graph) (gone : List ℕ) → AtPart k graph gone l (by_plan plan marks bytes freed) (halves_in (take (b * plan.size + 2 * get_or counts b 0 - b * plan.size) (drop (b * plan.size) room))) → InTaking graph (gone ++ map place_in (halves_in (take (b * plan.size + 2 * get_or counts b 0 - b * plan.size) (drop (b * plan.size) room)))) m (by_plan plan' marks' bytes' freed'))
+    → AtBlocks k graph (vertex_blocks plan'.size room (set counts b 0)) m (by_plan plan' marks' bytes' freed') done
 emptied_for k graph plan plan' room counts l m marks bytes freed marks' bytes' freed' done b r low equal long step =
     let same = raw_is room (b * plan.size) (2 * get_or counts b 0) in
     at_plan k graph plan plan' room (set counts b 0) m marks' bytes' freed' done (sym equal) (record {
@@ -52,7 +52,7 @@ emptied_for k graph plan plan' room counts l m marks bytes freed marks' bytes' f
       positive = r.positive;
       space = room_kept graph plan.size room counts marks room (set counts b 0) marks' r.space refl (length-set counts b 0) long;
       state = blocks_emptied graph plan.rounds plan.size plan.blocks plan.each room counts l m marks bytes freed marks' bytes' freed' done b r.state low (λ gone s.
-          subst (λ (xs : List ℕ). InTaking graph plan.rounds plan.blocks plan.each (gone ++ map place_in (halves_in xs)) m marks' bytes' freed') same (taking_plan graph plan' plan _ m marks' bytes' freed' equal (step graph gone (part_for k graph plan room counts l marks bytes freed done b gone r low s))));
+          subst (λ (xs : List ℕ). InTaking graph (gone ++ map place_in (halves_in xs)) m (by_plan plan marks' bytes' freed')) same (taking_plan graph plan' plan _ m marks' bytes' freed' equal (step graph gone (part_for k graph plan room counts l marks bytes freed done b gone r low s))));
     })
 
 pub empty-requires-clause-even : goal.empty-requires-clause-even

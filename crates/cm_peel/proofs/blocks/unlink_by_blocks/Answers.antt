@@ -5,7 +5,7 @@ use Rattle.cm_spec.specs.Rounds.{left_after, removed_after}
 use Rattle.cm_graph_edges.specs.Graph.{Graph, Links}
 use Rattle.cm_peel.specs.AtRound.{InRound, other_places}
 use Rattle.cm_peel.specs.Marks.{IsUnmarked, is_marked}
-use Rattle.cm_peel.specs.Waiting.{AreEmpty, AreTables, IsRoom, InTaking, marked_of}
+use Rattle.cm_peel.specs.Waiting.{AreEmpty, AreTables, InTaking, IsRoom, edge_blocks, marked_of}
 use Rattle.cm_peel.proofs.ByBlocks.{blocks_begun, part_some, room_of_parts, taking_begun}
 use Rattle.cm_peel.proofs.InRound.{next_few}
 use Rattle.cm_peel.proofs.Listing.{kept_sorted}
@@ -14,7 +14,7 @@ use Rattle.cm_peel.proofs.Settling.{leads_begun}
 use Rattle.cm_peel.proofs.blocks.unlink_by_blocks.Goals as goal
 
 -- before the first place waits
-ready : (graph : Graph) (t t' blocks each : ℕ) (l : Links) (marks bytes freed : List ℕ) → t' ≡ t → InRound graph t [] l [] bytes → IsUnmarked (length graph.edges) marks → blocks + blocks * each ≤ length freed → length freed ≤ 67109056 → each ≤ 16384 → 0 < each → length graph.edges ≤ 131072 * blocks → ((b : ℕ) → b < blocks → get_or freed b 0 ≡ 0) → InTaking graph t' blocks each [] l marks bytes freed
+ready : (graph : Graph) (t t' blocks each : ℕ) (l : Links) (marks bytes freed : List ℕ) → t' ≡ t → InRound graph t [] l [] bytes → IsUnmarked (length graph.edges) marks → blocks + blocks * each ≤ length freed → length freed ≤ 67109056 → each ≤ 16384 → 0 < each → length graph.edges ≤ 131072 * blocks → ((b : ℕ) → b < blocks → get_or freed b 0 ≡ 0) → InTaking graph [] l (edge_blocks t' blocks each marks bytes freed)
 ready graph t t' blocks each l marks bytes freed same r u within few short some all none =
     taking_begun graph t' blocks each l marks bytes freed (subst (λ (n : ℕ). InRound graph n [] l [] bytes) (sym same) r) (leads_begun t' blocks each marks bytes freed within few short (omega (arith, all, r.bytes_long)) (omega (arith, u.room, r.bytes_long)) u.fits u.clear none) none some
 

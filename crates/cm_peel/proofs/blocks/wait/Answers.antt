@@ -5,7 +5,7 @@ use Rattle.std.proofs.lemmas.List.{get_or_default}
 use Rattle.cm_graph_edges.specs.declared.incidence.Half.{Half}
 use Rattle.cm_graph_edges.specs.Graph.{Graph, Links}
 use Rattle.cm_peel.specs.declared.freed.Plan.{Plan}
-use Rattle.cm_peel.specs.Waiting.{AtBlocks, CanWait, IsEnd, IsOpen, put_room}
+use Rattle.cm_peel.specs.Waiting.{AtBlocks, CanWait, IsEnd, IsOpen, by_plan, put_room, vertex_blocks}
 use Rattle.cm_peel.proofs.Incident.{place_in}
 use Rattle.cm_peel.proofs.Same.{open_plan, wait_plan}
 use Rattle.cm_peel.proofs.Settling.{marked_few}
@@ -13,15 +13,15 @@ use Rattle.cm_peel.proofs.Waits.{room_kept, wait_one}
 use Rattle.cm_peel.proofs.blocks.wait.Goals as goal
 
 -- the block of a half-edge
-there_for : (k : ℕ) (graph : Graph) (plan : Plan) (room counts : List ℕ) (l : Links) (marks bytes freed done before : List ℕ) (t : ℕ) (halves : List Half) (i : ℕ) (h : Half) → get_or halves i h ≡ h → AtBlocks k graph plan room counts l marks bytes freed done → CanWait graph.edges t before halves → i < length halves → h.vertex / 65536 < length counts
+there_for : (k : ℕ) (graph : Graph) (plan : Plan) (room counts : List ℕ) (l : Links) (marks bytes freed done before : List ℕ) (t : ℕ) (halves : List Half) (i : ℕ) (h : Half) → get_or halves i h ≡ h → AtBlocks k graph (vertex_blocks plan.size room counts) l (by_plan plan marks bytes freed) done → CanWait graph.edges t before halves → i < length halves → h.vertex / 65536 < length counts
 there_for k graph plan room counts l marks bytes freed done before t halves i h is r w low =
     let end : IsEnd graph.edges h = subst (IsEnd graph.edges) is (w.ends i h low) in
     omega (arith, (r.small.edges (h.place / 4) [] end.0).1.0 (h.place % 4) 0 end.1, end.2, r.space.blocks)
 
 -- the blocks once one more half-edge waits
-put_for : (k : ℕ) (graph : Graph) (plan : Plan) (room counts room' counts' : List ℕ) (l : Links) (marks bytes freed done : List ℕ) (halves : List Half) (i : ℕ) (h : Half) → CanWait graph.edges plan.rounds done halves → AtBlocks k graph plan room counts l marks bytes freed (done ++ map place_in (take i halves)) → IsOpen plan.size counts
+put_for : (k : ℕ) (graph : Graph) (plan : Plan) (room counts room' counts' : List ℕ) (l : Links) (marks bytes freed done : List ℕ) (halves : List Half) (i : ℕ) (h : Half) → CanWait graph.edges plan.rounds done halves → AtBlocks k graph (vertex_blocks plan.size room counts) l (by_plan plan marks bytes freed) (done ++ map place_in (take i halves)) → IsOpen plan.size counts
     → i < length halves → get_or halves i h ≡ h → room' ≡ put_room plan.size room (h.vertex / 65536) (get_or counts (h.vertex / 65536) 0) h → counts' ≡ set counts (h.vertex / 65536) (get_or counts (h.vertex / 65536) 0 + 1) → length room' ≡ length room → length counts' ≡ length counts
-    → AtBlocks k graph plan room' counts' l marks bytes freed (done ++ map place_in (take (i + 1) halves))
+    → AtBlocks k graph (vertex_blocks plan.size room' counts') l (by_plan plan marks bytes freed) (done ++ map place_in (take (i + 1) halves))
 put_for k graph plan room counts room' counts' l marks bytes freed done halves i h w r free low at room_is counts_is room_long counts_long = record {
   small = r.small;
   early = r.early;

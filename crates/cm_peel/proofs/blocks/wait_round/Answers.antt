@@ -10,7 +10,7 @@ use Rattle.cm_graph_edges.specs.declared.incidence.Half.{Half}
 use Rattle.cm_graph_edges.specs.Graph.{Graph}
 use Rattle.cm_peel.specs.AtRound.{other_places}
 use Rattle.cm_peel.specs.Incident.{other_halves_all, pivot_in}
-use Rattle.cm_peel.specs.Waiting.{AtBlocks, CanWait}
+use Rattle.cm_peel.specs.Waiting.{AtBlocks, CanWait, edges_of, vertex_blocks}
 use Rattle.cm_peel.proofs.ByBlocks.{AreNext, are_next}
 use Rattle.cm_peel.proofs.Same.{at_plan, open_plan, taking_then, wait_plan}
 use Rattle.cm_peel.proofs.Settling.{marked_few}
@@ -118,7 +118,7 @@ chunks-preserved g c =
       known = c.list_halves-others.auto.marks ∙ inv.known;
       free = open_plan c.chunks.taking.plan c.args.taking.now.plan c.wait-count.new.taking.counts.now inv.taking.plan c.wait-count.ensures.free;
       taking = taking_then c.wait-count.new.taking c.chunks.taking c.args.taking.now c.wait-count.ensures.taking inv.taking;
-      state = subst (AtBlocks g.row.K graph c.wait-count.new.taking.plan c.wait-count.new.room c.wait-count.new.taking.counts.now (g.I.Incidence.links c.wait-count.new.incidence) c.wait-count.new.taking.marks.now c.wait-count.new.taking.bytes.now c.wait-count.new.taking.freed.now) next.more (c.wait-count.ensures.state graph (gone_before graph t d) (wait_plan graph.edges c.args.taking.now.plan c.chunks.taking.plan (gone_before graph t d) _ (sym inv.taking.plan) (can_wait graph t d n _ next)) inv.state);
+      state = subst (AtBlocks g.row.K graph (vertex_blocks c.wait-count.new.taking.plan.size c.wait-count.new.room c.wait-count.new.taking.counts.now) (g.I.Incidence.links c.wait-count.new.incidence) (edges_of c.wait-count.new.taking)) next.more (c.wait-count.ensures.state graph (gone_before graph t d) (wait_plan graph.edges c.args.taking.now.plan c.chunks.taking.plan (gone_before graph t d) _ (sym inv.taking.plan) (can_wait graph t d n _ next)) inv.state);
       count = omega (arith, c.wait-count.ensures.count, inv.count);
       steps = chunk_steps g.row.K c.args.steps.now c.chunks.steps c.wait-count.new.steps (sum c.args.taking.now.counts.now) (sum c.chunks.taking.counts.now) (sum c.wait-count.new.taking.counts.now) d n _ _ inv.steps c.wait-count.ensures.steps (others_few c.list_halves-others.result _ c.list_halves-others.new.halves c.list_halves-others.ensures.few) long;
     }
@@ -129,7 +129,7 @@ returns-clause-state g c =
     let graph : Graph = c.args.edges.now in
     let round : List ℕ = removed_after graph.edges c.args.taking.now.plan.rounds in
     let all : c.chunks.at ≡ length round = omega (arith, c.chunks-test.false, inv.high, ap length c.requires.round) in
-    subst (AtBlocks g.row.K graph c.chunks.taking.plan c.chunks.room c.chunks.taking.counts.now (g.I.Incidence.links c.chunks.incidence) c.chunks.taking.marks.now c.chunks.taking.bytes.now c.chunks.taking.freed.now) (ap (gone_before graph c.args.taking.now.plan.rounds) all ∙ (ap (other_places graph.edges) (take-length round) ∙ ap (other_places graph.edges) (sym c.requires.round))) inv.state
+    subst (AtBlocks g.row.K graph (vertex_blocks c.chunks.taking.plan.size c.chunks.room c.chunks.taking.counts.now) (g.I.Incidence.links c.chunks.incidence) (edges_of c.chunks.taking)) (ap (gone_before graph c.args.taking.now.plan.rounds) all ∙ (ap (other_places graph.edges) (take-length round) ∙ ap (other_places graph.edges) (sym c.requires.round))) inv.state
 
 pub returns-clause-steps : goal.returns-clause-steps
 returns-clause-steps g c =

@@ -1,7 +1,7 @@
 use Rattle.std.proofs.Common.{◌≡◌, ◌∙◌, ℕ, List, ◌++◌, ◌+◌, ◌/◌, ◌<◌, length, get_or, take, sym, refl, subst, arith, rules}
 use Rattle.std.proofs.lemmas.List.{take_all, take_more}
 use Rattle.cm_peel.specs.AtRound.{AreTaken}
-use Rattle.cm_peel.specs.Waiting.{Leads, put_freed}
+use Rattle.cm_peel.specs.Waiting.{Leads, edge_blocks, put_freed}
 use Rattle.cm_peel.proofs.Leading.{byte_set, fresh_one, leads_put, taken_none, taken_one}
 use Rattle.cm_peel.proofs.Settling.{marked_few}
 use Rattle.cm_peel.proofs.freed.wait.Goals as goal
@@ -19,17 +19,17 @@ record Reached (t blocks each : ℕ) (places marks bytes freed after next : List
   pub after' : List ℕ
   pub next' : List ℕ
   pub taken : AreTaken t places after after' next next'
-  pub leads : Leads t blocks each marks bytes freed after' next'
+  pub leads : Leads (edge_blocks t blocks each marks bytes freed) after' next'
 
 reached : (t blocks each : ℕ) (places : List ℕ) (i : ℕ) (marks bytes freed freed' after next after' next' : List ℕ) → i < length places → get_or places i 0 / 4 < length bytes → get_or freed (get_or places i 0 / 524288) 0 < each → freed' ≡ put_freed blocks each freed (get_or places i 0 / 524288) (get_or freed (get_or places i 0 / 524288) 0) (get_or places i 0)
-    → AreTaken t (take i places) after after' next next' → Leads t blocks each marks bytes freed after' next' → Reached t blocks each (take (i + 1) places) marks bytes freed' after next
+    → AreTaken t (take i places) after after' next next' → Leads (edge_blocks t blocks each marks bytes freed) after' next' → Reached t blocks each (take (i + 1) places) marks bytes freed' after next
 reached t blocks each places i marks bytes freed freed' after next after' next' low inside free is taken r =
     let q : ℕ = get_or places i 0 in
     record {
       after' = byte_set t after' q;
       next' = next' ++ fresh_one after' q;
       taken = subst (λ (xs : List ℕ). AreTaken t xs after (byte_set t after' q) next (next' ++ fresh_one after' q)) (sym (take_more places i 0 low)) (taken_one t (take i places) q after after' next next' taken (omega (arith, inside, taken.bytes_long, r.taken.bytes_long)));
-      leads = subst (λ (xs : List ℕ). Leads t blocks each marks bytes xs (byte_set t after' q) (next' ++ fresh_one after' q)) (sym is) (leads_put t blocks each marks bytes freed after' next' q r inside free);
+      leads = subst (λ (xs : List ℕ). Leads (edge_blocks t blocks each marks bytes xs) (byte_set t after' q) (next' ++ fresh_one after' q)) (sym is) (leads_put t blocks each marks bytes freed after' next' q r inside free);
     }
 
 pub settle-count-requires-clause-state : goal.settle-count-requires-clause-state
