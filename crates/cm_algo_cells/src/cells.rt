@@ -1,7 +1,7 @@
 //! The cells of a peeled graph, edge by edge in the reverse of the order of peeling.
 ghost use Rattle.std.specs.Prelude.{◌≡◌, ℕ, ◌<◌, ◌≤◌, ◌↔◌, List, [], All, length, map, slice_index, slice_set, IfOk, IsTrue, if◌then◌else◌};
 ghost use Rattle.cm_algo_cells.specs.declared.cells.TheConstants.{CHUNK, MANY};
-ghost use Rattle.cm_algo_cells.specs.OneByOne.{AreOf, AreReady, AreSums, IsPart, one_by_one};
+ghost use Rattle.cm_algo_cells.specs.OneByOne.{AreOf, AreReady, AreSums, IsPart, edge_parts, one_by_one};
 ghost use Rattle.cm_peel.specs.Peeling.{IsPeelingOf};
 ghost use Rattle.cm_spec.specs.Cells.{Plan, plan_of, sum_but, at_once, completing, cells_of, AreSolved};
 ghost use Rattle.cm_spec.specs.Rounds.{order_of, rest_of};
@@ -108,9 +108,9 @@ fn settle_each<C: Cells, const K: usize>(
     modulus: &Divisor,
 )
     requires small { K ≤ 3 }
-    requires ready { AreReady K (C.bound_of table.old) (C.cells table.old) modulus.now ends.now positions.now targets.now }
+    requires ready { AreReady K (C.bound_of table.old) (C.cells table.old) modulus.now (edge_parts ends.now positions.now targets.now) }
     ensures bound { C.bound_of table.new ≡ C.bound_of table.old }
-    ensures cells { (p : Plan) (chunk : List ℕ) → AreOf p chunk modulus.now ends.now positions.now targets.now → C.cells table.new ≡ one_by_one p (C.cells table.old) chunk }
+    ensures cells { (p : Plan) (chunk : List ℕ) → AreOf p chunk modulus.now (edge_parts ends.now positions.now targets.now) → C.cells table.new ≡ one_by_one p (C.cells table.old) chunk }
 {
     let mut i = ends.len();
     'edges: while i > 0 {
@@ -148,10 +148,10 @@ fn set_each<C: Cells, const K: usize>(
     sums: &[u64],
     modulus: &Divisor,
 )
-    requires ready { AreReady K (C.bound_of table.old) (C.cells table.old) modulus.now ends.now positions.now targets.now }
+    requires ready { AreReady K (C.bound_of table.old) (C.cells table.old) modulus.now (edge_parts ends.now positions.now targets.now) }
     requires sums { AreSums (C.cells table.old) ends.now positions.now sums.now }
     ensures bound { C.bound_of table.new ≡ C.bound_of table.old }
-    ensures cells { (p : Plan) (chunk : List ℕ) → AreOf p chunk modulus.now ends.now positions.now targets.now → C.cells table.new ≡ at_once p (C.cells table.old) chunk }
+    ensures cells { (p : Plan) (chunk : List ℕ) → AreOf p chunk modulus.now (edge_parts ends.now positions.now targets.now) → C.cells table.new ≡ at_once p (C.cells table.old) chunk }
 {
     let mut i = ends.len();
     'edges: while i > 0 {
@@ -170,9 +170,9 @@ fn settle_at_once<C: Cells, const K: usize>(
 )
     requires small { K ≤ 3 }
     requires few { length ends.now ≤ CHUNK }
-    requires ready { AreReady K (C.bound_of table.old) (C.cells table.old) modulus.now ends.now positions.now targets.now }
+    requires ready { AreReady K (C.bound_of table.old) (C.cells table.old) modulus.now (edge_parts ends.now positions.now targets.now) }
     ensures bound { C.bound_of table.new ≡ C.bound_of table.old }
-    ensures cells { (p : Plan) (chunk : List ℕ) → AreOf p chunk modulus.now ends.now positions.now targets.now → C.cells table.new ≡ at_once p (C.cells table.old) chunk }
+    ensures cells { (p : Plan) (chunk : List ℕ) → AreOf p chunk modulus.now (edge_parts ends.now positions.now targets.now) → C.cells table.new ≡ at_once p (C.cells table.old) chunk }
 {
     let mut sums = [0; CHUNK];
     let sums = &mut sums[..ends.len()];
@@ -191,9 +191,9 @@ fn settle_all<C: Cells, const K: usize>(
 )
     requires small { K ≤ 3 }
     requires few { length ends.now ≤ CHUNK }
-    requires ready { AreReady K (C.bound_of table.old) (C.cells table.old) modulus.now ends.now positions.now targets.now }
+    requires ready { AreReady K (C.bound_of table.old) (C.cells table.old) modulus.now (edge_parts ends.now positions.now targets.now) }
     ensures bound { C.bound_of table.new ≡ C.bound_of table.old }
-    ensures cells { (p : Plan) (chunk : List ℕ) → AreOf p chunk modulus.now ends.now positions.now targets.now → C.cells table.new ≡ (if all_at_once then at_once p (C.cells table.old) chunk else one_by_one p (C.cells table.old) chunk) }
+    ensures cells { (p : Plan) (chunk : List ℕ) → AreOf p chunk modulus.now (edge_parts ends.now positions.now targets.now) → C.cells table.new ≡ (if all_at_once then at_once p (C.cells table.old) chunk else one_by_one p (C.cells table.old) chunk) }
 {
     if all_at_once {
         settle_at_once(table, ends, positions, targets, modulus);

@@ -1,5 +1,5 @@
 use Rattle.std.proofs.Common.{◌≡◌, ◌≤◌, ℕ, List, length, drop}
-use Rattle.cm_algo_cells.specs.OneByOne.{AreOf}
+use Rattle.cm_algo_cells.specs.OneByOne.{AreOf, edge_parts}
 use Rattle.cm_spec.specs.Cells.{Plan, at_once}
 use Rattle.cm_algo_cells.proofs.cells.set_each.Given as goal
 
@@ -8,7 +8,7 @@ invariant-edges g l = record {
   bound : g.C.Cells.bound_of l.table ≡ g.C.Cells.bound_of l.fn.table;
   long : length (g.C.Cells.cells l.table) ≡ length (g.C.Cells.cells l.fn.table);
   within : l.i ≤ length l.ends;
-  cells : (p : Plan) (chunk : List ℕ) → AreOf p chunk l.modulus l.ends l.positions l.targets → g.C.Cells.cells l.table ≡ at_once p (g.C.Cells.cells l.fn.table) (drop l.i chunk);
+  cells : (p : Plan) (chunk : List ℕ) → AreOf p chunk l.modulus (edge_parts l.ends l.positions l.targets) → g.C.Cells.cells l.table ≡ at_once p (g.C.Cells.cells l.fn.table) (drop l.i chunk);
 }
 
 abbrev pub decreases-edges : goal.decreases-edges

@@ -8,7 +8,7 @@ use Rattle.cm_spec.specs.Graph.{ends_at, AreEdges}
 use Rattle.cm_spec.specs.Lists.{has}
 use Rattle.cm_spec.specs.Rounds.{rest_of, pivot_of, order_of, level_of}
 use Rattle.cm_peel.specs.SetLaws.{Contains-from_has}
-use Rattle.cm_algo_cells.specs.OneByOne.{AreOf, AreReady, IsPart, one_by_one}
+use Rattle.cm_algo_cells.specs.OneByOne.{AreOf, AreReady, IsPart, edge_parts, one_by_one}
 use Rattle.cm_algo_cells.proofs.OneRound.{one_round}
 use Rattle.cm_spec.specs.Rule.{Rule, IsRule, IsCount}
 use Rattle.cm_algo_cells.proofs.Solving.{map_agree, removed_at}
@@ -41,7 +41,7 @@ targets_below k n r edges tags chunk law many are none places = All-map (λ targ
 
 -- the edges of a chunk are ready
 ready : (k n bound modulus : ℕ) (r : Rule) (edges : List (List ℕ)) (tags chunk cells : List ℕ) (ends : List (List ℕ)) (positions targets : List ℕ) → IsRule k r → IsCount (length edges) → AreEdges k n edges → rest_of edges ≡ [] → All (λ e. e < length edges) chunk
-    → bound ≡ r.bound (length edges) → All (λ each. All (λ u. u < length cells) each) ends → AreOf (plan_of r n edges tags) chunk modulus ends positions targets → AreReady k bound cells modulus ends positions targets
+    → bound ≡ r.bound (length edges) → All (λ each. All (λ u. u < length cells) each) ends → AreOf (plan_of r n edges tags) chunk modulus (edge_parts ends positions targets) → AreReady k bound cells modulus (edge_parts ends positions targets)
 ready k n bound modulus r edges tags chunk cells ends positions targets law many are none places b_is within of =
     let long : length ends ≡ length chunk = ap length of.ends_are ∙ length-map chunk (ends_at edges) in
     record {
@@ -82,7 +82,7 @@ new-modulus-requires g c =
 
 -- what is looked up is of the plan
 of_plan : (r : Rule) (n modulus : ℕ) (edges : List (List ℕ)) (tags : List ℕ) (p : Peeling) (chunk : List ℕ) (ends : List (List ℕ)) (positions targets : List ℕ) → IsPeelingOf edges p → rest_of edges ≡ [] → All (λ e. e < length edges) chunk → modulus ≡ r.modulus (length edges)
-    → ends ≡ map (ends_at edges) chunk → positions ≡ map (λ e. get_or p.pivots e 0) chunk → targets ≡ map (λ e. r.target e (get_or p.pivots e 0) (get_or tags e 0)) chunk → AreOf (plan_of r n edges tags) chunk modulus ends positions targets
+    → ends ≡ map (ends_at edges) chunk → positions ≡ map (λ e. get_or p.pivots e 0) chunk → targets ≡ map (λ e. r.target e (get_or p.pivots e 0) (get_or tags e 0)) chunk → AreOf (plan_of r n edges tags) chunk modulus (edge_parts ends positions targets)
 of_plan r n modulus edges tags p chunk ends positions targets peeling none places m_is en po ta = record {
   modulus_is = m_is;
   ends_are = en;
