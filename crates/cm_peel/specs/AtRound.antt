@@ -49,6 +49,13 @@ pub record InRound (graph : Graph) (t : ℕ) (gone : List ℕ) (l : Links) (next
   pub next_byte : (e : ℕ) → has next e ≡ true → slice_index bytes e ≡ tag_of (suc t) + free_position l graph.edges e
   pub taken : (e : ℕ) → e < length graph.edges → is_taken bytes e ≡ (has next e || not (is_left graph.edges (suc t) e))
 
+-- a round can be worked on: t rounds went before, these edges are the ones that it removes, and none of its half-edges is removed yet
+pub record CanUnlink (k : ℕ) (graph : Graph) (t : ℕ) (removed : List ℕ) (l : Links) (bytes : List ℕ) : Type 0 where
+  pub small : IsSmall k graph
+  pub round : removed ≡ removed_after graph.edges t
+  pub early : t < length graph.edges
+  pub state : InRound graph t [] l [] bytes
+
 -- before the first round: no edge is taken, and each level is 0
 pub record AreFresh (graph : Graph) (levels bytes : List ℕ) : Type 0 where
   -- levels are kept of all edges, or of none

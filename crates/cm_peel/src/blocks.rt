@@ -4,7 +4,7 @@ ghost use Rattle.std.specs.Ordering.{nat_cmp};
 ghost use Rattle.std.specs.List.Sorted.{IsSorted};
 ghost use Rattle.cm_spec.specs.Rounds.{left_after, removed_after};
 ghost use Rattle.cm_graph_edges.specs.Graph.{Graph};
-ghost use Rattle.cm_peel.specs.AtRound.{InRound, IsSmall, other_places};
+ghost use Rattle.cm_peel.specs.AtRound.{CanUnlink, InRound, other_places};
 ghost use Rattle.cm_peel.specs.Marks.{IsUnmarked};
 ghost use Rattle.cm_peel.specs.Waiting.{AreEmpty, AreTables, AtPart, AtTaking, CanWait, InTaking, IsOpen, IsSameTaking, edges_of, halves_in, marked_of, put_room};
 ghost use Rattle.cm_spec.specs.declared.limits.TheConstants.{MAX_EDGES};
@@ -324,16 +324,13 @@ pub(crate) fn unlink_by_blocks<const K: usize, I: Incidence<K>, L: Ledger>(
     list: &mut [u32],
     steps: &mut Steps<L>,
 ) -> usize
-    requires graph { IsSmall K edges.now }
-    requires round { round.edges.now ≡ removed_after edges.now.edges round.before }
-    requires early { round.before < length edges.now.edges }
+    requires ready { CanUnlink K edges.now round.before round.edges.now (I.links incidence.old) tables.old.bytes.items }
     requires room { length (left_after edges.now.edges (suc round.before)) ≤ length list.old }
     requires few { length list.old ≤ 67109056 }
     requires some { 0 < length tables.old.counts.items }
     requires pairs { 128 * length tables.old.counts.items ≤ length list.old }
     requires space { 8192 ≤ length list.old }
     requires tables { AreTables edges.now tables.old.counts.items tables.old.marks.items }
-    requires state { InRound edges.now round.before [] (I.links incidence.old) [] tables.old.bytes.items }
     ensures within { result ≤ length list.new }
     ensures state { InRound edges.now round.entry.before (other_places edges.now.edges round.entry.edges.now) (I.links incidence.new) (take result list.new) tables.new.bytes.items }
     ensures sorted { IsSorted nat_cmp (take result list.new) }

@@ -28,7 +28,7 @@ unlink_marked-count-requires g c =
     let split = c.split_at_mut-room.ensures in
     let front : List ℕ = c.split_at_mut-room.result.0.now in
     let l : Links = g.I.Incidence.links c.args.incidence.now in
-    let round : InRound graph c.args.round.before [] l [] c.deref_mut-bytes.result.now = rw c.deref_mut-bytes.ensures.value c.requires.state in
+    let round : InRound graph c.args.round.before [] l [] c.deref_mut-bytes.result.now = rw c.deref_mut-bytes.ensures.value c.requires.ready.state in
     let tables : AreTables graph c.deref_mut-counts.result.now c.deref_mut-marks.result.now = rw (c.deref_mut-counts.ensures.value, c.deref_mut-marks.ensures.value) c.requires.tables in
     let many = ap length c.deref_mut-counts.ensures.value in
     let blocks : 0 < length c.deref_mut-counts.result.now = omega (arith, c.requires.some, many) in
@@ -38,14 +38,14 @@ unlink_marked-count-requires g c =
     let state = ready graph c.args.round.before c.plan_round-plan.result.rounds c.plan_round-plan.result.blocks c.plan_round-plan.result.each l c.deref_mut-marks.result.now c.deref_mut-bytes.result.now c.clear.new.freed p.rounds round tables.clear (omega (arith, p.within, c.clear.auto.freed)) (omega (arith, split.back_len, c.clear.auto.freed, c.requires.few)) p.short p.some (omega (arith, p.edges, c.len.ensures.count)) c.clear.ensures.none in (
       search rules,
       (
-        c.requires.round ∙ ap (removed_after graph.edges) (sym p.rounds),
+        c.requires.ready.round ∙ ap (removed_after graph.edges) (sym p.rounds),
         (
           tables.empty,
           (
             tables.clear,
             record {
-              small = c.requires.graph;
-              early = omega (arith, c.requires.early, p.rounds);
+              small = c.requires.ready.small;
+              early = omega (arith, c.requires.ready.early, p.rounds);
               positive = some;
               space = fits;
               state = blocks_begun graph c.plan_round-plan.result.rounds c.plan_round-plan.result.size c.plan_round-plan.result.blocks c.plan_round-plan.result.each front c.deref_mut-counts.result.now l c.deref_mut-marks.result.now c.deref_mut-bytes.result.now c.clear.new.freed state tables.empty;
