@@ -2,7 +2,7 @@
 ghost use Rattle.std.specs.Prelude.{◌≡◌, ◌<◌, ◌≤◌, ℕ, List, [], length, drop, slice_index_or, Option, Ok, true, false, IsTrue, ◌↔◌, OnOk, OnErr, Some, IfErr};
 ghost use Rattle.std.specs.Option.{ForSome};
 ghost use Rattle.cm_io.specs.Passes.{HasKeyCause};
-ghost use Rattle.cm_query_batch.specs.Waiting.{AreAnswers, Refills, RefillsBy, WaitingKeys};
+ghost use Rattle.cm_query_batch.specs.Waiting.{AreAnswers, Fills, Refills, RefillsBy, WaitingKeys, state_of};
 
 use crate::taken::{MOST, Taken};
 use arrayvec::ArrayVec;
@@ -90,15 +90,8 @@ impl Batch {
     ) -> Result<bool, KeyFault>
         requires usable { IsTrue (P.usable keys.old) }
         requires none { self.old.keys ≡ [] }
-        ensures told { P.told keys.new ≡ P.told keys.old }
-        ensures cause { HasKeyCause (P.faults keys.old) (P.faults keys.new) result }
-        ensures failed { IfErr result (λ fault. P.failure keys.new ≡ Some fault) }
-        ensures usable { OnOk result (P.usable keys.new ≡ true) }
-        ensures unusable { OnErr result (P.usable keys.new ≡ false) }
-        ensures few { P.place keys.new ≤ MAX_KEYS }
+        ensures fills { Fills (state_of P.told P.place P.faults P.usable P.failure keys.old) (state_of P.told P.place P.faults P.usable P.failure keys.new) self.new.keys result }
         ensures answers { AreAnswers (A.answer_of function.now) (A.span_of function.now) self.new }
-        ensures counts { RefillsBy (P.place keys.old) (P.place keys.new) 0 (length self.new.keys) result }
-        ensures refills { ForSome (P.told keys.old) (λ told. Refills told (P.place keys.old) (P.place keys.new) [] self.new.keys result) }
         ensures at_hand { (key : List ℕ) → P.stands keys.old key → result ≡ Ok true }
     {
         self.next = 0;

@@ -2,7 +2,7 @@
 ghost use Rattle.std.specs.Prelude.{◌≡◌, ◌⊎◌, ◌<◌, ◌≤◌, ◌+◌, ◌++◌, ℕ, List, [], ◌∷◌, length, map, slice_index_or, All, Option, IfSome, Ok, IfOk, OnOk, OnErr, true, false, IsTrue, Some, IfErr};
 ghost use Rattle.std.specs.Option.{ForSome};
 ghost use Rattle.cm_io.specs.Passes.{HasKeyCause};
-ghost use Rattle.cm_query_batch.specs.Waiting.{Refills, RefillsBy, Takes};
+ghost use Rattle.cm_query_batch.specs.Waiting.{Fills, Takes, state_of};
 
 use arrayvec::ArrayVec;
 use cm_algo_scheme::{Answers, Place};
@@ -126,14 +126,7 @@ impl Taken {
         requires usable { IsTrue (P.usable keys.old) }
         requires none { self.old.keys ≡ [] }
         requires room { self.old.bytes ≡ 0 }
-        ensures told { P.told keys.new ≡ P.told keys.old }
-        ensures cause { HasKeyCause (P.faults keys.old) (P.faults keys.new) result }
-        ensures failed { IfErr result (λ fault. P.failure keys.new ≡ Some fault) }
-        ensures usable { OnOk result (P.usable keys.new ≡ true) }
-        ensures unusable { OnErr result (P.usable keys.new ≡ false) }
-        ensures few { P.place keys.new ≤ MAX_KEYS }
-        ensures counts { RefillsBy (P.place keys.old) (P.place keys.new) 0 (length self.new.keys) result }
-        ensures refills { ForSome (P.told keys.old) (λ told. Refills told (P.place keys.old) (P.place keys.new) [] self.new.keys result) }
+        ensures fills { Fills (state_of P.told P.place P.faults P.usable P.failure keys.old) (state_of P.told P.place P.faults P.usable P.failure keys.new) self.new.keys result }
         ensures at_hand { (key : List ℕ) → P.stands keys.old key → result ≡ Ok true }
         ensures ended { IfOk result (λ more. more ≡ false → self.new.keys ≡ []) }
         ensures refused { OnErr result (self.new.keys ≡ []) }
