@@ -1,4 +1,4 @@
-//! Why a store can't go on.
+//! Why a store of records in a spill cannot go on.
 ghost use Rattle.std.specs.Prelude.{◌≡◌};
 ghost use Rattle.cm_spill.specs.declared.fault.SpillError.TheVariants.{Memory, Failed as SpillFailed};
 
