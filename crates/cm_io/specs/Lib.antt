@@ -8,3 +8,4 @@ pub mod FilesLaws
 pub mod Noting
 pub mod NotingLaws
 pub mod Passes
+pub mod PassFaults

@@ -1,12 +1,12 @@
--- How the gathering of a certificate ends.
-use Rattle.std.specs.Prelude.{◌≡◌, ◌≢◌, ◌⊎◌, ℕ, ◌+◌, ◌<◌, ◌≤◌, length, Bool, true, false, Option, None, Some, Result, Ok, Err}
+-- What a certificate is gathered of.
+use Rattle.std.specs.Prelude.{◌≡◌, ℕ, List, length, All, is_some, Bool, true, false, Option, None}
 use Rattle.cm_algo_names.specs.declared.algorithm.Algorithm.{Algorithm}
 use Rattle.cm_algo_names.specs.declared.algorithm.Algorithm.TheVariants.{Chm, Bdz, BdzPh, Brz}
-use Rattle.cm_io.specs.Passes.{Told, HasKeyCause}
-use Rattle.cm_io.specs.declared.key_pass.KeyFault.{KeyFault}
-use Rattle.cm_io.specs.declared.key_pass.KeyFault.TheVariants.{Read, TooLong, TooMany}
-use Rattle.cm_witness.specs.declared.certificate.GatherFault.{GatherFault}
-use Rattle.cm_witness.specs.declared.certificate.GatherFault.TheVariants.{Memory, Key, Changed}
+use Rattle.cm_io.specs.Passes.{Told}
+use Rattle.cm_witness.specs.Cores.{core_edges, keys_at}
+use Rattle.cm_witness.specs.Pairs.{pairs}
+use Rattle.cm_witness.specs.declared.certificate.Certificate.{Certificate}
+use Rattle.cm_witness.specs.declared.certificate.InBucket.{InBucket}
 
 -- how many ends the edges of an algorithm have
 abbrev pub ends_of : Algorithm → ℕ
@@ -29,48 +29,18 @@ has_buckets Bdz = false
 has_buckets BdzPh = false
 has_buckets Brz = true
 
--- `Key Read` exactly if the count of the keys' faults rose
-abbrev pub HasGatherCause : {T : Type 0} → ℕ → ℕ → Result T GatherFault → Type 0
-HasGatherCause before now (Ok x) = now ≡ before
-HasGatherCause before now (Err Memory) = now ≡ before
-HasGatherCause before now (Err (Key fault)) = HasKeyCause {T = Unit {0}} before now (Err fault)
-HasGatherCause before now (Err (Changed first again)) = now ≡ before
+-- a certificate names the algorithm, the seed and the bucket that it was asked for, and has one edge for each place of a residual graph
+pub record IsOf (algorithm : Algorithm) (seed : ℕ) (place : Option InBucket) (rest : List ℕ) (made : Certificate) : Type 0 where
+  pub algorithm_is : made.algorithm ≡ algorithm
+  pub seed_is : made.seed ≡ seed
+  pub place_is : made.place ≡ place
+  pub count : length made.edges.items ≡ length rest
+  pub third : All (λ e. is_some e.third ≡ has_third algorithm) made.edges.items
 
--- `Key` has the fault that the pass failed with last
-abbrev pub HasFailure : Option KeyFault → GatherFault → Type 0
-HasFailure failure Memory = Unit {0}
-HasFailure failure (Key fault) = failure ≡ Some fault
-HasFailure failure (Changed first now) = Unit {0}
-
--- known keys, of which m were expected, have come to their end, which is this fault: unless the source has failed, there are no more
--- than m
-abbrev pub IsEndFault : Told → ℕ → KeyFault → Type 0
-IsEndFault told m Read = Unit {0}
-IsEndFault told m (TooLong line) = (length told.keys ≤ m) × (told.fault ≡ Some (TooLong line))
-IsEndFault told m TooMany = (length told.keys ≤ m) × (told.fault ≡ Some TooMany)
-
--- there are more than m known keys, of which the pass took one more than m; or fewer, and no fault at their end
-abbrev pub AreOthers : Told → ℕ → ℕ → Type 0
-AreOthers told m now = ((m < length told.keys) × (now ≡ m + 1)) ⊎ ((length told.keys < m) × (now ≡ length told.keys) × (told.fault ≡ None))
-
--- the failures over known keys, of which m were expected
-abbrev pub FailsGather : Told → ℕ → GatherFault → Type 0
-FailsGather told m Memory = Unit {0}
-FailsGather told m (Key fault) = IsEndFault told m fault
-FailsGather told m (Changed first now) = AreOthers told m now
-
--- a pass that expected `first` keys took `now` keys and stopped: it had fewer, or one more
-pub record IsOther (first now place : ℕ) : Type 0 where
-  pub given : now ≡ place
-  pub differs : now ≢ first
-  pub stops : now ≤ first + 1
-
--- the numbers of `Changed`: m were expected, and `place` keys were taken
-abbrev pub HasOther : ℕ → ℕ → GatherFault → Type 0
-HasOther m place Memory = Unit {0}
-HasOther m place (Key fault) = Unit {0}
-HasOther m place (Changed first now) = (first ≡ m) × IsOther first now place
-
--- a pass over the keys came to its end after this many
-abbrev pub HasPassed : {P : Type 0} → (P → Type 0) → (P → ℕ) → ℕ → Type 0
-HasPassed {P} at_end place count = (keys : P) × at_end keys × (place keys ≡ count)
+-- there is one known key an edge, and a certificate has the edges at the places of a residual graph, with the lines of their keys, and
+-- which of these keys are equal
+pub record IsGathered (told : Told) (edges : List (List ℕ)) (rest : List ℕ) (made : Certificate) : Type 0 where
+  pub many : length told.keys ≡ length edges
+  pub ended : told.fault ≡ None
+  pub edges_are : made.edges.items ≡ core_edges told.keys edges rest
+  pub equal_are : made.equal.items ≡ pairs (keys_at told.keys rest)

@@ -1,7 +1,6 @@
 //! What a failed build shows.
 
 use cm_algo_names::Algorithm;
-use cm_io::KeyFault;
 
 /// A bucket of keys: the seed that split the keys into buckets, and the bucket's number, from 0.
 #[derive(Clone, Copy, Debug, PartialEq, Eq)]
@@ -38,13 +37,5 @@ pub struct Certificate {
     pub equal: Vec<Pair>,
 }
 
-/// Why no certificate was gathered.
-#[derive(Clone, Copy, Debug, PartialEq, Eq)]
-pub enum GatherFault {
-    /// Out of memory.
-    Memory,
-    /// The pass over the keys failed.
-    Key(KeyFault),
-    /// There were `first` edges, and now there are `now` keys: fewer, or one more, where the pass stopped.
-    Changed { first: u32, now: u32 },
-}
+/// Why no certificate was gathered: a pass over as many keys as there are edges failed.
+pub use cm_io::PassFault as GatherFault;

@@ -1,38 +1,22 @@
 //! What a pass over the keys shows of a 2-core.
-ghost use Rattle.std.specs.Prelude.{◌≡◌, ◌≢◌, ◌<◌, ◌≤◌, ◌+◌, ℕ, List, [], length, All, is_some, Some, None, Ok, Err, true, if◌then◌else◌, IfOk, IfErr, OnOk, IsTrue};
+ghost use Rattle.std.specs.Prelude.{◌≡◌, ◌<◌, ◌≤◌, ◌+◌, ℕ, List, [], length, All, is_some, Some, None, Ok, Err, true, if◌then◌else◌, IfOk, IfErr, OnOk, IsTrue};
 ghost use Rattle.std.specs.List.Sorted.{IsStrictlyIncreasing};
 ghost use Rattle.std.specs.Option.{ForSome};
-ghost use Rattle.cm_io.specs.Passes.{Ends, HasKeyCause, GivesKey};
+ghost use Rattle.cm_io.specs.Passes.{HasKeyCause, GivesKey};
 ghost use Rattle.cm_witness.specs.Candidates.{FindsEqual, is_twice};
 ghost use Rattle.cm_witness.specs.Cores.{EqualKeysMeet, core_edge as core_edge_of, core_edges, keys_at};
-ghost use Rattle.cm_witness.specs.Gathers.{FailsGather, HasFailure, HasGatherCause, HasOther, ends_of, has_buckets, has_third};
+ghost use Rattle.cm_io.specs.PassFaults.{FailsPass, HasOtherCount, HasPassCause, HasPassFailure, ReadsKeys};
+ghost use Rattle.cm_witness.specs.Gathers.{IsGathered, IsOf, ends_of, has_buckets, has_third};
 ghost use Rattle.cm_witness.specs.Noted.{AreNoted, TakesKey};
 ghost use Rattle.cm_witness.specs.Pairs.{pairs};
-ghost use Rattle.cm_witness.specs.declared.certificate.GatherFault.TheVariants as gather_fault;
 
 use crate::candidates::Candidates;
 use crate::certificate::{Certificate, CoreEdge, GatherFault, InBucket};
 use crate::firsts::EqualKeys;
 use cm_algo_names::Algorithm;
 use cm_graph_edges::Edges;
-use cm_io::{KeyBuf, KeyFault, KeyPass};
-use std::alloc::{AllocError, Global};
-
-impl From<KeyFault> for GatherFault {
-    ghost from_gives = { λ f e. e ≡ gather_fault.Key f };
-
-    fn from(fault: KeyFault) -> Self {
-        GatherFault::Key(fault)
-    }
-}
-
-impl From<AllocError> for GatherFault {
-    ghost from_gives = { λ _ e. e ≡ gather_fault.Memory };
-
-    fn from(_: AllocError) -> Self {
-        GatherFault::Memory
-    }
-}
+use cm_io::{KeyBuf, KeyFault, KeyPass, PassFault, expect_end};
+use std::alloc::Global;
 
 /// Passes the next key, and returns false at the end. A buffered key isn't copied. The buffer is scratch space.
 #[inline(always)]
@@ -60,21 +44,21 @@ fn pass_keys<P: KeyPass>(
     from: u32,
     until: u32,
     m: u32,
-) -> Result<(), GatherFault>
+) -> Result<(), PassFault>
     requires usable { IsTrue (P.usable keys.old) }
     requires at { P.place keys.old ≡ from }
     requires within { (from ≤ until) × (until ≤ m) }
     ensures told { P.told keys.new ≡ P.told keys.old }
-    ensures cause { HasGatherCause (P.faults keys.old) (P.faults keys.new) result }
-    ensures failed { IfErr result (HasFailure (P.failure keys.new)) }
+    ensures cause { HasPassCause (P.faults keys.old) (P.faults keys.new) result }
+    ensures failed { IfErr result (HasPassFailure (P.failure keys.new)) }
     ensures usable { OnOk result (P.usable keys.new ≡ true) }
     ensures at { OnOk result (P.place keys.new ≡ until) }
-    ensures changed { IfErr result (HasOther m (P.place keys.new)) }
-    ensures fault { IfErr result (λ fault. ForSome (P.told keys.old) (λ told. FailsGather told m fault)) }
+    ensures changed { IfErr result (HasOtherCount m (P.place keys.new)) }
+    ensures fault { IfErr result (λ fault. ForSome (P.told keys.old) (λ told. FailsPass told m fault)) }
 {
     for count in from..until {
         if !pass_next(keys, key)? {
-            return Err(GatherFault::Changed {
+            return Err(PassFault::Changed {
                 first: m,
                 now: count,
             });
@@ -84,41 +68,41 @@ fn pass_keys<P: KeyPass>(
 }
 
 /// Puts the next key into the buffer and returns its line. It is the key at place `e` of `m` in all.
-fn read_key<P: KeyPass>(keys: &mut P, key: &mut KeyBuf, e: u32, m: u32) -> Result<u32, GatherFault>
+fn read_key<P: KeyPass>(keys: &mut P, key: &mut KeyBuf, e: u32, m: u32) -> Result<u32, PassFault>
     requires usable { IsTrue (P.usable keys.old) }
     requires at { P.place keys.old ≡ e }
     requires within { e < m }
     ensures told { P.told keys.new ≡ P.told keys.old }
-    ensures cause { HasGatherCause (P.faults keys.old) (P.faults keys.new) result }
-    ensures failed { IfErr result (HasFailure (P.failure keys.new)) }
+    ensures cause { HasPassCause (P.faults keys.old) (P.faults keys.new) result }
+    ensures failed { IfErr result (HasPassFailure (P.failure keys.new)) }
     ensures usable { OnOk result (P.usable keys.new ≡ true) }
     ensures at { OnOk result (P.place keys.new ≡ e + 1) }
     ensures gives { IfOk result (λ line. ForSome (P.told keys.old) (λ told. GivesKey told (P.place keys.old) (P.place keys.new) line key.new.items (Ok true))) }
-    ensures changed { IfErr result (HasOther m (P.place keys.new)) }
-    ensures fault { IfErr result (λ fault. ForSome (P.told keys.old) (λ told. FailsGather told m fault)) }
+    ensures changed { IfErr result (HasOtherCount m (P.place keys.new)) }
+    ensures fault { IfErr result (λ fault. ForSome (P.told keys.old) (λ told. FailsPass told m fault)) }
 {
     if !keys.next(key)? {
-        return Err(GatherFault::Changed { first: m, now: e });
+        return Err(PassFault::Changed { first: m, now: e });
     }
     Ok(keys.line())
 }
 
 /// Passes the next key, the one at place `e` of `m` in all, and returns its line. The buffer is scratch space.
-fn pass_key<P: KeyPass>(keys: &mut P, key: &mut KeyBuf, e: u32, m: u32) -> Result<u32, GatherFault>
+fn pass_key<P: KeyPass>(keys: &mut P, key: &mut KeyBuf, e: u32, m: u32) -> Result<u32, PassFault>
     requires usable { IsTrue (P.usable keys.old) }
     requires at { P.place keys.old ≡ e }
     requires within { e < m }
     ensures told { P.told keys.new ≡ P.told keys.old }
-    ensures cause { HasGatherCause (P.faults keys.old) (P.faults keys.new) result }
-    ensures failed { IfErr result (HasFailure (P.failure keys.new)) }
+    ensures cause { HasPassCause (P.faults keys.old) (P.faults keys.new) result }
+    ensures failed { IfErr result (HasPassFailure (P.failure keys.new)) }
     ensures usable { OnOk result (P.usable keys.new ≡ true) }
     ensures at { OnOk result (P.place keys.new ≡ e + 1) }
     ensures gives { IfOk result (λ line. ForSome (P.told keys.old) (λ told. (next : List ℕ) × GivesKey told (P.place keys.old) (P.place keys.new) line next (Ok true))) }
-    ensures changed { IfErr result (HasOther m (P.place keys.new)) }
-    ensures fault { IfErr result (λ fault. ForSome (P.told keys.old) (λ told. FailsGather told m fault)) }
+    ensures changed { IfErr result (HasOtherCount m (P.place keys.new)) }
+    ensures fault { IfErr result (λ fault. ForSome (P.told keys.old) (λ told. FailsPass told m fault)) }
 {
     if !pass_next(keys, key)? {
-        return Err(GatherFault::Changed { first: m, now: e });
+        return Err(PassFault::Changed { first: m, now: e });
     }
     Ok(keys.line())
 }
@@ -132,18 +116,18 @@ fn take_key<P: KeyPass>(
     m: u32,
     candidate: bool,
     equal: &mut EqualKeys,
-) -> Result<u32, GatherFault>
+) -> Result<u32, PassFault>
     requires usable { IsTrue (P.usable keys.old) }
     requires at { P.place keys.old ≡ e }
     requires within { e < m }
     ensures told { P.told keys.new ≡ P.told keys.old }
-    ensures cause { HasGatherCause (P.faults keys.old) (P.faults keys.new) result }
-    ensures failed { IfErr result (HasFailure (P.failure keys.new)) }
+    ensures cause { HasPassCause (P.faults keys.old) (P.faults keys.new) result }
+    ensures failed { IfErr result (HasPassFailure (P.failure keys.new)) }
     ensures usable { OnOk result (P.usable keys.new ≡ true) }
     ensures at { OnOk result (P.place keys.new ≡ e + 1) }
     ensures gives { IfOk result (λ line. ForSome (P.told keys.old) (λ told. TakesKey told.keys e line candidate equal.old.firsts equal.old.pairs.items equal.new.firsts equal.new.pairs.items)) }
-    ensures changed { IfErr result (HasOther m (P.place keys.new)) }
-    ensures fault { IfErr result (λ fault. ForSome (P.told keys.old) (λ told. FailsGather told m fault)) }
+    ensures changed { IfErr result (HasOtherCount m (P.place keys.new)) }
+    ensures fault { IfErr result (λ fault. ForSome (P.told keys.old) (λ told. FailsPass told m fault)) }
 {
     if !candidate {
         return pass_key(keys, key, e, m);
@@ -167,30 +151,6 @@ fn core_edge<const K: usize>(line: u32, ends: [u32; K]) -> CoreEdge
     }
 }
 
-/// Checks that a pass that has yielded its `m` keys has no other. Fails as `Changed` if it has. The buffer is scratch space.
-pub fn expect_end<P: KeyPass>(keys: &mut P, key: &mut KeyBuf, m: u32) -> Result<(), GatherFault>
-    requires usable { IsTrue (P.usable keys.old) }
-    requires at { P.place keys.old ≡ m }
-    ensures told { P.told keys.new ≡ P.told keys.old }
-    ensures cause { HasGatherCause (P.faults keys.old) (P.faults keys.new) result }
-    ensures failed { IfErr result (HasFailure (P.failure keys.new)) }
-    ensures given { OnOk result (P.place keys.new ≡ m) }
-    ensures at_end { OnOk result (P.at_end keys.new) }
-    ensures gave { (passed : List (ℕ × List ℕ)) → P.gave keys.old passed → OnOk result (P.gave keys.new passed) }
-    ensures end { OnOk result (ForSome (P.told keys.old) (λ told. Ends told (P.place keys.old) None)) }
-    ensures memory { result ≢ Err gather_fault.Memory }
-    ensures changed { IfErr result (HasOther m (P.place keys.new)) }
-    ensures fault { IfErr result (λ fault. ForSome (P.told keys.old) (λ told. FailsGather told m fault)) }
-{
-    if keys.next(key)? {
-        return Err(GatherFault::Changed {
-            first: m,
-            now: m + 1,
-        });
-    }
-    Ok(())
-}
-
 /// Passes the keys from place `from` up to the last, which are to be `m` in all. Fails as `Changed` if there are fewer, or more. The
 /// buffer is scratch space.
 fn pass_to_end<P: KeyPass>(
@@ -198,17 +158,17 @@ fn pass_to_end<P: KeyPass>(
     key: &mut KeyBuf,
     from: u32,
     m: u32,
-) -> Result<(), GatherFault>
+) -> Result<(), PassFault>
     requires usable { IsTrue (P.usable keys.old) }
     requires at { P.place keys.old ≡ from }
     requires within { from ≤ m }
     ensures told { P.told keys.new ≡ P.told keys.old }
-    ensures cause { HasGatherCause (P.faults keys.old) (P.faults keys.new) result }
-    ensures failed { IfErr result (HasFailure (P.failure keys.new)) }
+    ensures cause { HasPassCause (P.faults keys.old) (P.faults keys.new) result }
+    ensures failed { IfErr result (HasPassFailure (P.failure keys.new)) }
     ensures given { OnOk result (P.place keys.new ≡ m) }
     ensures end { OnOk result (ForSome (P.told keys.old) (λ told. (length told.keys ≡ m) × (told.fault ≡ None))) }
-    ensures changed { IfErr result (HasOther m (P.place keys.new)) }
-    ensures fault { IfErr result (λ fault. ForSome (P.told keys.old) (λ told. FailsGather told m fault)) }
+    ensures changed { IfErr result (HasOtherCount m (P.place keys.new)) }
+    ensures fault { IfErr result (λ fault. ForSome (P.told keys.old) (λ told. FailsPass told m fault)) }
 {
     pass_keys(keys, key, from, m, m)?;
     expect_end(keys, key, m)?;
@@ -225,7 +185,7 @@ fn gather_edges<P: KeyPass, const K: usize>(
     rest: &[u32],
     candidates: &Candidates,
     equal: &mut EqualKeys,
-) -> Result<Vec<CoreEdge>, GatherFault>
+) -> Result<Vec<CoreEdge>, PassFault>
     requires width { (2 ≤ K) × (K ≤ 3) }
     requires rising { IsStrictlyIncreasing rest.now }
     requires inside { All (λ e. e < length edges.now.edges) rest.now }
@@ -233,16 +193,16 @@ fn gather_edges<P: KeyPass, const K: usize>(
     requires finds { FindsEqual (is_twice candidates.now) edges.now.edges rest.now }
     requires none { AreNoted [] equal.old.firsts equal.old.pairs.items }
     ensures told { P.told keys.new ≡ P.told keys.old }
-    ensures cause { HasGatherCause (P.faults keys.old) (P.faults keys.new) result }
-    ensures failed { IfErr result (HasFailure (P.failure keys.new)) }
+    ensures cause { HasPassCause (P.faults keys.old) (P.faults keys.new) result }
+    ensures failed { IfErr result (HasPassFailure (P.failure keys.new)) }
     ensures count { IfOk result (λ core. length core.items ≡ length rest.now) }
     ensures third { (algorithm : Algorithm) → K ≡ ends_of algorithm → IfOk result (λ core. All (λ e. is_some e.third ≡ has_third algorithm) core.items) }
     ensures given { OnOk result (P.place keys.new ≡ length edges.now.edges) }
     ensures end { OnOk result (ForSome (P.told keys.old) (λ told. (length told.keys ≡ length edges.now.edges) × (told.fault ≡ None))) }
     ensures edges { IfOk result (λ core. ForSome (P.told keys.old) (λ told. core.items ≡ core_edges told.keys edges.now.edges rest.now)) }
     ensures equal { OnOk result (ForSome (P.told keys.old) (λ told. equal.new.pairs.items ≡ pairs (keys_at told.keys rest.now))) }
-    ensures changed { IfErr result (HasOther (length edges.now.edges) (P.place keys.new)) }
-    ensures fault { IfErr result (λ fault. ForSome (P.told keys.old) (λ told. FailsGather told (length edges.now.edges) fault)) }
+    ensures changed { IfErr result (HasOtherCount (length edges.now.edges) (P.place keys.new)) }
+    ensures fault { IfErr result (λ fault. ForSome (P.told keys.old) (λ told. FailsPass told (length edges.now.edges) fault)) }
 {
     let m = edges.len();
     let mut core = Vec::with_capacity(alloc, rest.len())?;
@@ -278,24 +238,9 @@ pub fn gather<P: KeyPass, const K: usize>(
     requires rising { IsStrictlyIncreasing rest.now }
     requires inside { All (λ e. e < length edges.now.edges) rest.now }
     requires equal_keys { ForSome (P.told keys.old) (λ told. EqualKeysMeet told.keys edges.now.edges) }
-
-    // Whatever is known of the keys.
-    ensures told { P.told keys.new ≡ P.told keys.old }
-    ensures cause { HasGatherCause (P.faults keys.old) (P.faults keys.new) result }
-    ensures failed { IfErr result (HasFailure (P.failure keys.new)) }
-    ensures algorithm { IfOk result (λ made. made.algorithm ≡ algorithm) }
-    ensures seed { IfOk result (λ made. made.seed ≡ seed) }
-    ensures place { IfOk result (λ made. made.place ≡ place) }
-    ensures count { IfOk result (λ made. length made.edges.items ≡ length rest.now) }
-    ensures third { IfOk result (λ made. All (λ e. is_some e.third ≡ has_third algorithm) made.edges.items) }
-    ensures given { OnOk result (P.place keys.new ≡ length edges.now.edges) }
-    ensures changed { IfErr result (HasOther (length edges.now.edges) (P.place keys.new)) }
-
-    // If the keys are known.
-    ensures end { OnOk result (ForSome (P.told keys.old) (λ told. (length told.keys ≡ length edges.now.edges) × (told.fault ≡ None))) }
-    ensures edges { IfOk result (λ made. ForSome (P.told keys.old) (λ told. made.edges.items ≡ core_edges told.keys edges.now.edges rest.now)) }
-    ensures equal { IfOk result (λ made. ForSome (P.told keys.old) (λ told. made.equal.items ≡ pairs (keys_at told.keys rest.now))) }
-    ensures fault { IfErr result (λ fault. ForSome (P.told keys.old) (λ told. FailsGather told (length edges.now.edges) fault)) }
+    ensures reads { ReadsKeys P.KeyPass keys.old keys.new (length edges.now.edges) result }
+    ensures form { IfOk result (IsOf algorithm seed place rest.now) }
+    ensures gathered { IfOk result (λ made. ForSome (P.told keys.old) (λ told. IsGathered told edges.now.edges rest.now made)) }
 {
     let mut key = KeyBuf::new();
     gather_with(alloc, keys, &mut key, edges, rest, algorithm, seed, place)
@@ -317,24 +262,9 @@ pub fn gather_with<P: KeyPass, const K: usize>(
     requires rising { IsStrictlyIncreasing rest.now }
     requires inside { All (λ e. e < length edges.now.edges) rest.now }
     requires equal_keys { ForSome (P.told keys.old) (λ told. EqualKeysMeet told.keys edges.now.edges) }
-
-    // Whatever the pass tells.
-    ensures told { P.told keys.new ≡ P.told keys.old }
-    ensures cause { HasGatherCause (P.faults keys.old) (P.faults keys.new) result }
-    ensures failed { IfErr result (HasFailure (P.failure keys.new)) }
-    ensures algorithm { IfOk result (λ made. made.algorithm ≡ algorithm) }
-    ensures seed { IfOk result (λ made. made.seed ≡ seed) }
-    ensures place { IfOk result (λ made. made.place ≡ place) }
-    ensures count { IfOk result (λ made. length made.edges.items ≡ length rest.now) }
-    ensures third { IfOk result (λ made. All (λ e. is_some e.third ≡ has_third algorithm) made.edges.items) }
-    ensures given { OnOk result (P.place keys.new ≡ length edges.now.edges) }
-    ensures changed { IfErr result (HasOther (length edges.now.edges) (P.place keys.new)) }
-
-    // Over told keys.
-    ensures end { OnOk result (ForSome (P.told keys.old) (λ told. (length told.keys ≡ length edges.now.edges) × (told.fault ≡ None))) }
-    ensures edges { IfOk result (λ made. ForSome (P.told keys.old) (λ told. made.edges.items ≡ core_edges told.keys edges.now.edges rest.now)) }
-    ensures equal { IfOk result (λ made. ForSome (P.told keys.old) (λ told. made.equal.items ≡ pairs (keys_at told.keys rest.now))) }
-    ensures fault { IfErr result (λ fault. ForSome (P.told keys.old) (λ told. FailsGather told (length edges.now.edges) fault)) }
+    ensures reads { ReadsKeys P.KeyPass keys.old keys.new (length edges.now.edges) result }
+    ensures form { IfOk result (IsOf algorithm seed place rest.now) }
+    ensures gathered { IfOk result (λ made. ForSome (P.told keys.old) (λ told. IsGathered told edges.now.edges rest.now made)) }
 {
     let candidates = Candidates::among(alloc, edges, rest)?;
     let mut equal = EqualKeys::new(alloc, candidates.count(edges, rest))?;

@@ -13,6 +13,6 @@ pub use candidates::count_candidates;
 pub use certificate::{Certificate, CoreEdge, GatherFault, InBucket, Pair};
 pub use cm_algo_names::Algorithm;
 pub use firsts::{EqualKeys, equal_pairs};
-pub use gathering::{expect_end, gather, gather_with};
+pub use gathering::{gather, gather_with};
 pub use laws::{each_paired, reports};
 pub use report::{append, append_number, write_pairs};

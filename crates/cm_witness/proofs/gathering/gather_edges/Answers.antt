@@ -2,7 +2,8 @@ use Rattle.std.proofs.Common.{◌≡◌, ◌∙◌, ℕ, ◌+◌, All, List, [],
 use Rattle.std.proofs.lemmas.List.{length_push, take_all}
 use Rattle.std.proofs.lemmas.List.Elements.{All-push, All-same}
 use Rattle.cm_witness.specs.Cores.{core_edges}
-use Rattle.cm_witness.specs.Gathers.{FailsGather, has_third}
+use Rattle.cm_io.specs.PassFaults.{FailsPass}
+use Rattle.cm_witness.specs.Gathers.{has_third}
 use Rattle.cm_witness.specs.declared.certificate.CoreEdge.{CoreEdge}
 use Rattle.cm_witness.proofs.GatherLemmas.{edges_more, handed_on, keys_more, pairs_all}
 use Rattle.cm_witness.proofs.gathering.gather_edges.Goals as goal
@@ -18,13 +19,13 @@ pub returns-in_err-pass_keys-clause-fault : goal.returns-in_err-pass_keys-clause
 returns-in_err-pass_keys-clause-fault g c =
     let fault = c.in_err-pass_keys.field-0.0 in
     handed_on c.from_residual-in_err-pass_keys.result fault _ c.from_residual-in_err-pass_keys.ensures.1
-    (λ told is. subst (λ (m : ℕ). FailsGather told m fault) c.len-m.ensures.count (c.in_err-pass_keys.ensures.fault told (c.loop-e.invariant.same ∙ is)))
+    (λ told is. subst (λ (m : ℕ). FailsPass told m fault) c.len-m.ensures.count (c.in_err-pass_keys.ensures.fault told (c.loop-e.invariant.same ∙ is)))
 
 pub returns-in_err-line-clause-fault : goal.returns-in_err-line-clause-fault
 returns-in_err-line-clause-fault g c =
     let fault = c.in_err-line.field-0.0 in
     handed_on c.from_residual-in_err-line.result fault _ c.from_residual-in_err-line.ensures.1
-    (λ told is. subst (λ (m : ℕ). FailsGather told m fault) c.len-m.ensures.count (c.in_err-line.ensures.fault told (c.pass_keys.ensures.told ∙ (c.loop-e.invariant.same ∙ is))))
+    (λ told is. subst (λ (m : ℕ). FailsPass told m fault) c.len-m.ensures.count (c.in_err-line.ensures.fault told (c.pass_keys.ensures.told ∙ (c.loop-e.invariant.same ∙ is))))
 
 pub loop-e-preserved : goal.loop-e-preserved
 loop-e-preserved g c =
@@ -57,7 +58,7 @@ pub returns-in_err-pass_to_end-clause-fault : goal.returns-in_err-pass_to_end-cl
 returns-in_err-pass_to_end-clause-fault g c =
     let fault = c.in_err-pass_to_end.field-0.0 in
     handed_on c.from_residual-in_err-pass_to_end.result fault _ c.from_residual-in_err-pass_to_end.ensures.1
-    (λ told is. subst (λ (m : ℕ). FailsGather told m fault) c.len-m.ensures.count (c.in_err-pass_to_end.ensures.fault told (c.loop-e.invariant.same ∙ is)))
+    (λ told is. subst (λ (m : ℕ). FailsPass told m fault) c.len-m.ensures.count (c.in_err-pass_to_end.ensures.fault told (c.loop-e.invariant.same ∙ is)))
 
 pub returns-clause-edges : goal.returns-clause-edges
 returns-clause-edges g c = λ told is. c.loop-e.invariant.edges told is ∙ ap (core_edges told.keys c.args.edges.now.edges) (take_all c.loop-e.e-index c.args.rest.now (omega (arith, c.loop-e-test.false)))
