@@ -1,5 +1,6 @@
 -- The result of a build over numbered keys.
 use Rattle.std.specs.Prelude.{◌≡◌, ◌≢◌, ℕ, ◌+◌, ◌*◌, ◌≤◌, List, [], Contains, count_by, length, None, Some}
+use Rattle.cm_algo_scheme.specs.declared.built.Built.{Built}
 use Rattle.cm_io.specs.Passes.{Told}
 use Rattle.cm_spec.specs.declared.limits.TheConstants.{MAX_KEYS}
 use Rattle.cm_spec.specs.Cells.{AreSolved, cells_of, is_busy, plan_of}
@@ -28,13 +29,13 @@ pub record IsBuilt (r : Rule) (keys : List (ℕ × List ℕ)) (c : ℕ) (seeds :
   pub cells_are : cells ≡ cells_under r keys c seed
   pub steps : after ≤ before + 8 * (k * length keys) * (place + 1)
 
--- the numbers and the table of a function, whatever the keys are: it was built at this ratio under a seed of the list, and its table has
--- the bound and the cells that the rule gives this many keys
-pub record IsMade (r : Rule) (c : ℕ) (seeds : List ℕ) (m ratio seed bound : ℕ) (cells : List ℕ) : Type 0 where
-  pub many : (1 ≤ m) × (m ≤ MAX_KEYS) × (ratio ≡ c)
-  pub sizes : (bound ≡ r.bound m) × (length cells ≡ r.size m c)
-  pub busy : r.modulus m ≤ r.idle → count_by (is_busy r.idle) cells ≡ m
-  pub chosen : Contains seeds seed
+-- what was built, whatever the keys are: at this ratio, under a seed of the list, and its table, of which contracts see the bound and the
+-- cells, has those that the rule gives this many keys
+pub record IsMade {T : Type 0} (bound_of : T → ℕ) (cells_in : T → List ℕ) (r : Rule) (c : ℕ) (seeds : List ℕ) (built : Built T) : Type 0 where
+  pub many : (1 ≤ built.m) × (built.m ≤ MAX_KEYS) × (built.c ≡ c)
+  pub sizes : (bound_of built.cells ≡ r.bound built.m) × (length (cells_in built.cells) ≡ r.size built.m c)
+  pub busy : r.modulus built.m ≤ r.idle → count_by (is_busy r.idle) (cells_in built.cells) ≡ built.m
+  pub chosen : Contains seeds built.seed
 
 -- one seed: the keys have come to their end without a fault, this is their graph, and peeling leaves an edge of it
 pub record IsLeft (r : Rule) (told : Told) (c seed : ℕ) (edges : List (List ℕ)) : Type 0 where

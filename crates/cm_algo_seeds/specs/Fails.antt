@@ -3,21 +3,23 @@ use Rattle.std.specs.Prelude.{◌≡◌, ◌≢◌, ℕ, ◌<◌, ◌≤◌, Lis
 use Rattle.cm_algo_names.specs.declared.algorithm.Algorithm.{Algorithm}
 use Rattle.cm_io.specs.Passes.{Told, HasKeyCause, IsToldFault}
 use Rattle.cm_io.specs.declared.key_pass.KeyFault.{KeyFault}
+use Rattle.cm_io.specs.declared.key_pass.KeyPass.{Ghosts}
 use Rattle.cm_spec.specs.Rule.{Rule}
 use Rattle.cm_spec.specs.Built.{first_seed, AllCored}
 use Rattle.cm_witness.specs.Cores.{edges_left, pairs_left}
-use Rattle.cm_witness.specs.Gathers.{HasPassed, IsOther, has_third}
+use Rattle.cm_io.specs.PassFaults.{HasPassed, IsOtherCount}
+use Rattle.cm_witness.specs.Gathers.{has_third}
 use Rattle.cm_witness.specs.declared.certificate.Certificate.{Certificate}
-use Rattle.cm_witness.specs.declared.certificate.GatherFault.{GatherFault}
-use Rattle.cm_witness.specs.declared.certificate.GatherFault.TheVariants as gather_fault
+use Rattle.cm_io.specs.declared.pass_fault.PassFault.{PassFault}
+use Rattle.cm_io.specs.declared.pass_fault.PassFault.TheVariants as pass_fault
 use Rattle.cm_algo_seeds.specs.declared.fault.BuildFault.{BuildFault}
 use Rattle.cm_algo_seeds.specs.declared.fault.BuildFault.TheVariants.{Memory, NoKeys, Cored, Key, Changed}
 
 -- the fault of a build that fails in one of its passes
-abbrev pub build_fault_of : GatherFault → BuildFault
-build_fault_of gather_fault.Memory = Memory
-build_fault_of (gather_fault.Key fault) = Key fault
-build_fault_of (gather_fault.Changed first now) = Changed first now
+abbrev pub build_fault_of : PassFault → BuildFault
+build_fault_of pass_fault.Memory = Memory
+build_fault_of (pass_fault.Key fault) = Key fault
+build_fault_of (pass_fault.Changed first now) = Changed first now
 
 -- `Key Read` exactly if the count of the keys' faults rose
 abbrev pub HasBuildCause : {T : Type 0} → ℕ → ℕ → Result T BuildFault → Type 0
@@ -34,7 +36,7 @@ HasNumbers place Memory = Unit {0}
 HasNumbers place NoKeys = place ≡ 0
 HasNumbers place (Cored made) = Unit {0}
 HasNumbers place (Key fault) = Unit {0}
-HasNumbers place (Changed first now) = (1 ≤ first) × IsOther first now place
+HasNumbers place (Changed first now) = (1 ≤ first) × IsOtherCount first now place
 
 -- `Key` has the fault that the pass failed with last
 abbrev pub HasBuildFailure : Option KeyFault → BuildFault → Type 0
@@ -56,6 +58,14 @@ pub record ShowsCore (r : Rule) (keys : List (ℕ × List ℕ)) (c seed : ℕ) (
 abbrev pub HasForm : Algorithm → ℕ → BuildFault → Type 0
 HasForm algorithm seed (Cored made) = (made.algorithm ≡ algorithm) × (made.seed ≡ seed) × (made.place ≡ None) × All (λ e. is_some e.third ≡ has_third algorithm) made.edges.items
 HasForm algorithm seed fault = Unit {0}
+
+-- what a failure says, whatever the keys are: the fault that the pass failed with last, the numbers of the last pass and of one before it
+-- that came to its end, and a certificate under this seed
+pub record IsFailure {P : Type 0} (K : Ghosts P) (keys : P) (algorithm : Algorithm) (seed : ℕ) (fault : BuildFault) : Type 0 where
+  pub failed : HasBuildFailure (K.failure keys) fault
+  pub numbers : HasNumbers (K.place keys) fault
+  pub counted : HasCounted K.at_end K.place keys fault
+  pub certificate : HasForm algorithm seed fault
 
 -- a build failed with a certificate that has equal keys
 abbrev pub FoundEqual : BuildFault → Type 0

@@ -3,8 +3,8 @@ ghost use Rattle.std.specs.Prelude.{◌≡◌};
 ghost use Rattle.cm_algo_seeds.specs.declared.fault.BuildFault.TheVariants as build_fault;
 ghost use Rattle.cm_algo_seeds.specs.Fails.{build_fault_of};
 
-use cm_io::KeyFault;
-use cm_witness::{Certificate, GatherFault};
+use cm_io::{KeyFault, PassFault};
+use cm_witness::Certificate;
 
 /// Why there is no function.
 #[derive(Drop)]
@@ -30,15 +30,15 @@ impl From<KeyFault> for BuildFault {
     }
 }
 
-/// Each later pass expects the keys that the first one counted, as the gathering of a certificate does, and fails as that does.
-impl From<GatherFault> for BuildFault {
+/// Each later pass expects the keys that the first one counted.
+impl From<PassFault> for BuildFault {
     ghost from_gives = { λ f e. e ≡ build_fault_of f };
 
-    fn from(fault: GatherFault) -> Self {
+    fn from(fault: PassFault) -> Self {
         match fault {
-            GatherFault::Memory => BuildFault::Memory,
-            GatherFault::Key(fault) => BuildFault::Key(fault),
-            GatherFault::Changed { first, now } => BuildFault::Changed { first, now },
+            PassFault::Memory => BuildFault::Memory,
+            PassFault::Key(fault) => BuildFault::Key(fault),
+            PassFault::Changed { first, now } => BuildFault::Changed { first, now },
         }
     }
 }

@@ -5,17 +5,16 @@ ghost use Rattle.cm_io.specs.Passes.{HasKeyCause, GivesFour};
 ghost use Rattle.cm_spec.specs.Built.{edge_of, tag_of};
 ghost use Rattle.cm_spec.specs.Lookup2.{words as words_of};
 ghost use Rattle.cm_spec.specs.Rule.{IsSize};
-ghost use Rattle.cm_witness.specs.Gathers.{FailsGather, HasFailure, HasGatherCause, HasOther};
-ghost use Rattle.cm_witness.specs.declared.certificate.GatherFault.TheVariants as gather_fault;
+ghost use Rattle.cm_io.specs.PassFaults.{FailsPass, HasOtherCount, HasPassCause, HasPassFailure};
+ghost use Rattle.cm_io.specs.declared.pass_fault.PassFault.TheVariants as pass_fault;
 ghost use Rattle.cm_io.specs.Passes.{IsToldFault};
 ghost use Rattle.cm_spec.specs.declared.limits.TheConstants.{MAX_KEYS};
 ghost use Rattle.cm_algo_seeds.specs.Hashed.{GivesWords};
 
 use cm_algo_scheme::{Divisor, Scheme};
 use cm_graph_edges::Edges;
-use cm_io::{KeyBuf, KeyFault, KeyPass, MAX_KEYS};
+use cm_io::{KeyBuf, KeyFault, KeyPass, MAX_KEYS, PassFault, expect_end};
 use cm_lookup2::words;
-use cm_witness::{GatherFault, expect_end};
 
 /// How many keys there are, from 0 to `MAX_KEYS`: the keys are passed once from the start. The buffer is scratch space. Fails exactly
 /// as the pass does.
@@ -200,15 +199,15 @@ pub(crate) fn hash_all<S: Scheme<K>, P: KeyPass, const K: usize>(
     seed: u32,
     edges: &mut Edges<K>,
     tags: &mut Vec<u32>,
-) -> Result<(), GatherFault>
+) -> Result<(), PassFault>
     requires few { m ≤ MAX_KEYS }
     requires room { m ≤ edges.old.room }
     requires tag_room { S.KEEPS_TAGS ≡ true → m ≤ vec_capacity tags.old }
     requires size { IsSize (S.rule scheme.now) edges.old.vertices }
     requires none { (edges.old.edges ≡ []) × (tags.old.items ≡ []) }
     ensures told { P.told keys.new ≡ P.told keys.old }
-    ensures cause { HasGatherCause (P.faults keys.old) (P.faults keys.new) result }
-    ensures failed { IfErr result (HasFailure (P.failure keys.new)) }
+    ensures cause { HasPassCause (P.faults keys.old) (P.faults keys.new) result }
+    ensures failed { IfErr result (HasPassFailure (P.failure keys.new)) }
     ensures given { OnOk result (P.place keys.new ≡ m) }
     ensures at_end { OnOk result (P.at_end keys.new) }
     ensures vertices { edges.new.vertices ≡ edges.old.vertices }
@@ -217,9 +216,9 @@ pub(crate) fn hash_all<S: Scheme<K>, P: KeyPass, const K: usize>(
     ensures edges { OnOk result (ForSome (P.told keys.old) (λ told. edges.new.edges ≡ map (edge_of (S.rule scheme.now) edges.old.vertices seed) told.keys)) }
     ensures tags { OnOk result (S.KEEPS_TAGS ≡ true → ForSome (P.told keys.old) (λ told. tags.new.items ≡ map (tag_of (S.rule scheme.now) seed) told.keys)) }
     ensures untagged { S.KEEPS_TAGS ≡ false → tags.new.items ≡ [] }
-    ensures memory { result ≢ Err gather_fault.Memory }
-    ensures changed { IfErr result (HasOther m (P.place keys.new)) }
-    ensures fault { IfErr result (λ e. ForSome (P.told keys.old) (λ told. FailsGather told m e)) }
+    ensures memory { result ≢ Err pass_fault.Memory }
+    ensures changed { IfErr result (HasOtherCount m (P.place keys.new)) }
+    ensures fault { IfErr result (λ e. ForSome (P.told keys.old) (λ told. FailsPass told m e)) }
 {
     keys.rewind()?;
     let divisor = scheme.divisor(edges.vertices());
@@ -237,12 +236,12 @@ pub(crate) fn hash_all<S: Scheme<K>, P: KeyPass, const K: usize>(
         match read_words(keys, key, seed) {
             Ok(Some(hashed)) => add_key(scheme, &divisor, hashed, edges, tags),
             Ok(None) => {
-                return Err(GatherFault::Changed {
+                return Err(PassFault::Changed {
                     first: m,
                     now: count,
                 });
             }
-            Err(fault) => return Err(GatherFault::Key(fault)),
+            Err(fault) => return Err(PassFault::Key(fault)),
         }
         count += 1;
     }

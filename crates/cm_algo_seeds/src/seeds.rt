@@ -1,14 +1,14 @@
 //! The seeds of a list, one after another.
-ghost use Rattle.std.specs.Prelude.{◌≡◌, ◌≢◌, ℕ, ◌+◌, ◌*◌, ◌<◌, ◌≤◌, [], length, slice_index, IfOk, IfErr, IfSome, IfNone, OnOk, None, Some, Contains, count_by};
+ghost use Rattle.std.specs.Prelude.{◌≡◌, ◌≢◌, ℕ, ◌+◌, ◌*◌, ◌<◌, ◌≤◌, [], length, slice_index, IfOk, IfErr, IfSome, IfNone, OnOk, None, Some, count_by};
 ghost use Rattle.std.specs.Option.{ForSome};
 ghost use Rattle.cm_spec.specs.Built.{graph_of};
 ghost use Rattle.cm_spec.specs.Cells.{is_busy};
 ghost use Rattle.cm_spec.specs.Rounds.{rest_of};
 ghost use Rattle.cm_spec.specs.Rule.{IsCount, IsRatio};
 ghost use Rattle.cm_witness.specs.Cores.{EqualKeysMeet};
-ghost use Rattle.cm_witness.specs.Gathers.{FailsGather, HasFailure, HasGatherCause, HasOther, HasPassed};
+ghost use Rattle.cm_io.specs.PassFaults.{FailsPass, HasOtherCount, HasPassCause, HasPassFailure, HasPassed, ReadsKeys};
 ghost use Rattle.cm_algo_seeds.specs.Builds.{IsGiven, IsBuilt, IsLeft, IsMade, IsSolution};
-ghost use Rattle.cm_algo_seeds.specs.Fails.{FailsBuild, HasBuildCause, HasBuildFailure, HasCounted, HasForm, HasNumbers, ShowsCore};
+ghost use Rattle.cm_algo_seeds.specs.Fails.{FailsBuild, HasBuildCause, HasForm, IsFailure, ShowsCore};
 ghost use Rattle.cm_algo_seeds.specs.declared.fault.BuildFault.TheVariants as build_fault;
 ghost use Rattle.cm_spec.specs.declared.limits.TheConstants.{MAX_KEYS};
 
@@ -17,9 +17,9 @@ use crate::passes::{count_all, hash_all};
 use cm_algo_cells::assign;
 use cm_algo_scheme::{Built, Scheme};
 use cm_graph_edges::{Edges, Incidence, Steps};
-use cm_io::{KeyBuf, KeyPass};
+use cm_io::{KeyBuf, KeyPass, PassFault};
 use cm_peel::{Peeled, peel_without_levels};
-use cm_witness::{Certificate, GatherFault, gather_with};
+use cm_witness::{Certificate, gather_with};
 use std::alloc::{AllocError, Global};
 use std::sync::ledger::Ledger;
 
@@ -65,12 +65,12 @@ fn attempt<S: Scheme<K>, I: Incidence<K> + Drop, P: KeyPass, const K: usize, L: 
     c: u32,
     seed: u32,
     steps: &mut Steps<L>,
-) -> Result<Result<S::Table, Left<K>>, GatherFault>
+) -> Result<Result<S::Table, Left<K>>, PassFault>
     requires many { (1 ≤ m) × (m ≤ MAX_KEYS) }
     requires ratio { IsRatio c }
     ensures told { P.told keys.new ≡ P.told keys.old }
-    ensures cause { HasGatherCause (P.faults keys.old) (P.faults keys.new) result }
-    ensures failed { IfErr result (HasFailure (P.failure keys.new)) }
+    ensures cause { HasPassCause (P.faults keys.old) (P.faults keys.new) result }
+    ensures failed { IfErr result (HasPassFailure (P.failure keys.new)) }
     ensures passed { OnOk result (HasPassed P.at_end P.place m) }
     ensures bound { IfOk result (λ o. IfOk o (λ t. (S.Table.bound_of t ≡ (S.rule scheme.now).bound m) × (length (S.Table.cells t) ≡ (S.rule scheme.now).size m c))) }
     ensures busy { IfOk result (λ o. IfOk o (λ t. (S.rule scheme.now).modulus m ≤ (S.rule scheme.now).idle → count_by (is_busy (S.rule scheme.now).idle) (S.Table.cells t) ≡ m)) }
@@ -79,8 +79,8 @@ fn attempt<S: Scheme<K>, I: Incidence<K> + Drop, P: KeyPass, const K: usize, L: 
     ensures some { IfOk result (λ o. IfErr o (λ left. left.peeled.rest ≢ [])) }
     ensures long { IfOk result (λ o. IfErr o (λ left. length left.edges.edges ≡ m)) }
     ensures left { IfOk result (λ o. IfErr o (λ left. ForSome (P.told keys.old) (λ told. left.edges.edges ≡ graph_of (S.rule scheme.now) told.keys c seed))) }
-    ensures changed { IfErr result (HasOther m (P.place keys.new)) }
-    ensures fault { IfErr result (λ e. ForSome (P.told keys.old) (λ told. FailsGather told m e)) }
+    ensures changed { IfErr result (HasOtherCount m (P.place keys.new)) }
+    ensures fault { IfErr result (λ e. ForSome (P.told keys.old) (λ told. FailsPass told m e)) }
     ensures steps { steps.new ≤ steps.old + 8 * (K * m) }
 {
     let mut edges = Edges::with_capacity(alloc, scheme.size(m, c), m)?;
@@ -102,17 +102,13 @@ pub fn certify<S: Scheme<K>, P: KeyPass, const K: usize>(
     key: &mut KeyBuf,
     seed: u32,
     left: &Left<K>,
-) -> Result<Certificate, GatherFault>
+) -> Result<Certificate, PassFault>
     requires peeled { left.now.peeled.rest ≡ rest_of left.now.edges.edges }
     requires equal_keys { ForSome (P.told keys.old) (λ told. EqualKeysMeet told.keys left.now.edges.edges) }
-    ensures told { P.told keys.new ≡ P.told keys.old }
-    ensures cause { HasGatherCause (P.faults keys.old) (P.faults keys.new) result }
-    ensures failed { IfErr result (HasFailure (P.failure keys.new)) }
+    ensures reads { ReadsKeys P.KeyPass keys.old keys.new (length left.now.edges.edges) result }
     ensures form { IfOk result (λ made. HasForm (S.algorithm_of scheme.now) seed (build_fault.Cored made)) }
     ensures end { OnOk result (ForSome (P.told keys.old) (λ told. (length told.keys ≡ length left.now.edges.edges) × (told.fault ≡ None))) }
     ensures shows { IfOk result (λ made. ForSome (P.told keys.old) (λ told. (c : ℕ) → left.now.edges.edges ≡ graph_of (S.rule scheme.now) told.keys c seed → ShowsCore (S.rule scheme.now) told.keys c seed made)) }
-    ensures changed { IfErr result (HasOther (length left.now.edges.edges) (P.place keys.new)) }
-    ensures fault { IfErr result (λ e. ForSome (P.told keys.old) (λ told. FailsGather told (length left.now.edges.edges) e)) }
 {
     gather_with(
         alloc,
@@ -142,16 +138,10 @@ pub fn build_with<S: Scheme<K>, I: Incidence<K> + Drop, P: KeyPass, const K: usi
     requires some { 0 < length seeds.now }
     ensures told { P.told keys.new ≡ P.told keys.old }
     ensures cause { HasBuildCause (P.faults keys.old) (P.faults keys.new) result }
-    ensures failed { IfErr result (HasBuildFailure (P.failure keys.new)) }
-    ensures many { IfOk result (λ b. (1 ≤ b.m) × (b.m ≤ MAX_KEYS) × (b.c ≡ c)) }
-    ensures cells { IfOk result (λ b. (S.Table.bound_of b.cells ≡ (S.rule scheme.now).bound b.m) × (length (S.Table.cells b.cells) ≡ (S.rule scheme.now).size b.m c)) }
-    ensures busy { IfOk result (λ b. (S.rule scheme.now).modulus b.m ≤ (S.rule scheme.now).idle → count_by (is_busy (S.rule scheme.now).idle) (S.Table.cells b.cells) ≡ b.m) }
-    ensures seed { IfOk result (λ b. Contains seeds.now b.seed) }
+    ensures made { IfOk result (IsMade S.Table.bound_of S.Table.cells (S.rule scheme.now) c seeds.now) }
     ensures first { IfOk result (λ b. ForSome (P.told keys.old) (λ told. (told.fault ≡ None) × IsBuilt (S.rule scheme.now) told.keys c seeds.now b.m b.seed (S.Table.cells b.cells) K steps.old steps.new)) }
     ensures fault { IfErr result (λ e. ForSome (P.told keys.old) (λ told. FailsBuild (S.rule scheme.now) told c seeds.now e)) }
-    ensures numbers { IfErr result (HasNumbers (P.place keys.new)) }
-    ensures counted { IfErr result (HasCounted P.at_end P.place keys.new) }
-    ensures certificate { IfErr result (HasForm (S.algorithm_of scheme.now) (slice_index seeds.now 0)) }
+    ensures form { IfErr result (IsFailure P.KeyPass keys.new (S.algorithm_of scheme.now) (slice_index seeds.now 0)) }
     ensures steps { ForSome (P.told keys.old) (λ told. steps.new ≤ steps.old + 8 * (K * length told.keys) * length seeds.now) }
 {
     match build_first::<S, I, P, K, L>(alloc, scheme, keys, key, c, seeds, steps)? {
@@ -186,17 +176,14 @@ pub fn build_first<S: Scheme<K>, I: Incidence<K> + Drop, P: KeyPass, const K: us
     requires some { 0 < length seeds.now }
     ensures told { P.told keys.new ≡ P.told keys.old }
     ensures cause { HasBuildCause (P.faults keys.old) (P.faults keys.new) result }
-    ensures failed { IfErr result (HasBuildFailure (P.failure keys.new)) }
-    ensures made { IfOk result (λ o. IfOk o (λ b. IsMade (S.rule scheme.now) c seeds.now b.m b.c b.seed (S.Table.bound_of b.cells) (S.Table.cells b.cells))) }
+    ensures made { IfOk result (λ o. IfOk o (IsMade S.Table.bound_of S.Table.cells (S.rule scheme.now) c seeds.now)) }
     ensures first { IfOk result (λ o. IfOk o (λ b. ForSome (P.told keys.old) (λ told. (told.fault ≡ None) × IsBuilt (S.rule scheme.now) told.keys c seeds.now b.m b.seed (S.Table.cells b.cells) K steps.old steps.new))) }
     ensures peeled { IfOk result (λ o. IfErr o (λ left. left.peeled.rest ≡ rest_of left.edges.edges)) }
     ensures long { IfOk result (λ o. IfErr o (λ left. (1 ≤ length left.edges.edges) × (length left.edges.edges ≤ MAX_KEYS))) }
     ensures passed { IfOk result (λ o. IfErr o (λ left. HasPassed P.at_end P.place (length left.edges.edges))) }
     ensures left { IfOk result (λ o. IfErr o (λ left. ForSome (P.told keys.old) (λ told. IsLeft (S.rule scheme.now) told c (slice_index seeds.now 0) left.edges.edges))) }
     ensures fault { IfErr result (λ e. ForSome (P.told keys.old) (λ told. FailsBuild (S.rule scheme.now) told c seeds.now e)) }
-    ensures numbers { IfErr result (HasNumbers (P.place keys.new)) }
-    ensures counted { IfErr result (HasCounted P.at_end P.place keys.new) }
-    ensures certificate { IfErr result (HasForm (S.algorithm_of scheme.now) (slice_index seeds.now 0)) }
+    ensures form { IfErr result (IsFailure P.KeyPass keys.new (S.algorithm_of scheme.now) (slice_index seeds.now 0)) }
     ensures steps { ForSome (P.told keys.old) (λ told. steps.new ≤ steps.old + 8 * (K * length told.keys)) }
 {
     let m = count_all(keys, key)?;
@@ -221,20 +208,20 @@ pub fn build_later<S: Scheme<K>, I: Incidence<K> + Drop, P: KeyPass, const K: us
     c: u32,
     seeds: &[u32],
     steps: &mut Steps<L>,
-) -> Result<Option<Built<S::Table>>, GatherFault>
+) -> Result<Option<Built<S::Table>>, PassFault>
     requires many { (1 ≤ m) × (m ≤ MAX_KEYS) }
     requires ratio { IsRatio c }
     requires some { 0 < length seeds.now }
     requires left { ForSome (P.told keys.old) (λ told. rest_of (graph_of (S.rule scheme.now) told.keys c (slice_index seeds.now 0)) ≢ []) }
     ensures told { P.told keys.new ≡ P.told keys.old }
-    ensures cause { HasGatherCause (P.faults keys.old) (P.faults keys.new) result }
-    ensures failed { IfErr result (HasFailure (P.failure keys.new)) }
-    ensures made { IfOk result (λ o. IfSome o (λ b. IsMade (S.rule scheme.now) c seeds.now b.m b.c b.seed (S.Table.bound_of b.cells) (S.Table.cells b.cells))) }
+    ensures cause { HasPassCause (P.faults keys.old) (P.faults keys.new) result }
+    ensures failed { IfErr result (HasPassFailure (P.failure keys.new)) }
+    ensures made { IfOk result (λ o. IfSome o (IsMade S.Table.bound_of S.Table.cells (S.rule scheme.now) c seeds.now)) }
     ensures first { (before : ℕ) → steps.old ≤ before + 8 * (K * m) →
         IfOk result (λ o. IfSome o (λ b. ForSome (P.told keys.old) (λ told. IsBuilt (S.rule scheme.now) told.keys c seeds.now b.m b.seed (S.Table.cells b.cells) K before steps.new))) }
     ensures none { IfOk result (λ o. IfNone o (ForSome (P.told keys.old) (λ told. (j : ℕ) → j < length seeds.now → rest_of (graph_of (S.rule scheme.now) told.keys c (slice_index seeds.now j)) ≢ []))) }
-    ensures changed { IfErr result (HasOther m (P.place keys.new)) }
-    ensures fault { IfErr result (λ e. ForSome (P.told keys.old) (λ told. FailsGather told m e)) }
+    ensures changed { IfErr result (HasOtherCount m (P.place keys.new)) }
+    ensures fault { IfErr result (λ e. ForSome (P.told keys.old) (λ told. FailsPass told m e)) }
     ensures steps { (before : ℕ) → steps.old ≤ before + 8 * (K * m) → steps.new ≤ before + 8 * (K * m) * length seeds.now }
 {
     for i in 1..seeds.len() {

@@ -1,5 +1,8 @@
 use Rattle.std.proofs.Common.{arith, rules, ℕ, ◌+◌, ◌*◌, ◌≤◌, length, refl, sym, subst, ◌∙◌, get_or}
-use Rattle.cm_algo_seeds.specs.CoredLaws.{leaves_some}
+use Rattle.cm_io.specs.PassFaults.{HasPassed}
+use Rattle.cm_algo_seeds.specs.CoredLaws.{handed_on, leaves_some, pass_fails}
+use Rattle.cm_algo_seeds.specs.Fails.{build_fault_of}
+use Rattle.cm_algo_seeds.specs.declared.fault.BuildFault.TheVariants as build_fault
 use Rattle.cm_algo_seeds.specs.OneSeedLaws.{no_keys, steps_more, chosen_at, first_at}
 use Rattle.cm_algo_seeds.proofs.seeds.build_first.Goals as goal
 
@@ -8,8 +11,19 @@ returns-then-m-eq0-clause-fault g c = λ told is.
     let a = c.in_ok-m.ensures.all told is in
     (no_keys told.keys (a.0 ∙ c.if-m-eq0.true), a.1)
 
-pub returns-then-m-eq0-clause-numbers : goal.returns-then-m-eq0-clause-numbers
-returns-then-m-eq0-clause-numbers g c = c.in_ok-m.ensures.given ∙ c.if-m-eq0.true
+pub returns-in_err-m-clause-form : goal.returns-in_err-m-clause-form
+returns-in_err-m-clause-form g c = handed_on c.from_residual.result (build_fault.Key c.in_err-m.field-0.0) _ c.from_residual.ensures.1 (record { failed = c.in_err-m.ensures.failed; numbers = tt; counted = tt; certificate = tt })
+
+pub returns-then-m-eq0-clause-form : goal.returns-then-m-eq0-clause-form
+returns-then-m-eq0-clause-form g c = record { failed = tt; numbers = c.in_ok-m.ensures.given ∙ c.if-m-eq0.true; counted = c.in_ok-m.ensures.at_end; certificate = tt }
+
+pub returns-in_err-cells-clause-form : goal.returns-in_err-cells-clause-form
+returns-in_err-cells-clause-form g c =
+    let P = g.P.KeyPass in
+    let fault = c.in_err-cells.field-0.0 in
+    let counted : HasPassed P.at_end P.place c.in_ok-m.m = (c.count_all.new.keys, c.in_ok-m.ensures.at_end, c.in_ok-m.ensures.given) in
+    handed_on c.from_residual-in_err-cells.result (build_fault_of fault) _ c.from_residual-in_err-cells.ensures.1
+    (pass_fails P c.attempt.new.keys c.in_ok-m.m _ _ fault (omega (arith, c.if-m-eq0.false)) counted c.in_err-cells.ensures.failed c.in_err-cells.ensures.changed)
 
 pub returns-in_err-cells-clause-steps : goal.returns-in_err-cells-clause-steps
 returns-in_err-cells-clause-steps g c = λ told is. subst (λ (m : ℕ). c.attempt.new.steps ≤ c.args.steps.now + 8 * (g.row.K * m)) (sym (c.in_ok-m.ensures.all told is).0) c.attempt.ensures.steps

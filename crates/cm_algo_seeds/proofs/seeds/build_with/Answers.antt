@@ -1,7 +1,8 @@
 use Rattle.std.proofs.Common.{arith, ◌≡◌, ◌≤◌, ◌∙◌, ℕ, ◌+◌, ◌*◌, length, refl, subst, sym, get_or}
+use Rattle.cm_io.specs.PassFaults.{HasPassed}
 use Rattle.cm_witness.specs.Cores.{EqualKeysMeet}
 use Rattle.cm_algo_seeds.specs.Fails.{HasBuildCause, build_fault_of}
-use Rattle.cm_algo_seeds.specs.CoredLaws.{cause_on, fails_pass, handed_on, no_form, numbers_of, refused}
+use Rattle.cm_algo_seeds.specs.CoredLaws.{cause_on, fails_pass, handed_on, pass_fails, refused}
 use Rattle.cm_algo_seeds.specs.EqualKeysLaws.{equal_keys_meet}
 use Rattle.cm_algo_seeds.specs.OneSeedLaws.{steps_both, steps_one}
 use Rattle.cm_algo_seeds.proofs.seeds.build_with.Goals as goal
@@ -9,17 +10,8 @@ use Rattle.cm_algo_seeds.proofs.seeds.build_with.Goals as goal
 pub returns-in_err-built-clause-steps : goal.returns-in_err-built-clause-steps
 returns-in_err-built-clause-steps g c = λ told is. steps_one g.row.K (length told.keys) (length told.keys) _ _ _ (c.build_first.ensures.steps told is) refl c.requires.some
 
-pub returns-in-Ok-clause-many : goal.returns-in-Ok-clause-many
-returns-in-Ok-clause-many g c = (rw c.in-Ok.is at c.in_ok-built.ensures.made).many
-
-pub returns-in-Ok-clause-cells : goal.returns-in-Ok-clause-cells
-returns-in-Ok-clause-cells g c = (rw c.in-Ok.is at c.in_ok-built.ensures.made).sizes
-
-pub returns-in-Ok-clause-busy : goal.returns-in-Ok-clause-busy
-returns-in-Ok-clause-busy g c = (rw c.in-Ok.is at c.in_ok-built.ensures.made).busy
-
-pub returns-in-Ok-clause-seed : goal.returns-in-Ok-clause-seed
-returns-in-Ok-clause-seed g c = (rw c.in-Ok.is at c.in_ok-built.ensures.made).chosen
+pub returns-in-Ok-clause-made : goal.returns-in-Ok-clause-made
+returns-in-Ok-clause-made g c = rw c.in-Ok.is at c.in_ok-built.ensures.made
 
 pub returns-in-Ok-clause-first : goal.returns-in-Ok-clause-first
 returns-in-Ok-clause-first g c = rw c.in-Ok.is at c.in_ok-built.ensures.first
@@ -59,16 +51,14 @@ returns-in_err-later-in-Err-clause-cause g c =
     subst (λ (before : ℕ). HasBuildCause before (P.faults c.build_later.new.keys) c.from_residual-in_err-later-in-Err.result) c.in_ok-built.ensures.cause
     (cause_on _ _ (P.faults c.build_later.new.keys) c.from_residual-in_err-later-in-Err.result fault c.from_residual-in_err-later-in-Err.ensures.1 c.in_err-later-in-Err.ensures.cause)
 
-pub returns-in_err-later-in-Err-clause-numbers : goal.returns-in_err-later-in-Err-clause-numbers
-returns-in_err-later-in-Err-clause-numbers g c =
+pub returns-in_err-later-in-Err-clause-form : goal.returns-in_err-later-in-Err-clause-form
+returns-in_err-later-in-Err-clause-form g c =
+    let P = g.P.KeyPass in
     let fault = c.in_err-later-in-Err.field-0.0 in
     let many = rw c.in-Err.is at c.in_ok-built.ensures.long in
-    handed_on c.from_residual-in_err-later-in-Err.result (build_fault_of fault) _ c.from_residual-in_err-later-in-Err.ensures.1 (numbers_of _ _ fault (omega (arith, c.len-m.ensures.count, many.0)) c.in_err-later-in-Err.ensures.changed)
-
-pub returns-in_err-later-in-Err-clause-certificate : goal.returns-in_err-later-in-Err-clause-certificate
-returns-in_err-later-in-Err-clause-certificate g c =
-    let fault = c.in_err-later-in-Err.field-0.0 in
-    handed_on c.from_residual-in_err-later-in-Err.result (build_fault_of fault) _ c.from_residual-in_err-later-in-Err.ensures.1 (no_form _ _ fault)
+    let counted = rw c.in-Err.is at c.in_ok-built.ensures.passed in
+    handed_on c.from_residual-in_err-later-in-Err.result (build_fault_of fault) _ c.from_residual-in_err-later-in-Err.ensures.1
+    (pass_fails P c.build_later.new.keys c.len-m.result _ _ fault (omega (arith, c.len-m.ensures.count, many.0)) (subst (λ (m : ℕ). HasPassed P.at_end P.place m) (sym c.len-m.ensures.count) counted) c.in_err-later-in-Err.ensures.failed c.in_err-later-in-Err.ensures.changed)
 
 pub returns-in_err-later-in-Err-clause-steps : goal.returns-in_err-later-in-Err-clause-steps
 returns-in_err-later-in-Err-clause-steps g c = λ told is.
@@ -81,17 +71,8 @@ returns-in-Some-clause-told g c = c.build_later.ensures.told ∙ c.build_first.e
 pub returns-in-Some-clause-cause : goal.returns-in-Some-clause-cause
 returns-in-Some-clause-cause g c = c.in_ok-later-in-Err.ensures.cause ∙ c.in_ok-built.ensures.cause
 
-pub returns-in-Some-clause-many : goal.returns-in-Some-clause-many
-returns-in-Some-clause-many g c = (rw c.in-Some.is at c.in_ok-later-in-Err.ensures.made).many
-
-pub returns-in-Some-clause-cells : goal.returns-in-Some-clause-cells
-returns-in-Some-clause-cells g c = (rw c.in-Some.is at c.in_ok-later-in-Err.ensures.made).sizes
-
-pub returns-in-Some-clause-busy : goal.returns-in-Some-clause-busy
-returns-in-Some-clause-busy g c = (rw c.in-Some.is at c.in_ok-later-in-Err.ensures.made).busy
-
-pub returns-in-Some-clause-seed : goal.returns-in-Some-clause-seed
-returns-in-Some-clause-seed g c = (rw c.in-Some.is at c.in_ok-later-in-Err.ensures.made).chosen
+pub returns-in-Some-clause-made : goal.returns-in-Some-clause-made
+returns-in-Some-clause-made g c = rw c.in-Some.is at c.in_ok-later-in-Err.ensures.made
 
 pub returns-in-Some-clause-first : goal.returns-in-Some-clause-first
 returns-in-Some-clause-first g c = λ told is.
@@ -116,32 +97,30 @@ certify-requires g c =
     )
 
 pub returns-in_err-certificate-in-None-clause-told : goal.returns-in_err-certificate-in-None-clause-told
-returns-in_err-certificate-in-None-clause-told g c = c.certify.ensures.told ∙ (c.build_later.ensures.told ∙ c.build_first.ensures.told)
+returns-in_err-certificate-in-None-clause-told g c = c.certify.ensures.reads.told ∙ (c.build_later.ensures.told ∙ c.build_first.ensures.told)
 
 pub returns-in_err-certificate-in-None-clause-fault : goal.returns-in_err-certificate-in-None-clause-fault
 returns-in_err-certificate-in-None-clause-fault g c =
     let fault = c.in_err-certificate-in-None.field-0.0 in
     let left = rw c.in-Err.is at c.in_ok-built.ensures.left in
     handed_on c.from_residual-in_err-certificate-in-None.result (build_fault_of fault) _ c.from_residual-in_err-certificate-in-None.ensures.1
-    (λ told is. fails_pass (g.S.Scheme.rule c.args.scheme.now) told c.args.c c.args.seeds.now _ fault ((left told is).many) (c.in_err-certificate-in-None.ensures.fault told (c.build_later.ensures.told ∙ (c.build_first.ensures.told ∙ is))))
+    (λ told is. fails_pass (g.S.Scheme.rule c.args.scheme.now) told c.args.c c.args.seeds.now _ fault ((left told is).many) (c.in_err-certificate-in-None.ensures.reads.fault told (c.build_later.ensures.told ∙ (c.build_first.ensures.told ∙ is))))
 
 pub returns-in_err-certificate-in-None-clause-cause : goal.returns-in_err-certificate-in-None-clause-cause
 returns-in_err-certificate-in-None-clause-cause g c =
     let P = g.P.KeyPass in
     let fault = c.in_err-certificate-in-None.field-0.0 in
     subst (λ (before : ℕ). HasBuildCause before (P.faults c.certify.new.keys) c.from_residual-in_err-certificate-in-None.result) (c.in_ok-later-in-Err.ensures.cause ∙ c.in_ok-built.ensures.cause)
-    (cause_on _ _ (P.faults c.certify.new.keys) c.from_residual-in_err-certificate-in-None.result fault c.from_residual-in_err-certificate-in-None.ensures.1 c.in_err-certificate-in-None.ensures.cause)
+    (cause_on _ _ (P.faults c.certify.new.keys) c.from_residual-in_err-certificate-in-None.result fault c.from_residual-in_err-certificate-in-None.ensures.1 c.in_err-certificate-in-None.ensures.reads.cause)
 
-pub returns-in_err-certificate-in-None-clause-numbers : goal.returns-in_err-certificate-in-None-clause-numbers
-returns-in_err-certificate-in-None-clause-numbers g c =
+pub returns-in_err-certificate-in-None-clause-form : goal.returns-in_err-certificate-in-None-clause-form
+returns-in_err-certificate-in-None-clause-form g c =
+    let P = g.P.KeyPass in
     let fault = c.in_err-certificate-in-None.field-0.0 in
     let many = rw c.in-Err.is at c.in_ok-built.ensures.long in
-    handed_on c.from_residual-in_err-certificate-in-None.result (build_fault_of fault) _ c.from_residual-in_err-certificate-in-None.ensures.1 (numbers_of _ _ fault many.0 c.in_err-certificate-in-None.ensures.changed)
-
-pub returns-in_err-certificate-in-None-clause-certificate : goal.returns-in_err-certificate-in-None-clause-certificate
-returns-in_err-certificate-in-None-clause-certificate g c =
-    let fault = c.in_err-certificate-in-None.field-0.0 in
-    handed_on c.from_residual-in_err-certificate-in-None.result (build_fault_of fault) _ c.from_residual-in_err-certificate-in-None.ensures.1 (no_form _ _ fault)
+    let counted = rw c.in-Err.is at c.in_ok-built.ensures.passed in
+    handed_on c.from_residual-in_err-certificate-in-None.result (build_fault_of fault) _ c.from_residual-in_err-certificate-in-None.ensures.1
+    (pass_fails P c.certify.new.keys _ _ _ fault many.0 counted c.in_err-certificate-in-None.ensures.reads.failed c.in_err-certificate-in-None.ensures.reads.changed)
 
 pub returns-in_err-certificate-in-None-clause-steps : goal.returns-in_err-certificate-in-None-clause-steps
 returns-in_err-certificate-in-None-clause-steps g c = λ told is.
@@ -149,10 +128,10 @@ returns-in_err-certificate-in-None-clause-steps g c = λ told is.
     steps_both g.row.K c.len-m.result (length told.keys) c.args.steps.now _ _ _ (c.len-m.ensures.count ∙ (left told is).many) (c.build_first.ensures.steps told is) c.build_later.ensures.steps
 
 pub returns-clause-told : goal.returns-clause-told
-returns-clause-told g c = c.certify.ensures.told ∙ (c.build_later.ensures.told ∙ c.build_first.ensures.told)
+returns-clause-told g c = c.certify.ensures.reads.told ∙ (c.build_later.ensures.told ∙ c.build_first.ensures.told)
 
 pub returns-clause-cause : goal.returns-clause-cause
-returns-clause-cause g c = c.in_ok-certificate-in-None.ensures.cause ∙ (c.in_ok-later-in-Err.ensures.cause ∙ c.in_ok-built.ensures.cause)
+returns-clause-cause g c = c.in_ok-certificate-in-None.ensures.reads.cause ∙ (c.in_ok-later-in-Err.ensures.cause ∙ c.in_ok-built.ensures.cause)
 
 pub returns-clause-fault : goal.returns-clause-fault
 returns-clause-fault g c = λ told is.
@@ -163,8 +142,8 @@ returns-clause-fault g c = λ told is.
     refused (g.S.Scheme.rule c.args.scheme.now) told c.args.c c.args.seeds.now c.in_ok-certificate-in-None.certificate (omega (arith, was.many, many.0)) was.ended (none told (c.build_first.ensures.told ∙ is))
     (c.in_ok-certificate-in-None.ensures.shows told (c.build_later.ensures.told ∙ (c.build_first.ensures.told ∙ is)) c.args.c was.is)
 
-pub returns-clause-certificate : goal.returns-clause-certificate
-returns-clause-certificate g c = c.in_ok-certificate-in-None.ensures.form
+pub returns-clause-form : goal.returns-clause-form
+returns-clause-form g c = record { failed = tt; numbers = tt; counted = tt; certificate = c.in_ok-certificate-in-None.ensures.form }
 
 pub returns-clause-steps : goal.returns-clause-steps
 returns-clause-steps g c = λ told is.
