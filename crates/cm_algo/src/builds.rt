@@ -1,11 +1,9 @@
 //! A build over many keys.
-ghost use Rattle.std.specs.Prelude.{◌≡◌, ◌+◌, ◌*◌, ◌<◌, ◌≤◌, length, slice_index, IfOk, IfErr, None, Contains, count_by};
+ghost use Rattle.std.specs.Prelude.{◌≡◌, ◌+◌, ◌*◌, ◌<◌, ◌≤◌, length, slice_index, IfOk, IfErr, None};
 ghost use Rattle.std.specs.Option.{ForSome};
-ghost use Rattle.cm_algo_seeds.specs.Builds.{IsBuilt};
-ghost use Rattle.cm_algo_seeds.specs.Fails.{FailsBuild, FoundEqual, HasBuildCause, HasBuildFailure, HasCounted, HasForm, HasNumbers};
-ghost use Rattle.cm_spec.specs.Cells.{is_busy};
+ghost use Rattle.cm_algo_seeds.specs.Builds.{IsBuilt, IsMade};
+ghost use Rattle.cm_algo_seeds.specs.Fails.{FailsBuild, FoundEqual, HasBuildCause, IsFailure};
 ghost use Rattle.cm_spec.specs.Rule.{IsRatio};
-ghost use Rattle.cm_spec.specs.declared.limits.TheConstants.{MAX_KEYS};
 
 use cm_algo_scheme::{Built, Scheme};
 use cm_algo_seeds::{BuildFault, build_first, build_later, certify};
@@ -30,16 +28,10 @@ pub fn build<S: Scheme<K>, I: Incidence<K> + Drop, P: KeyPass, const K: usize, L
     requires some { 0 < length seeds.now }
     ensures told { P.told keys.new ≡ P.told keys.old }
     ensures cause { HasBuildCause (P.faults keys.old) (P.faults keys.new) result }
-    ensures failed { IfErr result (HasBuildFailure (P.failure keys.new)) }
-    ensures many { IfOk result (λ b. (1 ≤ b.m) × (b.m ≤ MAX_KEYS) × (b.c ≡ c)) }
-    ensures cells { IfOk result (λ b. (S.Table.bound_of b.cells ≡ (S.rule scheme.now).bound b.m) × (length (S.Table.cells b.cells) ≡ (S.rule scheme.now).size b.m c)) }
-    ensures busy { IfOk result (λ b. (S.rule scheme.now).modulus b.m ≤ (S.rule scheme.now).idle → count_by (is_busy (S.rule scheme.now).idle) (S.Table.cells b.cells) ≡ b.m) }
-    ensures seed { IfOk result (λ b. Contains seeds.now b.seed) }
+    ensures made { IfOk result (IsMade S.Table.bound_of S.Table.cells (S.rule scheme.now) c seeds.now) }
     ensures first { IfOk result (λ b. ForSome (P.told keys.old) (λ told. (told.fault ≡ None) × IsBuilt (S.rule scheme.now) told.keys c seeds.now b.m b.seed (S.Table.cells b.cells) K steps.old steps.new)) }
     ensures fault { IfErr result (λ e. ForSome (P.told keys.old) (λ told. FailsBuild (S.rule scheme.now) told c seeds.now e)) }
-    ensures numbers { IfErr result (HasNumbers (P.place keys.new)) }
-    ensures counted { IfErr result (HasCounted P.at_end P.place keys.new) }
-    ensures certificate { IfErr result (HasForm (S.algorithm_of scheme.now) (slice_index seeds.now 0)) }
+    ensures form { IfErr result (IsFailure P.KeyPass keys.new (S.algorithm_of scheme.now) (slice_index seeds.now 0)) }
     ensures steps { ForSome (P.told keys.old) (λ told. steps.new ≤ steps.old + 8 * (K * length told.keys) * length seeds.now) }
     ensures early { IfErr result (λ e. FoundEqual e → ForSome (P.told keys.old) (λ told. steps.new ≤ steps.old + 8 * (K * length told.keys))) }
 {
