@@ -19,8 +19,8 @@ fn write_head<O: Sink>(
     out: &mut O,
     buffer: &mut Buffer,
 ) -> Result<(), Failed>
-    ensures line { Writes (O.written out.old) (O.written out.new) (overfull_head seed bucket count) result }
-    ensures cause { HasCause (O.faults out.old) (O.faults out.new) result }
+    ensures line { Writes (O.state out.old).written (O.state out.new).written (overfull_head seed bucket count) result }
+    ensures cause { HasCause (O.state out.old).faults (O.state out.new).faults result }
 {
     let mut line = ArrayVec::<u8, HEAD_ROOM>::new();
     append_number(&mut line, b"overfull brz seed ", seed, buffer);
@@ -39,8 +39,8 @@ pub fn write_overfull<O: Sink>(
     equal: &[Pair],
     out: &mut O,
 ) -> Result<(), Failed>
-    ensures text { Writes (O.written out.old) (O.written out.new) (overfull_text seed bucket count equal.now) result }
-    ensures cause { HasCause (O.faults out.old) (O.faults out.new) result }
+    ensures text { Writes (O.state out.old).written (O.state out.new).written (overfull_text seed bucket count equal.now) result }
+    ensures cause { HasCause (O.state out.old).faults (O.state out.new).faults result }
 {
     let mut buffer = Buffer::new();
     write_head(seed, bucket, count, out, &mut buffer)?;

@@ -16,8 +16,8 @@ pub(crate) const FRONT: u64 = 5;
 #[tactic(auto, unfolding(crate::specs::Dumps::bucket_image, crate::specs::Dumps::packed_image))]
 fn save_bucket<O: Sink>(brz: &Brz, j: u32, out: &mut O) -> Result<(), Failed>
     requires inside { j < length brz.now.buckets }
-    ensures bytes { Writes (O.written out.old) (O.written out.new) (bucket_image version_1 (slice_index_or brz.now.buckets j no_bucket)) result }
-    ensures cause { HasCause (O.faults out.old) (O.faults out.new) result }
+    ensures bytes { Writes (O.state out.old).written (O.state out.new).written (bucket_image version_1 (slice_index_or brz.now.buckets j no_bucket)) result }
+    ensures cause { HasCause (O.state out.old).faults (O.state out.new).faults result }
 {
     write_pieces(
         out,
@@ -32,8 +32,8 @@ fn save_bucket<O: Sink>(brz: &Brz, j: u32, out: &mut O) -> Result<(), Failed>
 /// Writes the buckets. Fails exactly if the sink does, which has then taken a prefix of them.
 #[tactic(auto, unfolding(crate::specs::Dumps::buckets_image))]
 pub(crate) fn save_buckets<O: Sink>(brz: &Brz, out: &mut O) -> Result<(), Failed>
-    ensures bytes { Writes (O.written out.old) (O.written out.new) (buckets_image version_1 brz.now.buckets) result }
-    ensures cause { HasCause (O.faults out.old) (O.faults out.new) result }
+    ensures bytes { Writes (O.state out.old).written (O.state out.new).written (buckets_image version_1 brz.now.buckets) result }
+    ensures cause { HasCause (O.state out.old).faults (O.state out.new).faults result }
 {
     for j in 0..brz.buckets() {
         save_bucket(brz, j, out)?;

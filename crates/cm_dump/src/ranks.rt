@@ -40,8 +40,8 @@ fn gather_ranks(ranks: &RankTable, from: u32, until: u32, piece: &mut ArrayVec<u
 /// Writes the ranks. Fails exactly if the sink does, which has then taken a prefix of them.
 #[tactic(auto, unfolding(crate::specs::Dumps::ranks_image))]
 pub(crate) fn save_ranks<O: Sink>(ranks: &RankTable, out: &mut O) -> Result<(), Failed>
-    ensures bytes { Writes (O.written out.old) (O.written out.new) (ranks_image ranks.now.ranks) result }
-    ensures cause { HasCause (O.faults out.old) (O.faults out.new) result }
+    ensures bytes { Writes (O.state out.old).written (O.state out.new).written (ranks_image ranks.now.ranks) result }
+    ensures cause { HasCause (O.state out.old).faults (O.state out.new).faults result }
 {
     let entries = ranks.entries();
     let mut piece = ArrayVec::<u8, 4096>::new();

@@ -28,8 +28,8 @@ fn save_header<O: Sink>(
     seed: u32,
     out: &mut O,
 ) -> Result<(), Failed>
-    ensures bytes { Writes (O.written out.old) (O.written out.new) (header version_1 algorithm b keys ratio seed) result }
-    ensures cause { HasCause (O.faults out.old) (O.faults out.new) result }
+    ensures bytes { Writes (O.state out.old).written (O.state out.new).written (header version_1 algorithm b keys ratio seed) result }
+    ensures cause { HasCause (O.state out.old).faults (O.state out.new).faults result }
 {
     write_pieces(
         out,
@@ -46,8 +46,8 @@ fn save_header<O: Sink>(
 /// Writes the dump of a CHM function.
 #[tactic(auto, unfolding(crate::specs::Dumps::chm_dump, cm_spec::specs::Dump::fields_image))]
 fn save_chm<O: Sink>(chm: &Chm, out: &mut O) -> Result<(), Failed>
-    ensures bytes { Writes (O.written out.old) (O.written out.new) (chm_dump version_1 chm.now) result }
-    ensures cause { HasCause (O.faults out.old) (O.faults out.new) result }
+    ensures bytes { Writes (O.state out.old).written (O.state out.new).written (chm_dump version_1 chm.now) result }
+    ensures cause { HasCause (O.state out.old).faults (O.state out.new).faults result }
 {
     save_header(1, 0, chm.keys(), chm.c(), chm.seed(), out)?;
     save_image(chm.cells(), out)
@@ -56,8 +56,8 @@ fn save_chm<O: Sink>(chm: &Chm, out: &mut O) -> Result<(), Failed>
 /// Writes the dump of a BDZ function.
 #[tactic(auto, unfolding(crate::specs::Dumps::bdz_dump, crate::specs::Dumps::packed_image))]
 fn save_bdz<O: Sink>(bdz: &Bdz, out: &mut O) -> Result<(), Failed>
-    ensures bytes { Writes (O.written out.old) (O.written out.new) (bdz_dump version_1 bdz.now) result }
-    ensures cause { HasCause (O.faults out.old) (O.faults out.new) result }
+    ensures bytes { Writes (O.state out.old).written (O.state out.new).written (bdz_dump version_1 bdz.now) result }
+    ensures cause { HasCause (O.state out.old).faults (O.state out.new).faults result }
 {
     save_header(2, bdz.b(), bdz.keys(), bdz.c(), bdz.seed(), out)?;
     save_image(bdz.cells(), out)?;
@@ -67,8 +67,8 @@ fn save_bdz<O: Sink>(bdz: &Bdz, out: &mut O) -> Result<(), Failed>
 /// Writes the dump of a BDZ_PH function.
 #[tactic(auto, unfolding(crate::specs::Dumps::bdz_ph_dump, crate::specs::Dumps::packed_image))]
 fn save_bdz_ph<O: Sink>(bdz_ph: &BdzPh, out: &mut O) -> Result<(), Failed>
-    ensures bytes { Writes (O.written out.old) (O.written out.new) (bdz_ph_dump version_1 bdz_ph.now) result }
-    ensures cause { HasCause (O.faults out.old) (O.faults out.new) result }
+    ensures bytes { Writes (O.state out.old).written (O.state out.new).written (bdz_ph_dump version_1 bdz_ph.now) result }
+    ensures cause { HasCause (O.state out.old).faults (O.state out.new).faults result }
 {
     save_header(3, 0, bdz_ph.keys(), bdz_ph.c(), bdz_ph.seed(), out)?;
     save_image(bdz_ph.cells(), out)
@@ -77,8 +77,8 @@ fn save_bdz_ph<O: Sink>(bdz_ph: &BdzPh, out: &mut O) -> Result<(), Failed>
 /// Writes the dump of a BRZ function.
 #[tactic(auto, unfolding(crate::specs::Dumps::brz_dump))]
 fn save_brz<O: Sink>(brz: &Brz, out: &mut O) -> Result<(), Failed>
-    ensures bytes { Writes (O.written out.old) (O.written out.new) (brz_dump version_1 brz.now) result }
-    ensures cause { HasCause (O.faults out.old) (O.faults out.new) result }
+    ensures bytes { Writes (O.state out.old).written (O.state out.new).written (brz_dump version_1 brz.now) result }
+    ensures cause { HasCause (O.state out.old).faults (O.state out.new).faults result }
 {
     save_header(4, brz.b(), brz.keys(), brz.c(), brz.split(), out)?;
     save_buckets(brz, out)
@@ -86,8 +86,8 @@ fn save_brz<O: Sink>(brz: &Brz, out: &mut O) -> Result<(), Failed>
 
 /// Writes the dump of a function. Fails exactly if the sink does, which has then taken a prefix of the dump. Allocates no memory.
 pub fn save<O: Sink>(function: &Func, out: &mut O) -> Result<(), Failed>
-    ensures bytes { Writes (O.written out.old) (O.written out.new) (dump_of function.now) result }
-    ensures cause { HasCause (O.faults out.old) (O.faults out.new) result }
+    ensures bytes { Writes (O.state out.old).written (O.state out.new).written (dump_of function.now) result }
+    ensures cause { HasCause (O.state out.old).faults (O.state out.new).faults result }
 {
     match function {
         Func::Chm(chm) => save_chm(chm, out),

@@ -27,8 +27,8 @@ fn gather<C: Cells>(table: &C, from: u64, until: u64, piece: &mut ArrayVec<u8, 4
 
 /// Writes the image of a table. Fails exactly if the sink does, which has then taken a prefix of the image.
 pub fn save_image<C: Cells, O: Sink>(table: &C, out: &mut O) -> Result<(), Failed>
-    ensures bytes { Writes (O.written out.old) (O.written out.new) (list_of (C.image_byte (C.bound_of table.now) (C.cells table.now)) (C.image_size (length (C.cells table.now)) (C.bound_of table.now))) result }
-    ensures cause { HasCause (O.faults out.old) (O.faults out.new) result }
+    ensures bytes { Writes (O.state out.old).written (O.state out.new).written (list_of (C.image_byte (C.bound_of table.now) (C.cells table.now)) (C.image_size (length (C.cells table.now)) (C.bound_of table.now))) result }
+    ensures cause { HasCause (O.state out.old).faults (O.state out.new).faults result }
 {
     let len = C::image_len(table.len(), table.bound());
     let mut piece = ArrayVec::<u8, 4096>::new();

@@ -1,5 +1,5 @@
 -- How a call changes the count of faults of its object.
-use Rattle.std.specs.Prelude.{◌≡◌, ◌⊎◌, ◌<◌, ◌≤◌, ◌^◌, ℕ, Result, Ok, Err, OnOk, OnErr}
+use Rattle.std.specs.Prelude.{◌≡◌, ◌<◌, ◌≤◌, ◌^◌, ℕ, Result, Ok, Err, OnOk, OnErr}
 use Rattle.cm_io.specs.declared.fault.Failed.{Failed}
 use Rattle.cm_io.specs.declared.fault.DiskFault.{DiskFault}
 use Rattle.cm_io.specs.declared.fault.DiskFault.TheVariants as disk_fault
@@ -32,7 +32,3 @@ pub record HasCloseCause (count before now : ℕ) (result : Result (Unit {0}) Fa
   pub fine : OnOk result (count ≡ 0 → now ≡ before)
   pub counted : 0 < count → Rose before now
   pub failed : OnErr result (Rose before now)
-
--- A sink has no buffered bytes any more, or its count rose.
-abbrev pub IsSent : ℕ → ℕ → ℕ → Type 0
-IsSent waits before now = before < 2 ^ 63 → (waits ≡ 0) ⊎ (before < now)

@@ -1,6 +1,7 @@
 pub mod Causes
 pub mod Counts
 pub mod Reading
+pub mod States
 pub mod Writing
 pub mod WritingLaws
 pub mod Files

@@ -31,7 +31,7 @@ impl Notes {
 
     /// Writes a piece, unless a note has failed before. If the sink fails, this note has failed.
     pub fn note<E: Sink>(&mut self, sink: &mut E, piece: &[u8])
-        ensures noted { Noted self.old self.new (E.written sink.old) (E.written sink.new) (E.faults sink.old) (E.faults sink.new)
+        ensures noted { Noted self.old self.new (E.state sink.old) (E.state sink.new)
             piece.now }
     {
         if !self.failed && sink.write(piece).is_err() {
@@ -41,9 +41,9 @@ impl Notes {
 
     /// Writes the pieces of one message and flushes the sink, unless a note has failed before. If the sink fails, this note has failed.
     pub fn note_pieces<E: Sink>(&mut self, sink: &mut E, pieces: &[&[u8]])
-        ensures noted { Noted self.old self.new (E.written sink.old) (E.written sink.new) (E.faults sink.old) (E.faults sink.new)
+        ensures noted { Noted self.old self.new (E.state sink.old) (E.state sink.new)
             (joined (map (λ piece. piece.now) pieces.now)) }
-        ensures sent { self.new ≡ false → E.waits sink.new ≡ 0 }
+        ensures sent { self.new ≡ false → (E.state sink.new).waits ≡ 0 }
     {
         if !self.failed && write_message(sink, pieces).is_err() {
             self.failed = true;
@@ -53,9 +53,9 @@ impl Notes {
 
 /// Writes the pieces and flushes the sink. Fails exactly if the sink does, which has then taken a prefix of them all.
 fn write_message<E: Sink>(sink: &mut E, pieces: &[&[u8]]) -> Result<(), Failed>
-    ensures bytes { Writes (E.written sink.old) (E.written sink.new) (joined (map (λ piece. piece.now) pieces.now)) result }
-    ensures sent { OnOk result (E.waits sink.new ≡ 0) }
-    ensures cause { HasCause (E.faults sink.old) (E.faults sink.new) result }
+    ensures bytes { Writes (E.state sink.old).written (E.state sink.new).written (joined (map (λ piece. piece.now) pieces.now)) result }
+    ensures sent { OnOk result ((E.state sink.new).waits ≡ 0) }
+    ensures cause { HasCause (E.state sink.old).faults (E.state sink.new).faults result }
 {
     write_pieces(sink, pieces)?;
     sink.write(&[])

@@ -82,11 +82,7 @@ impl MemSink {
 }
 
 impl Sink for MemSink {
-    ghost written = { λ s. Some s.bytes };
-
-    ghost waits = { λ _. 0 };
-
-    ghost faults = { λ s. s.faults };
+    ghost state = { λ s. record { written = Some s.bytes; waits = 0; faults = s.faults } };
 
     fn write(&mut self, piece: &[u8]) -> Result<(), Failed>
         ensures bytes { Writes (Some self.old.bytes) (Some self.new.bytes) piece.now result }

@@ -89,13 +89,7 @@ impl Disk for BentDisk {
 
     type Spill = BentSpill;
 
-    ghost files = { λ _. None };
-
-    ghost spilled = { λ _. None };
-
-    ghost read_faults = { λ _. 0 };
-
-    ghost write_faults = { λ d. d.write_faults };
+    ghost state = { λ d. record { files = None; spilled = None; read_faults = 0; write_faults = d.write_faults } };
 
     fn open(&mut self, _path: &str) -> Result<TurnSource, DiskFault>
         ensures write_faults { self.new.write_faults ≡ self.old.write_faults }

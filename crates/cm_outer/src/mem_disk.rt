@@ -140,13 +140,7 @@ impl Disk for MemDisk {
 
     type Spill = MemSpill;
 
-    ghost files = { λ d. Some d.files };
-
-    ghost spilled = { λ d. d.spilled };
-
-    ghost read_faults = { λ d. d.read_faults };
-
-    ghost write_faults = { λ d. d.write_faults };
+    ghost state = { λ d. record { files = Some d.files; spilled = d.spilled; read_faults = d.read_faults; write_faults = d.write_faults } };
 
     fn open(&mut self, path: &str) -> Result<MemSource, DiskFault>
         ensures files { Some self.new.files ≡ Some self.old.files }

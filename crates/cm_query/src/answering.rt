@@ -1,7 +1,7 @@
 //! The answers of a function to the keys of a pass.
 ghost use Rattle.std.specs.Prelude.{◌≡◌, ◌⊎◌, ◌<◌, ◌≤◌, ◌+◌, ℕ, List, length, Err, IsTrue, IfOk, IfErr, OnOk, None, true, false};
 ghost use Rattle.std.specs.Option.{ForSome};
-ghost use Rattle.cm_io.specs.Causes.{IsSent};
+ghost use Rattle.cm_io.specs.States.{IsSent};
 ghost use Rattle.cm_io.specs.Noting.{Noted};
 ghost use Rattle.cm_io.specs.Writing.{then_bytes};
 ghost use Rattle.cm_query.specs.Stops.{HasQueryCause, HasQueryFailure, IsReached, is_usable_after, StopsAt, TextAfter, noted_keys};
@@ -37,32 +37,32 @@ pub fn query<A: Answers, P: KeyPass, O: Sink, E: Sink>(
     // Whether or not the keys are known.
     ensures told { P.told keys.new ≡ P.told keys.old }
     ensures usable { P.usable keys.new ≡ is_usable_after result }
-    ensures cause { HasQueryCause (P.faults keys.old) (P.faults keys.new) (O.faults out.old) (O.faults out.new) result }
+    ensures cause { HasQueryCause (P.faults keys.old) (P.faults keys.new) (O.state out.old).faults (O.state out.new).faults result }
     ensures failed { IfErr result (HasQueryFailure (P.failure keys.new)) }
     ensures lines { IfOk result (λ tally. tally.lines ≡ P.place keys.new) }
     ensures within { IfOk result (λ tally. tally.repeated + tally.unknown ≤ tally.lines) }
-    ensures appends { (text : List ℕ) × (O.written out.new ≡ then_bytes (O.written out.old) text) }
-    ensures says { (text : List ℕ) × Noted notes.old notes.new (E.written err.old) (E.written err.new) (E.faults err.old) (E.faults err.new) text }
+    ensures appends { (text : List ℕ) × ((O.state out.new).written ≡ then_bytes (O.state out.old).written text) }
+    ensures says { (text : List ℕ) × Noted notes.old notes.new (E.state err.old) (E.state err.new) text }
 
     // If memory runs out, nothing has changed.
     ensures memory { result ≡ Err QueryFault.Memory → (keys.new ≡ keys.old) × (out.new ≡ out.old) × (err.new ≡ err.old) × (notes.new ≡ notes.old) }
 
     // The buffer of out is empty, unless out failed, and that of err, unless a note failed.
-    ensures sent { O.waits out.old ≡ 0 → IsSent (O.waits out.new) (O.faults out.old) (O.faults out.new) }
-    ensures notes_sent { (notes.old ≡ false → E.waits err.old ≡ 0) → notes.new ≡ false → E.waits err.new ≡ 0 }
+    ensures sent { (O.state out.old).waits ≡ 0 → IsSent (O.state out.old) (O.state out.new) }
+    ensures notes_sent { (notes.old ≡ false → (E.state err.old).waits ≡ 0) → notes.new ≡ false → (E.state err.new).waits ≡ 0 }
 
     // The end of known keys.
     ensures end { OnOk result (ForSome (P.told keys.old) (λ told. told.fault ≡ None)) }
     ensures tally { IfOk result (λ tally. ForSome (P.told keys.old) (λ told. tally ≡ tally_of (A.answer_of function.now) told.keys)) }
-    ensures text { OnOk result (ForSome (P.told keys.old) (λ told. O.written out.new ≡ then_bytes (O.written out.old) (text_of LINE_END (A.answer_of function.now) told.keys))) }
+    ensures text { OnOk result (ForSome (P.told keys.old) (λ told. (O.state out.new).written ≡ then_bytes (O.state out.old).written (text_of LINE_END (A.answer_of function.now) told.keys))) }
     ensures notes { OnOk result (ForSome (P.told keys.old) (λ told.
-        Noted notes.old notes.new (E.written err.old) (E.written err.new) (E.faults err.old) (E.faults err.new) (notes_of (A.answer_of function.now) told.keys))) }
+        Noted notes.old notes.new (E.state err.old) (E.state err.new) (notes_of (A.answer_of function.now) told.keys))) }
 
     // A failure over known keys. After `Write` the pass may have yielded more keys than were reached.
     ensures stops { IfErr result (λ fault. ForSome (P.told keys.old) (λ told. StopsAt told (P.place keys.new) fault)) }
     ensures after { IfErr result (λ fault. ForSome (P.told keys.old) (λ told. (reached : ℕ) × IsReached (P.place keys.new) reached fault
-        × TextAfter LINE_END (A.answer_of function.now) told.keys reached (O.written out.old) (O.written out.new) fault
-        × Noted notes.old notes.new (E.written err.old) (E.written err.new) (E.faults err.old) (E.faults err.new) (notes_of (A.answer_of function.now) (noted_keys told.keys reached fault)))) }
+        × TextAfter LINE_END (A.answer_of function.now) told.keys reached (O.state out.old).written (O.state out.new).written fault
+        × Noted notes.old notes.new (E.state err.old) (E.state err.new) (notes_of (A.answer_of function.now) (noted_keys told.keys reached fault)))) }
 {
     let Ok(mut marks) = Bits::zeroed(alloc, function.span(), 2) else {
         return Err(QueryFault::Memory);

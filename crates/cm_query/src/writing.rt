@@ -48,8 +48,8 @@ fn write_short<O: Sink>(
     buffer: &mut Buffer,
 ) -> Result<(), Failed>
     requires short { length key.now ≤ SHORT_KEY }
-    ensures line { Writes (O.written out.old) (O.written out.new) (line_of LINE_END key.now (Some number)) result }
-    ensures cause { HasCause (O.faults out.old) (O.faults out.new) result }
+    ensures line { Writes (O.state out.old).written (O.state out.new).written (line_of LINE_END key.now (Some number)) result }
+    ensures cause { HasCause (O.state out.old).faults (O.state out.new).faults result }
 {
     let mut line = ArrayVec::<u8, SHORT_LINE>::new();
     append(&mut line, key);
@@ -66,9 +66,9 @@ pub(crate) fn write_line<O: Sink>(
     sends: bool,
     buffer: &mut Buffer,
 ) -> Result<(), Failed>
-    ensures line { Writes (O.written out.old) (O.written out.new) (line_of LINE_END key.now answer) result }
-    ensures sent { OnOk result (sends ≡ true → O.waits out.new ≡ 0) }
-    ensures cause { HasCause (O.faults out.old) (O.faults out.new) result }
+    ensures line { Writes (O.state out.old).written (O.state out.new).written (line_of LINE_END key.now answer) result }
+    ensures sent { OnOk result (sends ≡ true → (O.state out.new).waits ≡ 0) }
+    ensures cause { HasCause (O.state out.old).faults (O.state out.new).faults result }
 {
     put_line(out, key, answer, buffer)?;
     if sends {
@@ -84,8 +84,8 @@ fn put_line<O: Sink>(
     answer: Option<u32>,
     buffer: &mut Buffer,
 ) -> Result<(), Failed>
-    ensures line { Writes (O.written out.old) (O.written out.new) (line_of LINE_END key.now answer) result }
-    ensures cause { HasCause (O.faults out.old) (O.faults out.new) result }
+    ensures line { Writes (O.state out.old).written (O.state out.new).written (line_of LINE_END key.now answer) result }
+    ensures cause { HasCause (O.state out.old).faults (O.state out.new).faults result }
 {
     let Some(number) = answer else {
         return Ok(());
@@ -106,8 +106,8 @@ pub(crate) fn note_key<E: Sink>(
     answer: Option<u32>,
     repeated: bool,
 )
-    ensures noted { Noted notes.old notes.new (E.written err.old) (E.written err.new) (E.faults err.old) (E.faults err.new) (note_of line answer repeated) }
-    ensures sent { (notes.old ≡ false → E.waits err.old ≡ 0) → notes.new ≡ false → E.waits err.new ≡ 0 }
+    ensures noted { Noted notes.old notes.new (E.state err.old) (E.state err.new) (note_of line answer repeated) }
+    ensures sent { (notes.old ≡ false → (E.state err.old).waits ≡ 0) → notes.new ≡ false → (E.state err.new).waits ≡ 0 }
 {
     match answer {
         None => note_unknown(err, notes, line),
@@ -121,8 +121,8 @@ pub(crate) fn note_key<E: Sink>(
 
 /// Notes that the key of a line has no answer.
 fn note_unknown<E: Sink>(err: &mut E, notes: &mut Notes, line: u32)
-    ensures noted { Noted notes.old notes.new (E.written err.old) (E.written err.new) (E.faults err.old) (E.faults err.new) (unknown_note line) }
-    ensures sent { notes.new ≡ false → E.waits err.new ≡ 0 }
+    ensures noted { Noted notes.old notes.new (E.state err.old) (E.state err.new) (unknown_note line) }
+    ensures sent { notes.new ≡ false → (E.state err.new).waits ≡ 0 }
 {
     let mut buffer = Buffer::new();
     let line_digits = buffer.format(line).as_bytes();
@@ -131,8 +131,8 @@ fn note_unknown<E: Sink>(err: &mut E, notes: &mut Notes, line: u32)
 
 /// Notes that the answer of the key of a line is repeated.
 fn note_repeated<E: Sink>(err: &mut E, notes: &mut Notes, line: u32, number: u32)
-    ensures noted { Noted notes.old notes.new (E.written err.old) (E.written err.new) (E.faults err.old) (E.faults err.new) (repeated_note line number) }
-    ensures sent { notes.new ≡ false → E.waits err.new ≡ 0 }
+    ensures noted { Noted notes.old notes.new (E.state err.old) (E.state err.new) (repeated_note line number) }
+    ensures sent { notes.new ≡ false → (E.state err.new).waits ≡ 0 }
 {
     let mut line_buffer = Buffer::new();
     let line_digits = line_buffer.format(line).as_bytes();

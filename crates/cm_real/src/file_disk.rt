@@ -132,10 +132,10 @@ pub struct FileDisk<'a, R> {
 impl<'a, R: Files> FileDisk<'a, R> {
     /// A disk for the process with this number, of which no call has failed yet.
     pub fn new(rt: &'a R, alloc: Global, number: u32) -> FileDisk<'a, R>
-        ensures files { ⟦<FileDisk<'a, R> as Disk>⟧.files result ≡ None }
-        ensures spilled { ⟦<FileDisk<'a, R> as Disk>⟧.spilled result ≡ None }
-        ensures read_faults { ⟦<FileDisk<'a, R> as Disk>⟧.read_faults result ≡ 0 }
-        ensures write_faults { ⟦<FileDisk<'a, R> as Disk>⟧.write_faults result ≡ 0 }
+        ensures files { (⟦<FileDisk<'a, R> as Disk>⟧.state result).files ≡ None }
+        ensures spilled { (⟦<FileDisk<'a, R> as Disk>⟧.state result).spilled ≡ None }
+        ensures read_faults { (⟦<FileDisk<'a, R> as Disk>⟧.state result).read_faults ≡ 0 }
+        ensures write_faults { (⟦<FileDisk<'a, R> as Disk>⟧.state result).write_faults ≡ 0 }
         ensures number { result.number ≡ number }
     {
         FileDisk {
@@ -155,20 +155,14 @@ impl<'a, R: Files> Disk for FileDisk<'a, R> {
 
     type Spill = FileSpill<R::File>;
 
-    ghost files = { λ _. None };
-
-    ghost spilled = { λ _. None };
-
-    ghost read_faults = { λ d. d.read_faults };
-
-    ghost write_faults = { λ d. d.write_faults };
+    ghost state = { λ d. record { files = None; spilled = None; read_faults = d.read_faults; write_faults = d.write_faults } };
 
     fn open(&mut self, path: &str) -> Result<FileReader<R::File>, DiskFault>
         ensures write_faults { self.new.write_faults ≡ self.old.write_faults }
         ensures cause { HasDiskCause self.old.read_faults self.new.read_faults result }
         ensures fresh { IfOk result (λ reader. reader.faults ≡ 0) }
         ensures start { IfOk result (λ reader. ForSome (⟦<FileReader<R::File> as Source>⟧.told reader) (λ _. ⟦<FileReader<R::File> as Source>⟧.place reader ≡ 0)) }
-        ensures reader { IfOk result (λ reader. ForSome (⟦<FileDisk<'a, R> as Disk>⟧.files self.old) (λ files.
+        ensures reader { IfOk result (λ reader. ForSome (⟦<FileDisk<'a, R> as Disk>⟧.state self.old).files (λ files.
             Opens files path.now (⟦<FileReader<R::File> as Source>⟧.told reader) (⟦<FileReader<R::File> as Source>⟧.place reader))) }
 
         // A failure counts once, and nothing else does.
@@ -200,8 +194,8 @@ impl<'a, R: Files> Disk for FileDisk<'a, R> {
         ensures read_faults { self.new.read_faults ≡ self.old.read_faults }
         ensures cause { HasDiskCause self.old.write_faults self.new.write_faults result }
         ensures fresh { IfOk result (λ writer. writer.faults ≡ 0) }
-        ensures empty { IfOk result (λ writer. ForSome (⟦<StdSink<R::File> as Sink>⟧.written writer) (λ bytes. bytes ≡ [])) }
-        ensures writer { IfOk result (λ writer. ForSome (⟦<FileDisk<'a, R> as Disk>⟧.files self.old) (λ _. ⟦<StdSink<R::File> as Sink>⟧.written writer ≡ Some [])) }
+        ensures empty { IfOk result (λ writer. ForSome (⟦<StdSink<R::File> as Sink>⟧.state writer).written (λ bytes. bytes ≡ [])) }
+        ensures writer { IfOk result (λ writer. ForSome (⟦<FileDisk<'a, R> as Disk>⟧.state self.old).files (λ _. (⟦<StdSink<R::File> as Sink>⟧.state writer).written ≡ Some [])) }
 
         // Nothing is buffered yet.
         ensures waits { IfOk result (λ writer. writer.waiting.items ≡ []) }
@@ -246,7 +240,7 @@ impl<'a, R: Files> Disk for FileDisk<'a, R> {
         ensures cause { HasDiskCause self.old.write_faults self.new.write_faults result }
         ensures fresh { IfOk result (λ spill. spill.faults ≡ 0) }
         ensures empty { IfOk result (λ spill. ForSome (⟦<FileSpill<R::File> as Spill>⟧.told spill) (λ bytes. bytes ≡ [])) }
-        ensures told { IfOk result (λ spill. ForSome (⟦<FileDisk<'a, R> as Disk>⟧.files self.old) (λ _. ⟦<FileSpill<R::File> as Spill>⟧.told spill ≡ Some [])) }
+        ensures told { IfOk result (λ spill. ForSome (⟦<FileDisk<'a, R> as Disk>⟧.state self.old).files (λ _. ⟦<FileSpill<R::File> as Spill>⟧.told spill ≡ Some [])) }
 
         // A failure counts once.
         ensures count { (result ≡ Err DiskFault.Failed) → self.new.write_faults ≡ counted self.old.write_faults }

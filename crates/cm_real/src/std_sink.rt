@@ -29,9 +29,9 @@ pub struct StdSink<W> {
 impl<W: Write> StdSink<W> {
     /// A sink that buffers bytes until its buffer is full.
     pub fn new(writer: W) -> StdSink<W>
-        ensures written { ⟦<StdSink<W> as Sink>⟧.written result ≡ None }
-        ensures waits { ⟦<StdSink<W> as Sink>⟧.waits result ≡ 0 }
-        ensures faults { ⟦<StdSink<W> as Sink>⟧.faults result ≡ 0 }
+        ensures written { (⟦<StdSink<W> as Sink>⟧.state result).written ≡ None }
+        ensures waits { (⟦<StdSink<W> as Sink>⟧.state result).waits ≡ 0 }
+        ensures faults { (⟦<StdSink<W> as Sink>⟧.state result).faults ≡ 0 }
         ensures writer { result.writer ≡ writer }
         ensures empty { result.waiting.items ≡ [] }
     {
@@ -44,7 +44,7 @@ impl<W: Write> StdSink<W> {
 
     /// How often a write has failed.
     pub fn faults(&self) -> u64
-        ensures faults { result ≡ ⟦<StdSink<W> as Sink>⟧.faults self.now }
+        ensures faults { result ≡ (⟦<StdSink<W> as Sink>⟧.state self.now).faults }
     {
         self.faults
     }
@@ -52,7 +52,7 @@ impl<W: Write> StdSink<W> {
     /// The writer, and how often writing to it has failed.
     pub fn into_parts(self) -> (W, u64)
         ensures writer { result.0 ≡ self.writer }
-        ensures faults { result.1 ≡ ⟦<StdSink<W> as Sink>⟧.faults self }
+        ensures faults { result.1 ≡ (⟦<StdSink<W> as Sink>⟧.state self).faults }
     {
         let StdSink {
             writer,
@@ -127,11 +127,7 @@ impl<W: Write + Drop> StdSink<W> {
 }
 
 impl<W: Write> Sink for StdSink<W> {
-    ghost written = { λ _. None };
-
-    ghost waits = { λ s. length s.waiting.items };
-
-    ghost faults = { λ s. s.faults };
+    ghost state = { λ s. record { written = None; waits = length s.waiting.items; faults = s.faults } };
 
     fn write(&mut self, piece: &[u8]) -> Result<(), Failed>
         ensures bytes { Writes None None piece.now result }

@@ -7,6 +7,7 @@ use Rattle.cm_func.specs.declared.function.Func.{Func}
 use Rattle.cm_dump_items.specs.declared.fault.LoadFault.{LoadFault}
 use Rattle.cm_io.specs.Files.{Files, file_at}
 use Rattle.cm_io.specs.Noting.{HasNoted}
+use Rattle.cm_io.specs.States.{Outside, SinkState}
 use Rattle.cm_io.specs.Writing.{then_bytes}
 use Rattle.cm_io.specs.declared.key_pass.KeyFault.{KeyFault}
 use Rattle.cm_io.specs.declared.key_pass.KeyFault.TheVariants as key_fault
@@ -47,10 +48,10 @@ status_noted [] n status exact none some = none (exact.0 refl)
 status_noted (b ∷ notes) n status exact none some = some (λ zero. absurd (let e : b ∷ notes ≡ [] = exact.1 zero in cc))
 
 -- a query that came to its end
-pub query_done : (job : QueryJob) (files : Files) (old new err err_new : Option (List ℕ)) (before now : ℕ) (notes : List ℕ) (tally : Tally) (status : ℕ) (left : Option Files)
-    → ((f : List ℕ → Option ℕ) (keys : List (ℕ × List ℕ)) → (notes_of f keys ≡ []) ↔ ((tally_of f keys).repeated + (tally_of f keys).unknown ≡ 0)) → EndsQuery files job old new notes (Ok tally) → Says notes err err_new before now
-    → (tally.repeated + tally.unknown ≡ 0 → status ≡ 0) → (tally.repeated + tally.unknown ≢ 0 → status ≡ 1) → left ≡ Some files → Reaches (job_outcome files (Ok (Query job))) status old new err err_new before now left
-query_done job files old new err err_new before now notes tally status left noted_exactly ends says none some same =
+pub query_done : (job : QueryJob) (files : Files) (old new : Outside) (notes : List ℕ) (tally : Tally) (status : ℕ)
+    → ((f : List ℕ → Option ℕ) (keys : List (ℕ × List ℕ)) → (notes_of f keys ≡ []) ↔ ((tally_of f keys).repeated + (tally_of f keys).unknown ≡ 0)) → EndsQuery files job old.out.written new.out.written notes (Ok tally) → Says old.err new.err notes
+    → (tally.repeated + tally.unknown ≡ 0 → status ≡ 0) → (tally.repeated + tally.unknown ≢ 0 → status ≡ 1) → new.disk.files ≡ Some files → Reaches old new (job_outcome files (Ok (Query job))) status
+query_done job files old new notes tally status noted_exactly ends says none some same =
     let f = answer_by ends.0 in
     let all = ends.2.0 in
     let keys = (keys_in job.first all.bytes).keys in
@@ -67,9 +68,9 @@ query_done job files old new err err_new before now notes tally status left note
     }
 
 -- a query that stopped at a fault of a line
-stopped_at_line : (job : QueryJob) (files : Files) (old new err err_new : Option (List ℕ)) (before now : ℕ) (notes : List ℕ) (function : Func) (fault : KeyFault) (left : Option Files) → Spells files job.function function → AskedAll (answer_by function) files job old new notes (Some fault)
-    → Says (notes ++ fault_message job.keys fault) err err_new before now → left ≡ Some files → Reaches (job_outcome files (Ok (Query job))) 8 old new err err_new before now left
-stopped_at_line job files old new err err_new before now notes function fault left spells all says same =
+stopped_at_line : (job : QueryJob) (files : Files) (old new : Outside) (notes : List ℕ) (function : Func) (fault : KeyFault) → Spells files job.function function → AskedAll (answer_by function) files job old.out.written new.out.written notes (Some fault)
+    → Says old.err new.err (notes ++ fault_message job.keys fault) → new.disk.files ≡ Some files → Reaches old new (job_outcome files (Ok (Query job))) 8
+stopped_at_line job files old new notes function fault spells all says same =
     let f = answer_by function in
     let keys = (keys_in job.first all.bytes).keys in
     record {
@@ -82,22 +83,22 @@ stopped_at_line job files old new err err_new before now notes function fault le
     }
 
 -- a query that stopped, but not for memory or a fault of a file or of out
-pub query_stopped : (job : QueryJob) (files : Files) (old new err err_new : Option (List ℕ)) (before now : ℕ) (notes : List ℕ) (stop : QueryStop) (left : Option Files) → EndsQuery files job old new notes (Err stop)
-    → Says (notes ++ query_message_of job stop) err err_new before now → query_status_of stop ≢ 4 → query_status_of stop ≢ 5 → query_status_of stop ≢ 6 → left ≡ Some files → Reaches (job_outcome files (Ok (Query job))) (query_status_of stop) old new err err_new before now left
-query_stopped job files old new err err_new before now notes Memory left ends says a b d same = absurd (d refl)
-query_stopped job files old new err err_new before now notes NoFunction left ends says a b d same = absurd (a refl)
-query_stopped job files old new err err_new before now notes (BadDump fault) left ends says a b d same = record {
+pub query_stopped : (job : QueryJob) (files : Files) (old new : Outside) (notes : List ℕ) (stop : QueryStop) → EndsQuery files job old.out.written new.out.written notes (Err stop)
+    → Says old.err new.err (notes ++ query_message_of job stop) → query_status_of stop ≢ 4 → query_status_of stop ≢ 5 → query_status_of stop ≢ 6 → new.disk.files ≡ Some files → Reaches old new (job_outcome files (Ok (Query job))) (query_status_of stop)
+query_stopped job files old new notes Memory ends says a b d same = absurd (d refl)
+query_stopped job files old new notes NoFunction ends says a b d same = absurd (a refl)
+query_stopped job files old new notes (BadDump fault) ends says a b d same = record {
   outcome = refusal 3 (bad_dump job.function fault) files;
   is = bad_outcome job files fault ends.0;
   status_is = refl;
-  out = ends.1.0 ∙ then_nothing old;
-  err = subst (λ (ns : List ℕ). Says (ns ++ bad_dump job.function fault) err err_new before now) ends.1.1 says;
+  out = ends.1.0 ∙ then_nothing old.out.written;
+  err = subst (λ (ns : List ℕ). Says old.err new.err (ns ++ bad_dump job.function fault)) ends.1.1 says;
   files_are = same;
 }
-query_stopped job files old new err err_new before now notes Read left ends says a b d same = absurd (a refl)
-query_stopped job files old new err err_new before now notes Write left ends says a b d same = absurd (b refl)
-query_stopped job files old new err err_new before now notes (TooLong line) left ends says a b d same = stopped_at_line job files old new err err_new before now notes ends.0 (key_fault.TooLong line) left ends.1 ends.2 says same
-query_stopped job files old new err err_new before now notes TooMany left ends says a b d same = stopped_at_line job files old new err err_new before now notes ends.0 key_fault.TooMany left ends.1 ends.2 says same
+query_stopped job files old new notes Read ends says a b d same = absurd (a refl)
+query_stopped job files old new notes Write ends says a b d same = absurd (b refl)
+query_stopped job files old new notes (TooLong line) ends says a b d same = stopped_at_line job files old new notes ends.0 (key_fault.TooLong line) ends.1 ends.2 says same
+query_stopped job files old new notes TooMany ends says a b d same = stopped_at_line job files old new notes ends.0 key_fault.TooMany ends.1 ends.2 says same
 
 -- a query of a keys file that isn't there
 unread : (job : QueryJob) (files : Files) (f : Func) (file : Option (List ℕ)) (old new : Option (List ℕ)) (notes : List ℕ) (given : ℕ) → Spells files job.function f → file_at files job.keys ≡ file → AskedPart (answer_by f) (keys_at files job) old new notes given 0
@@ -109,15 +110,15 @@ unread job files f None old new notes given spells is asked none =
 unread job files f (Some bytes) old new notes given spells is asked none = absurd (none_some (sym none ∙ asked_outcome job files f bytes _ _ spells is refl refl))
 
 -- a query that stopped over files by which there is no outcome
-pub lacking : (job : QueryJob) (files : Files) (known left : Option Files) (old new : Option (List ℕ)) (notes : List ℕ) (stop : QueryStop) → EndsQuery files job old new notes (Err stop) → left ≡ known → job_outcome files (Ok (Query job)) ≡ None
-    → LacksFile (query_status_of stop) known left old new
-lacking job files known left old new notes Memory ends same none = record { status_is = inr refl; files_are = same; out = ends.0 }
-lacking job files known left old new notes NoFunction ends same none = record { status_is = inl refl; files_are = same; out = ends.0 }
-lacking job files known left old new notes (BadDump fault) ends same none = absurd (none_some (sym none ∙ bad_outcome job files fault ends.0))
-lacking job files known left old new notes Read ends same none = record { status_is = inl refl; files_are = same; out = unread job files ends.0 _ old new notes ends.2.0 ends.1 refl ends.2.1 none }
-lacking job files known left old new notes Write ends same none = absurd (none_some (sym none ∙ asked_outcome job files ends.0 ends.2.0 _ _ ends.1 ends.2.3 refl refl))
-lacking job files known left old new notes (TooLong line) ends same none = absurd (none_some (sym none ∙ asked_outcome job files ends.0 ends.2.bytes _ _ ends.1 ends.2.there refl refl))
-lacking job files known left old new notes TooMany ends same none = absurd (none_some (sym none ∙ asked_outcome job files ends.0 ends.2.bytes _ _ ends.1 ends.2.there refl refl))
+pub lacking : (job : QueryJob) (files : Files) (old new : Outside) (notes : List ℕ) (stop : QueryStop) → EndsQuery files job old.out.written new.out.written notes (Err stop) → new.disk.files ≡ old.disk.files → job_outcome files (Ok (Query job)) ≡ None
+    → LacksFile old new (query_status_of stop)
+lacking job files old new notes Memory ends same none = record { status_is = inr refl; files_are = same; out = ends.0 }
+lacking job files old new notes NoFunction ends same none = record { status_is = inl refl; files_are = same; out = ends.0 }
+lacking job files old new notes (BadDump fault) ends same none = absurd (none_some (sym none ∙ bad_outcome job files fault ends.0))
+lacking job files old new notes Read ends same none = record { status_is = inl refl; files_are = same; out = unread job files ends.0 _ old.out.written new.out.written notes ends.2.0 ends.1 refl ends.2.1 none }
+lacking job files old new notes Write ends same none = absurd (none_some (sym none ∙ asked_outcome job files ends.0 ends.2.0 _ _ ends.1 ends.2.3 refl refl))
+lacking job files old new notes (TooLong line) ends same none = absurd (none_some (sym none ∙ asked_outcome job files ends.0 ends.2.bytes _ _ ends.1 ends.2.there refl refl))
+lacking job files old new notes TooMany ends same none = absurd (none_some (sym none ∙ asked_outcome job files ends.0 ends.2.bytes _ _ ends.1 ends.2.there refl refl))
 
 -- the message of a query that stopped goes with its status
 pub query_message_is : (job : QueryJob) (stop : QueryStop) → IsQueryMessage job (query_status_of stop) (query_message_of job stop)
@@ -134,15 +135,15 @@ pub answered_is : (job : QueryJob) (status : ℕ) → status ≤ 1 → IsQueryMe
 answered_is job status small = record { done = λ e. refl; noted = λ e. refl; dump = λ e. absurd (omega (arith, small, e)); read = λ e. absurd (omega (arith, small, e)); write = λ e. absurd (omega (arith, small, e)); memory = λ e. absurd (omega (arith, small, e)); keys = λ e. absurd (omega (arith, small, e)) }
 
 -- a query that a fault cut short, or for which memory ran out
-pub cut_short : (job : QueryJob) (files : Files) (old new err err_new : Option (List ℕ)) (before now : ℕ) (notes : List ℕ) (stop : QueryStop) → EndsQuery files job old new notes (Err stop) → Says (notes ++ query_message_of job stop) err err_new before now
-    → (query_status_of stop ≡ 4) ⊎ (query_status_of stop ≡ 5) ⊎ (query_status_of stop ≡ 6) → IsCutShort files (query_status_of stop) old new err err_new before now job
-cut_short job files old new err err_new before now notes Memory ends says either = record { notes = notes; text = query_message_of job Memory; says = says; read = λ e. absurd (omega arith); write = λ e. absurd (omega arith); memory = λ e. (ends, refl) }
-cut_short job files old new err err_new before now notes NoFunction ends says either = record { notes = notes; text = query_message_of job NoFunction; says = says; read = λ e. inl (ends, refl); write = λ e. absurd (omega arith); memory = λ e. absurd (omega arith) }
-cut_short job files old new err err_new before now notes (BadDump fault) ends says either = absurd (omega (arith, either))
-cut_short job files old new err err_new before now notes Read ends says either = record { notes = notes; text = query_message_of job Read; says = says; read = λ e. inr (ends.0, ends.2.0, ends.1, ends.2.1, refl); write = λ e. absurd (omega arith); memory = λ e. absurd (omega arith) }
-cut_short job files old new err err_new before now notes Write ends says either = record { notes = notes; text = query_message_of job Write; says = says; read = λ e. absurd (omega arith); write = λ e. (ends.0, ends.2.1, ends.2.2, ends.1, ends.2.4, refl); memory = λ e. absurd (omega arith) }
-cut_short job files old new err err_new before now notes (TooLong line) ends says either = absurd (omega (arith, either))
-cut_short job files old new err err_new before now notes TooMany ends says either = absurd (omega (arith, either))
+pub cut_short : (job : QueryJob) (files : Files) (old new : Outside) (notes : List ℕ) (stop : QueryStop) → EndsQuery files job old.out.written new.out.written notes (Err stop) → Says old.err new.err (notes ++ query_message_of job stop)
+    → (query_status_of stop ≡ 4) ⊎ (query_status_of stop ≡ 5) ⊎ (query_status_of stop ≡ 6) → IsCutShort old new files (query_status_of stop) job
+cut_short job files old new notes Memory ends says either = record { notes = notes; text = query_message_of job Memory; says = says; read = λ e. absurd (omega arith); write = λ e. absurd (omega arith); memory = λ e. (ends, refl) }
+cut_short job files old new notes NoFunction ends says either = record { notes = notes; text = query_message_of job NoFunction; says = says; read = λ e. inl (ends, refl); write = λ e. absurd (omega arith); memory = λ e. absurd (omega arith) }
+cut_short job files old new notes (BadDump fault) ends says either = absurd (omega (arith, either))
+cut_short job files old new notes Read ends says either = record { notes = notes; text = query_message_of job Read; says = says; read = λ e. inr (ends.0, ends.2.0, ends.1, ends.2.1, refl); write = λ e. absurd (omega arith); memory = λ e. absurd (omega arith) }
+cut_short job files old new notes Write ends says either = record { notes = notes; text = query_message_of job Write; says = says; read = λ e. absurd (omega arith); write = λ e. (ends.0, ends.2.1, ends.2.2, ends.1, ends.2.4, refl); memory = λ e. absurd (omega arith) }
+cut_short job files old new notes (TooLong line) ends says either = absurd (omega (arith, either))
+cut_short job files old new notes TooMany ends says either = absurd (omega (arith, either))
 
-pub says_more : {f : Bool} {a b : Option (List ℕ)} {i j : ℕ} {text : List ℕ} → HasNoted f a b i j text → Says (text ++ []) a b i j
-says_more {a = a} {b = b} {i = i} {j = j} {text = text} noted = subst (λ (t : List ℕ). Says t a b i j) (sym (append-nil text)) (says_all noted)
+pub says_more : {f : Bool} {a b : SinkState} {text : List ℕ} → HasNoted f a b text → Says a b (text ++ [])
+says_more {a = a} {b = b} {text = text} noted = subst (λ (t : List ℕ). Says a b t) (sym (append-nil text)) (says_all noted)

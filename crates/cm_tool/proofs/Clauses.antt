@@ -3,7 +3,7 @@ use Rattle.std.proofs.Common.{◌≡◌, ◌≢◌, ◌⊎◌, ◌↔◌, ℕ, �
 use Rattle.std.proofs.lemmas.Bool.{false≢true}
 use Rattle.cm_algo_names.specs.declared.algorithm.Algorithm.{Algorithm}
 use Rattle.cm_algo_names.specs.declared.algorithm.Algorithm.TheVariants.{Chm, Bdz, BdzPh, Brz}
-use Rattle.cm_io.specs.Causes.{IsSent}
+use Rattle.cm_io.specs.States.{IsSent, SinkState}
 use Rattle.cm_io.specs.Writing.{then_bytes}
 use Rattle.cm_io.specs.WritingLaws.{then_nothing}
 use Rattle.cm_spec.specs.Lists.{has}
@@ -122,5 +122,5 @@ out_alone disk disk_now out out_now same exact = (
 )
 
 -- nothing was sent, as nothing was to be
-pub sent_none : (waits count : ℕ) → waits ≡ 0 → IsSent waits count count
-sent_none waits count empty = λ _. inl empty
+pub sent_none : (sink : SinkState) → sink.waits ≡ 0 → IsSent sink sink
+sent_none sink empty = λ _. inl empty

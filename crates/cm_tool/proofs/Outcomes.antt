@@ -7,6 +7,7 @@ use Rattle.std.specs.FinMap as map
 use Rattle.cm_io.specs.Files.{Files, file_at, with_file}
 use Rattle.cm_io.specs.declared.key_pass.KeyFault.{KeyFault}
 use Rattle.cm_io.specs.declared.key_pass.KeyFault.TheVariants as key_fault
+use Rattle.cm_io.specs.States.{Outside, SinkState}
 use Rattle.cm_io.specs.WritingLaws.{then_nothing}
 use Rattle.cm_tool_stops.specs.Ends.{Says, message_of, status_of}
 use Rattle.cm_tool_stops.specs.Messages.{built_message, no_keys, seed_failure_message}
@@ -26,8 +27,8 @@ use Rattle.cm_tool_builds.specs.Results.{FailureReport}
 use Rattle.cm_words.specs.declared.jobs.BuildJob.{BuildJob}
 use Rattle.cm_words.specs.declared.jobs.Job.TheVariants.{Build}
 
-pub nothing_said : (known : Option (List ℕ)) (count : ℕ) → Says [] known known count count
-nothing_said known count = record { front = (0, then_nothing known); whole = λ _ _. then_nothing known }
+pub nothing_said : (err : SinkState) → Says err err []
+nothing_said err = record { front = (0, then_nothing err.written); whole = λ _ _. then_nothing err.written }
 
 -- what keys that end with no fault, or with one, make of a build
 over_some : (job : BuildJob) (files : Files) (keys : List (ℕ × List ℕ)) (fault : Option KeyFault) → fault ≡ None → 0 < length keys → build_over job files keys fault ≡ built_or_refused job files (result_of job keys)
@@ -61,25 +62,25 @@ outcome_reporting job files bytes shown file none =
     there job files bytes _ file (over_some job files keys (keys_in job.first bytes).fault none.no_fault none.some ∙ ap (built_or_refused job files) none.result_is)
 
 -- a build that stopped, with out as before
-quiet_end : (job : BuildJob) (files : Files) (new : Option Files) (status : ℕ) (text : List ℕ) (out out_new err err_new : Option (List ℕ)) (before now : ℕ) → job_outcome files (Ok (Build job)) ≡ Some (refusal status text files) → out_new ≡ out → Says text err err_new before now → new ≡ Some files
-    → Reaches (job_outcome files (Ok (Build job))) status out out_new err err_new before now new
-quiet_end job files new status text out out_new err err_new before now is same says left = record {
+quiet_end : (job : BuildJob) (files : Files) (old new : Outside) (status : ℕ) (text : List ℕ) → job_outcome files (Ok (Build job)) ≡ Some (refusal status text files) → new.out.written ≡ old.out.written → Says old.err new.err text → new.disk.files ≡ Some files
+    → Reaches old new (job_outcome files (Ok (Build job))) status
+quiet_end job files old new status text is same says left = record {
   outcome = refusal status text files;
   is = is;
   status_is = refl;
-  out = same ∙ then_nothing out;
+  out = same ∙ then_nothing old.out.written;
   err = says;
   files_are = left;
 }
 
 -- a build that stopped
-pub stopped : (job : BuildJob) (old new : Option Files) (stop : Stop) (out out_new err err_new : Option (List ℕ)) (before now : ℕ) (files : Files) → Leaves job old new out out_new (Err stop) → KeepsOut out out_new stop
-    → Says (message_of job.keys job.function job.dir stop) err err_new before now → status_of stop ≢ 4 → status_of stop ≢ 5 → status_of stop ≢ 6 → old ≡ Some files → Reaches (job_outcome files (Ok (Build job))) (status_of stop) out out_new err err_new before now new
-stopped job old new Memory out out_new err err_new before now files leaves same says a b c is = absurd (c refl)
-stopped job old new Read out out_new err err_new before now files leaves same says a b c is = absurd (a refl)
-stopped job old new Write out out_new err err_new before now files leaves same says a b c is = absurd (b refl)
-stopped job old new WriteOut out out_new err err_new before now files leaves same says a b c is = absurd (b refl)
-stopped job old new (Refused failure) out out_new err err_new before now files leaves same says a b c is =
+pub stopped : (job : BuildJob) (old new : Outside) (stop : Stop) (files : Files) → Leaves job old.disk.files new.disk.files old.out.written new.out.written (Err stop) → KeepsOut old.out.written new.out.written stop
+    → Says old.err new.err (message_of job.keys job.function job.dir stop) → status_of stop ≢ 4 → status_of stop ≢ 5 → status_of stop ≢ 6 → old.disk.files ≡ Some files → Reaches old new (job_outcome files (Ok (Build job))) (status_of stop)
+stopped job old new Memory files leaves same says a b c is = absurd (c refl)
+stopped job old new Read files leaves same says a b c is = absurd (a refl)
+stopped job old new Write files leaves same says a b c is = absurd (b refl)
+stopped job old new WriteOut files leaves same says a b c is = absurd (b refl)
+stopped job old new (Refused failure) files leaves same says a b c is =
     let refused = leaves.1 files is in
     let shown : FailureReport = refused.2.0 in
     let got = refused.2.2 in
@@ -88,21 +89,21 @@ stopped job old new (Refused failure) out out_new err err_new before now files l
       is = outcome_reporting job files refused.0 shown refused.1 refused.2.1;
       status_is = refl;
       out = got.1;
-      err = subst (λ (r : SeedFailure). Says (seed_failure_message r) err err_new before now) got.0 says;
+      err = subst (λ (r : SeedFailure). Says old.err new.err (seed_failure_message r)) got.0 says;
       files_are = leaves.0 ∙ is;
     }
-stopped job old new (Changed first again) out out_new err err_new before now files leaves same says a b c is = absurd ((leaves.1 files is).2)
-stopped job old new Spill out out_new err err_new before now files leaves same says a b c is = absurd (b refl)
-stopped job old new (SpillDamaged offset expected found) out out_new err err_new before now files leaves same says a b c is = absurd ((leaves.1 files is).2)
-stopped job old new NoKeys out out_new err err_new before now files leaves same says a b c is =
+stopped job old new (Changed first again) files leaves same says a b c is = absurd ((leaves.1 files is).2)
+stopped job old new Spill files leaves same says a b c is = absurd (b refl)
+stopped job old new (SpillDamaged offset expected found) files leaves same says a b c is = absurd ((leaves.1 files is).2)
+stopped job old new NoKeys files leaves same says a b c is =
     let refused = leaves.1 files is in
-    quiet_end job files new _ _ out out_new err err_new before now (there job files refused.0 _ refused.1 (over_none job files _ _ refused.2.0 refused.2.1)) same says (leaves.0 ∙ is)
-stopped job old new (TooLong line) out out_new err err_new before now files leaves same says a b c is =
+    quiet_end job files old new _ _ (there job files refused.0 _ refused.1 (over_none job files _ _ refused.2.0 refused.2.1)) same says (leaves.0 ∙ is)
+stopped job old new (TooLong line) files leaves same says a b c is =
     let refused = leaves.1 files is in
-    quiet_end job files new _ _ out out_new err err_new before now (there job files refused.0 _ refused.1 (over_fault job files _ _ (key_fault.TooLong line) refused.2)) same says (leaves.0 ∙ is)
-stopped job old new TooMany out out_new err err_new before now files leaves same says a b c is =
+    quiet_end job files old new _ _ (there job files refused.0 _ refused.1 (over_fault job files _ _ (key_fault.TooLong line) refused.2)) same says (leaves.0 ∙ is)
+stopped job old new TooMany files leaves same says a b c is =
     let refused = leaves.1 files is in
-    quiet_end job files new _ _ out out_new err err_new before now (there job files refused.0 _ refused.1 (over_fault job files _ _ key_fault.TooMany refused.2)) same says (leaves.0 ∙ is)
+    quiet_end job files old new _ _ (there job files refused.0 _ refused.1 (over_fault job files _ _ key_fault.TooMany refused.2)) same says (leaves.0 ∙ is)
 
 -- if the keys file is there, there is an outcome
 none_there : (job : BuildJob) (files : Files) (bytes : List ℕ) → file_at files job.keys ≡ Some bytes → job_outcome files (Ok (Build job)) ≡ None → ⊥
@@ -118,29 +119,30 @@ kept job old new out out_new files (inl same) is none = same
 kept job old new out out_new files (inr left) is none = absurd (none_saved job files left.0 (left.2 files is) none)
 
 -- a build that stopped over files by which there is no outcome
-pub missing : (job : BuildJob) (old new : Option Files) (out out_new : Option (List ℕ)) (stop : Stop) (files : Files) → Leaves job old new out out_new (Err stop) → KeepsOut out out_new stop → old ≡ Some files → job_outcome files (Ok (Build job)) ≡ None → LacksFile (status_of stop) old new out out_new
-missing job old new out out_new Memory files leaves same is none = record { status_is = inr refl; files_are = kept job old new out out_new files leaves is none; out = same }
-missing job old new out out_new Read files leaves same is none = record { status_is = inl refl; files_are = leaves.0; out = same }
-missing job old new out out_new Write files leaves same is none = absurd (none_saved job files leaves.0 (leaves.2 files is) none)
-missing job old new out out_new WriteOut files leaves same is none = let refused = leaves.1 files is in absurd (none_there job files refused.0 refused.1 none)
-missing job old new out out_new (Refused failure) files leaves same is none = let refused = leaves.1 files is in absurd (none_there job files refused.0 refused.1 none)
-missing job old new out out_new (Changed first again) files leaves same is none = let refused = leaves.1 files is in absurd (none_there job files refused.0 refused.1 none)
-missing job old new out out_new Spill files leaves same is none = let refused = leaves.1 files is in absurd (none_there job files refused.0 refused.1 none)
-missing job old new out out_new (SpillDamaged offset expected found) files leaves same is none = let refused = leaves.1 files is in absurd (none_there job files refused.0 refused.1 none)
-missing job old new out out_new NoKeys files leaves same is none = let refused = leaves.1 files is in absurd (none_there job files refused.0 refused.1 none)
-missing job old new out out_new (TooLong line) files leaves same is none = let refused = leaves.1 files is in absurd (none_there job files refused.0 refused.1 none)
-missing job old new out out_new TooMany files leaves same is none = let refused = leaves.1 files is in absurd (none_there job files refused.0 refused.1 none)
+pub missing : (job : BuildJob) (old new : Outside) (stop : Stop) (files : Files) → Leaves job old.disk.files new.disk.files old.out.written new.out.written (Err stop) → KeepsOut old.out.written new.out.written stop → old.disk.files ≡ Some files → job_outcome files (Ok (Build job)) ≡ None → LacksFile old new (status_of stop)
+missing job old new Memory files leaves same is none = record { status_is = inr refl; files_are = kept job old.disk.files new.disk.files old.out.written new.out.written files leaves is none; out = same }
+missing job old new Read files leaves same is none = record { status_is = inl refl; files_are = leaves.0; out = same }
+missing job old new Write files leaves same is none = absurd (none_saved job files leaves.0 (leaves.2 files is) none)
+missing job old new WriteOut files leaves same is none = let refused = leaves.1 files is in absurd (none_there job files refused.0 refused.1 none)
+missing job old new (Refused failure) files leaves same is none = let refused = leaves.1 files is in absurd (none_there job files refused.0 refused.1 none)
+missing job old new (Changed first again) files leaves same is none = let refused = leaves.1 files is in absurd (none_there job files refused.0 refused.1 none)
+missing job old new Spill files leaves same is none = let refused = leaves.1 files is in absurd (none_there job files refused.0 refused.1 none)
+missing job old new (SpillDamaged offset expected found) files leaves same is none = let refused = leaves.1 files is in absurd (none_there job files refused.0 refused.1 none)
+missing job old new NoKeys files leaves same is none = let refused = leaves.1 files is in absurd (none_there job files refused.0 refused.1 none)
+missing job old new (TooLong line) files leaves same is none = let refused = leaves.1 files is in absurd (none_there job files refused.0 refused.1 none)
+missing job old new TooMany files leaves same is none = let refused = leaves.1 files is in absurd (none_there job files refused.0 refused.1 none)
 
 -- a build that came to its end
-pub finished : (job : BuildJob) (old new : Option Files) (s : Summary) (out out_new err err_new : Option (List ℕ)) (before now : ℕ) (files : Files) → Leaves job old new out out_new (Ok s) → out_new ≡ out → Says (built_message job s) err err_new before now → old ≡ Some files → Reaches (job_outcome files (Ok (Build job))) 0 out out_new err err_new before now new
-finished job old new s out out_new err err_new before now files leaves same says is =
+pub finished : (job : BuildJob) (old new : Outside) (s : Summary) (files : Files) → Leaves job old.disk.files new.disk.files old.out.written new.out.written (Ok s) → new.out.written ≡ old.out.written → Says old.err new.err (built_message job s) → old.disk.files ≡ Some files
+    → Reaches old new (job_outcome files (Ok (Build job))) 0
+finished job old new s files leaves same says is =
     let saves = leaves.2 files is in
     record {
       outcome = saving job files saves.0.f;
       is = outcome_saving job files leaves.0 saves.0;
       status_is = refl;
-      out = same ∙ then_nothing out;
-      err = subst (λ (t : Summary). Says (built_message job t) err err_new before now) saves.1 says;
+      out = same ∙ then_nothing old.out.written;
+      err = subst (λ (t : Summary). Says old.err new.err (built_message job t)) saves.1 says;
       files_are = leaves.1 ∙ ap (with_file job.function leaves.0) is ∙ ap (λ (dump : List ℕ). Some (map.insert files job.function dump)) saves.0.dump_is;
     }
 
@@ -172,24 +174,24 @@ part_of : (job : BuildJob) (old new : Option Files) {dump text : List ℕ} → d
 part_of job old new is part = subst (λ (bytes : List ℕ). IsPart job bytes old new) is part
 
 -- a build that could not write
-pub written_part : (job : BuildJob) (old new : Option Files) (out out_new err err_new : Option (List ℕ)) (before now err_before err_now : ℕ) (stop : Stop) (files : Files) → Leaves job old new out out_new (Err stop) → KeepsOut out out_new stop → HasStopForm job.algorithm stop → IsOutCause before now stop
-    → Says (message_of job.keys job.function job.dir stop) err err_new err_before err_now → old ≡ Some files → status_of stop ≡ 5 → IsUnfinished files old new out out_new err err_new before now err_before err_now job
-written_part job old new out out_new err err_new before now err_before err_now Memory files leaves same form count says is five = absurd (omega arith)
-written_part job old new out out_new err err_new before now err_before err_now Read files leaves same form count says is five = absurd (omega arith)
-written_part job old new out out_new err err_new before now err_before err_now Write files leaves same form count says is five =
+pub written_part : (job : BuildJob) (old new : Outside) (stop : Stop) (files : Files) → Leaves job old.disk.files new.disk.files old.out.written new.out.written (Err stop) → KeepsOut old.out.written new.out.written stop → HasStopForm job.algorithm stop → IsOutCause old.out.faults new.out.faults stop
+    → Says old.err new.err (message_of job.keys job.function job.dir stop) → old.disk.files ≡ Some files → status_of stop ≡ 5 → IsUnfinished old new files job
+written_part job old new Memory files leaves same form count says is five = absurd (omega arith)
+written_part job old new Read files leaves same form count says is five = absurd (omega arith)
+written_part job old new Write files leaves same form count says is five =
     let saves = leaves.2 files is in
-    record { text = _; says = says; part = inl (saves.f, outcome_saving job files leaves.0 saves, part_of job old new saves.dump_is leaves.1, same, count, refl) }
-written_part job old new out out_new err err_new before now err_before err_now WriteOut files leaves same form count says is five =
+    record { text = _; says = says; part = inl (saves.f, outcome_saving job files leaves.0 saves, part_of job old.disk.files new.disk.files saves.dump_is leaves.1, same, count, refl) }
+written_part job old new WriteOut files leaves same form count says is five =
     let refused = leaves.1 files is in
     let got = refused.2.2 in
     record { text = _; says = says; part = inr (inl (refused.2.0, got.0, outcome_reporting job files refused.0 refused.2.0 refused.1 refused.2.1, got.1, leaves.0, count.1, refl)) }
-written_part job old new out out_new err err_new before now err_before err_now (Refused failure) files leaves same form count says is five = absurd (omega arith)
-written_part job old new out out_new err err_new before now err_before err_now (Changed first again) files leaves same form count says is five = absurd (omega arith)
-written_part job old new out out_new err err_new before now err_before err_now Spill files leaves same form count says is five = record { text = _; says = says; part = inr (inr (form, leaves.0, same, count, refl)) }
-written_part job old new out out_new err err_new before now err_before err_now (SpillDamaged offset expected found) files leaves same form count says is five = absurd (omega arith)
-written_part job old new out out_new err err_new before now err_before err_now NoKeys files leaves same form count says is five = absurd (omega arith)
-written_part job old new out out_new err err_new before now err_before err_now (TooLong line) files leaves same form count says is five = absurd (omega arith)
-written_part job old new out out_new err err_new before now err_before err_now TooMany files leaves same form count says is five = absurd (omega arith)
+written_part job old new (Refused failure) files leaves same form count says is five = absurd (omega arith)
+written_part job old new (Changed first again) files leaves same form count says is five = absurd (omega arith)
+written_part job old new Spill files leaves same form count says is five = record { text = _; says = says; part = inr (inr (form, leaves.0, same, count, refl)) }
+written_part job old new (SpillDamaged offset expected found) files leaves same form count says is five = absurd (omega arith)
+written_part job old new NoKeys files leaves same form count says is five = absurd (omega arith)
+written_part job old new (TooLong line) files leaves same form count says is five = absurd (omega arith)
+written_part job old new TooMany files leaves same form count says is five = absurd (omega arith)
 
 -- a build for which memory ran out
 pub emptied : (job : BuildJob) (old new : Option Files) (out out_new : Option (List ℕ)) (stop : Stop) → Leaves job old new out out_new (Err stop) → status_of stop ≡ 6 → (new ≡ old) ⊎ IsEmptied old new job

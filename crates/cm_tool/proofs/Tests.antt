@@ -9,9 +9,9 @@ use Rattle.cm_keys.specs.Lines.{lines_of}
 use Rattle.cm_keys_made.specs.Numbered.{AreMade}
 use Rattle.cm_keys_made.specs.Texts.{made_text}
 use Rattle.cm_words_values.specs.Options.{algorithms, usual_ratio}
-use Rattle.cm_io.specs.Causes.{IsSent}
 use Rattle.cm_io.specs.Files.{Files}
 use Rattle.cm_io.specs.Passes.{HasKeyCause}
+use Rattle.cm_io.specs.States.{DiskState, IsSent, Outside, SinkState, outside}
 use Rattle.cm_io.specs.Writing.{then_bytes}
 use Rattle.cm_io.specs.WritingLaws.{front_of_first, later_front, then_nothing, then_twice}
 use Rattle.cm_io.specs.declared.key_pass.KeyFault.{KeyFault}
@@ -232,45 +232,46 @@ tested_files job files [] = refl
 tested_files job files (algorithm ∷ next) = then_files job algorithm files (tested.test_result job algorithm) (tested_by job files next) (tested_files job files next)
 
 -- a test that stopped
-outcome_stopped : (o : Outcome) (files : Files) (stop : Stop) (out out_new err err_new : Option (List ℕ)) (before now : ℕ) (new : Option Files) (dir : List ℕ) → o.files ≡ files → EndsTest o out out_new (Err stop)
-    → Says (message_of test_name [] dir stop) err err_new before now → status_of stop ≢ 5 → status_of stop ≢ 6 → new ≡ Some files → Reaches (Some o) (status_of stop) out out_new err err_new before now new
-outcome_stopped o files Memory out out_new err err_new before now new dir same ends says a b left = absurd (b refl)
-outcome_stopped o files Read out out_new err err_new before now new dir same ends says a b left = absurd ends
-outcome_stopped o files Write out out_new err err_new before now new dir same ends says a b left = absurd ends
-outcome_stopped o files WriteOut out out_new err err_new before now new dir same ends says a b left = absurd (a refl)
-outcome_stopped o files (Refused failure) out out_new err err_new before now new dir same ends says a b left = record {
+outcome_stopped : (o : Outcome) (files : Files) (stop : Stop) (old new : Outside) (dir : List ℕ) → o.files ≡ files → EndsTest o old.out.written new.out.written (Err stop)
+    → Says old.err new.err (message_of test_name [] dir stop) → status_of stop ≢ 5 → status_of stop ≢ 6 → new.disk.files ≡ Some files → Reaches old new (Some o) (status_of stop)
+outcome_stopped o files Memory old new dir same ends says a b left = absurd (b refl)
+outcome_stopped o files Read old new dir same ends says a b left = absurd ends
+outcome_stopped o files Write old new dir same ends says a b left = absurd ends
+outcome_stopped o files WriteOut old new dir same ends says a b left = absurd (a refl)
+outcome_stopped o files (Refused failure) old new dir same ends says a b left = record {
   outcome = o;
   is = refl;
   status_is = sym ends.0;
   out = ends.2;
-  err = subst (λ (t : List ℕ). Says t err err_new before now) (sym ends.1) says;
+  err = subst (λ (t : List ℕ). Says old.err new.err t) (sym ends.1) says;
   files_are = left ∙ ap Some (sym same);
 }
-outcome_stopped o files (Changed first again) out out_new err err_new before now new dir same ends says a b left = absurd ends
-outcome_stopped o files Spill out out_new err err_new before now new dir same ends says a b left = absurd (a refl)
-outcome_stopped o files (SpillDamaged offset expected found) out out_new err err_new before now new dir same ends says a b left = absurd ends
-outcome_stopped o files NoKeys out out_new err err_new before now new dir same ends says a b left = absurd ends
-outcome_stopped o files (TooLong line) out out_new err err_new before now new dir same ends says a b left = absurd ends
-outcome_stopped o files TooMany out out_new err err_new before now new dir same ends says a b left = absurd ends
+outcome_stopped o files (Changed first again) old new dir same ends says a b left = absurd ends
+outcome_stopped o files Spill old new dir same ends says a b left = absurd (a refl)
+outcome_stopped o files (SpillDamaged offset expected found) old new dir same ends says a b left = absurd ends
+outcome_stopped o files NoKeys old new dir same ends says a b left = absurd ends
+outcome_stopped o files (TooLong line) old new dir same ends says a b left = absurd ends
+outcome_stopped o files TooMany old new dir same ends says a b left = absurd ends
 
-pub test_stopped : (job : TestJob) (files : Files) (stop : Stop) (out out_new err err_new : Option (List ℕ)) (before now : ℕ) (new : Option Files) → EndsTest (tested.test_outcome job files) out out_new (Err stop)
-    → Says (message_of test_name [] job.dir stop) err err_new before now → status_of stop ≢ 5 → status_of stop ≢ 6 → new ≡ Some files → Reaches (Some (tested.test_outcome job files)) (status_of stop) out out_new err err_new before now new
-test_stopped job files stop out out_new err err_new before now new ends says a b left =
-    outcome_stopped (tested.test_outcome job files) files stop out out_new err err_new before now new job.dir (tested_files job files algorithms) ends says a b left
+pub test_stopped : (job : TestJob) (files : Files) (stop : Stop) (old new : Outside) → EndsTest (tested.test_outcome job files) old.out.written new.out.written (Err stop)
+    → Says old.err new.err (message_of test_name [] job.dir stop) → status_of stop ≢ 5 → status_of stop ≢ 6 → new.disk.files ≡ Some files → Reaches old new (Some (tested.test_outcome job files)) (status_of stop)
+test_stopped job files stop old new ends says a b left =
+    outcome_stopped (tested.test_outcome job files) files stop old new job.dir (tested_files job files algorithms) ends says a b left
 
 -- a test that came to its end
-outcome_done : (o : Outcome) (files : Files) (out out_new err : Option (List ℕ)) (count : ℕ) (new : Option Files) → o.files ≡ files → EndsTest o out out_new (Ok tt) → new ≡ Some files → Reaches (Some o) 0 out out_new err err count count new
-outcome_done o files out out_new err count new same ends left = record {
+outcome_done : (o : Outcome) (files : Files) (disk disk_new : DiskState) (out out_new err : SinkState) → o.files ≡ files → EndsTest o out.written out_new.written (Ok tt) → disk_new.files ≡ Some files → Reaches (outside disk out err) (outside disk_new out_new err) (Some o) 0
+outcome_done o files disk disk_new out out_new err same ends left = record {
   outcome = o;
   is = refl;
   status_is = sym ends.0;
   out = ends.2;
-  err = subst (λ (t : List ℕ). Says t err err count count) (sym ends.1) (nothing_said err count);
+  err = subst (λ (t : List ℕ). Says err err t) (sym ends.1) (nothing_said err);
   files_are = left ∙ ap Some (sym same);
 }
 
-pub test_done : (job : TestJob) (files : Files) (out out_new err : Option (List ℕ)) (count : ℕ) (new : Option Files) → EndsTest (tested.test_outcome job files) out out_new (Ok tt) → new ≡ Some files → Reaches (Some (tested.test_outcome job files)) 0 out out_new err err count count new
-test_done job files out out_new err count new ends left = outcome_done (tested.test_outcome job files) files out out_new err count new (tested_files job files algorithms) ends left
+pub test_done : (job : TestJob) (files : Files) (disk disk_new : DiskState) (out out_new err : SinkState) → EndsTest (tested.test_outcome job files) out.written out_new.written (Ok tt) → disk_new.files ≡ Some files
+    → Reaches (outside disk out err) (outside disk_new out_new err) (Some (tested.test_outcome job files)) 0
+test_done job files disk disk_new out out_new err ends left = outcome_done (tested.test_outcome job files) files disk disk_new out out_new err (tested_files job files algorithms) ends left
 
 -- neither the keys nor the spill change, and the keys have no fault
 pub never_changed : (o : Outcome) (old new : Option (List ℕ)) (stop : Stop) → EndsTest o old new (Err stop) → (status_of stop ≢ 7) × (status_of stop ≢ 8)
@@ -301,22 +302,22 @@ part_of_test o old new (TooLong line) ends either = absurd ends
 part_of_test o old new TooMany ends either = absurd ends
 
 -- a test that could not write
-pub unfinished_test : (job : TestJob) (files : Files) (out out_new err err_new : Option (List ℕ)) (before now err_before err_now : ℕ) (stop : Stop) → EndsTest (tested.test_outcome job files) out out_new (Err stop) → StopsSpilling job files algorithms out out_new stop → IsOutCause before now stop
-    → Says (message_of test_name [] job.dir stop) err err_new err_before err_now → status_of stop ≡ 5 → IsUnfinishedTest files out out_new err err_new before now err_before err_now job
-unfinished_test job files out out_new err err_new before now err_before err_now Memory ends spilling count says five = absurd (omega arith)
-unfinished_test job files out out_new err err_new before now err_before err_now Read ends spilling count says five = absurd ends
-unfinished_test job files out out_new err err_new before now err_before err_now Write ends spilling count says five = absurd ends
-unfinished_test job files out out_new err err_new before now err_before err_now WriteOut ends spilling count says five = record { text = _; says = says; part = inl (ends, count.1, refl) }
-unfinished_test job files out out_new err err_new before now err_before err_now (Refused failure) ends spilling count says five = absurd (omega arith)
-unfinished_test job files out out_new err err_new before now err_before err_now (Changed first again) ends spilling count says five = absurd (omega arith)
-unfinished_test job files out out_new err err_new before now err_before err_now Spill ends spilling count says five =
+pub unfinished_test : (job : TestJob) (files : Files) (old new : Outside) (stop : Stop) → EndsTest (tested.test_outcome job files) old.out.written new.out.written (Err stop) → StopsSpilling job files algorithms old.out.written new.out.written stop → IsOutCause old.out.faults new.out.faults stop
+    → Says old.err new.err (message_of test_name [] job.dir stop) → status_of stop ≡ 5 → IsUnfinishedTest old new files job
+unfinished_test job files old new Memory ends spilling count says five = absurd (omega arith)
+unfinished_test job files old new Read ends spilling count says five = absurd ends
+unfinished_test job files old new Write ends spilling count says five = absurd ends
+unfinished_test job files old new WriteOut ends spilling count says five = record { text = _; says = says; part = inl (ends, count.1, refl) }
+unfinished_test job files old new (Refused failure) ends spilling count says five = absurd (omega arith)
+unfinished_test job files old new (Changed first again) ends spilling count says five = absurd (omega arith)
+unfinished_test job files old new Spill ends spilling count says five =
     let first = before_brz spilling.0 spilling.1 spilling.2 spilling.3 spilling.4 in
-    let others = subst (λ (l : List Algorithm). EndsTest (tested_by job files l) out out_new (Ok tt)) first spilling.5 in
+    let others = subst (λ (l : List Algorithm). EndsTest (tested_by job files l) old.out.written new.out.written (Ok tt)) first spilling.5 in
     record { text = _; says = says; part = inr (others, count, refl) }
-unfinished_test job files out out_new err err_new before now err_before err_now (SpillDamaged offset expected found) ends spilling count says five = absurd (omega arith)
-unfinished_test job files out out_new err err_new before now err_before err_now NoKeys ends spilling count says five = absurd (omega arith)
-unfinished_test job files out out_new err err_new before now err_before err_now (TooLong line) ends spilling count says five = absurd (omega arith)
-unfinished_test job files out out_new err err_new before now err_before err_now TooMany ends spilling count says five = absurd (omega arith)
+unfinished_test job files old new (SpillDamaged offset expected found) ends spilling count says five = absurd (omega arith)
+unfinished_test job files old new NoKeys ends spilling count says five = absurd (omega arith)
+unfinished_test job files old new (TooLong line) ends spilling count says five = absurd (omega arith)
+unfinished_test job files old new TooMany ends spilling count says five = absurd (omega arith)
 
 -- the message of a test that stopped goes with its status
 differs_by : (algorithm : Algorithm) (first again : ℕ) → IsChangeBy algorithm first again → again ≢ first
@@ -383,9 +384,9 @@ test_known algorithm (TooLong line) form = λ e. omega (arith, e)
 test_known algorithm TooMany form = λ e. omega (arith, e)
 
 -- nothing waits after what was sent on, and then something more
-pub sent_on : (w1 w2 f0 f1 f2 : ℕ) → f1 ≡ f0 → IsSent w1 f0 f1 → (w1 ≡ 0 → IsSent w2 f1 f2) → IsSent w2 f0 f2
-sent_on w1 w2 f0 f1 f2 same first next = λ low. elim (first low) [
-  | inl none ↦ subst (λ (f : ℕ). IsSent w2 f f2) same (next none) low
+pub sent_on : (a b d : SinkState) → b.faults ≡ a.faults → IsSent a b → (b.waits ≡ 0 → IsSent b d) → IsSent a d
+sent_on a b d same first next = λ low. elim (first low) [
+  | inl none ↦ subst (λ (f : ℕ). f < 2 ^ 63 → (d.waits ≡ 0) ⊎ (f < d.faults)) same (next none) low
   | inr rose ↦ absurd (omega (arith, rose, same))
 ]
 

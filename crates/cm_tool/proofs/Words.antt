@@ -2,6 +2,7 @@
 use Rattle.std.proofs.Common.{◌≡◌, ◌≢◌, ◌∙◌, ◌⊎◌, ℕ, List, [], Option, None, Some, Ok, Err, inl, inr, refl, ap, sym, subst, arith}
 use Rattle.cm_algo_names.specs.declared.algorithm.Algorithm.TheVariants.{Chm}
 use Rattle.cm_io.specs.Files.{Files}
+use Rattle.cm_io.specs.States.{Outside, SinkState, outside}
 use Rattle.cm_io.specs.Writing.{then_bytes}
 use Rattle.cm_io.specs.WritingLaws.{then_nothing}
 use Rattle.cm_tool_stops.specs.Ends.{Says, usage_status_of}
@@ -49,13 +50,13 @@ early_tested (Ok (Query job)) files old = tt
 early_tested (Ok (Test job)) files old = got_nothing (test_outcome job files).out old old refl
 
 -- memory runs out before the job is known
-early_cut : (asked : Reading Job) (files : Files) (out err err_new : Option (List ℕ)) (before now : ℕ) → Says out_of_memory err err_new before now → ForQuery asked (IsCutShort files 6 out out err err_new before now)
-early_cut (Err fault) files out err err_new before now says = tt
-early_cut (Ok Help) files out err err_new before now says = tt
-early_cut (Ok Version) files out err err_new before now says = tt
-early_cut (Ok (Build job)) files out err err_new before now says = tt
-early_cut (Ok (Query job)) files out err err_new before now says = record { notes = []; text = out_of_memory; says = says; read = λ e. absurd (omega arith); write = λ e. absurd (omega arith); memory = λ e. ((refl, refl), refl) }
-early_cut (Ok (Test job)) files out err err_new before now says = tt
+early_cut : (asked : Reading Job) (files : Files) (old : Outside) (err : SinkState) → Says old.err err out_of_memory → ForQuery asked (IsCutShort old (outside old.disk old.out err) files 6)
+early_cut (Err fault) files old err says = tt
+early_cut (Ok Help) files old err says = tt
+early_cut (Ok Version) files old err says = tt
+early_cut (Ok (Build job)) files old err says = tt
+early_cut (Ok (Query job)) files old err says = record { notes = []; text = out_of_memory; says = says; read = λ e. absurd (omega arith); write = λ e. absurd (omega arith); memory = λ e. ((refl, refl), refl) }
+early_cut (Ok (Test job)) files old err says = tt
 
 early_message : (asked : Reading Job) (out now : ℕ) → now ≡ out → IsMessage asked out now 6 out_of_memory
 early_message (Err fault) out now same = record { refused = λ e. absurd (omega arith); memory = λ e. refl }
@@ -66,12 +67,12 @@ early_message (Ok (Query job)) out now same = query_message_is job query_stop.Me
 early_message (Ok (Test job)) out now same = test_message job Chm out now stop.Memory tt same
 
 -- arguments that ask for no job
-misused : (fault : UsageFault) (files : Files) (old : Option Files) (out err err_new : Option (List ℕ)) (before now : ℕ) → Says (usage_message fault) err err_new before now → old ≡ Some files → Reaches (job_outcome files (Err fault)) 2 out out err err_new before now old
-misused fault files old out err err_new before now says is = record {
+misused : (fault : UsageFault) (files : Files) (old : Outside) (err : SinkState) → Says old.err err (usage_message fault) → old.disk.files ≡ Some files → Reaches old (outside old.disk old.out err) (job_outcome files (Err fault)) 2
+misused fault files old err says is = record {
   outcome = refusal 2 (usage_message fault) files;
   is = refl;
   status_is = refl;
-  out = then_nothing out;
+  out = then_nothing old.out.written;
   err = says;
   files_are = is;
 }
@@ -80,9 +81,9 @@ misused_message : (fault : UsageFault) (out now : ℕ) → IsMessage (Err fault)
 misused_message fault out now = record { refused = λ e. refl; memory = λ e. absurd (omega arith) }
 
 -- a text that was printed
-pub printed : (text : List ℕ) (files : Files) (found : Option Outcome) (old : Option Files) (out out_new err err_new : Option (List ℕ)) (before now : ℕ) → found ≡ Some (printing text files) → out_new ≡ then_bytes out text → Says [] err err_new before now → old ≡ Some files
-    → Reaches found 0 out out_new err err_new before now old
-printed text files found old out out_new err err_new before now found_is wrote says is = record {
+pub printed : (text : List ℕ) (files : Files) (found : Option Outcome) (old : Outside) (out err : SinkState) → found ≡ Some (printing text files) → out.written ≡ then_bytes old.out.written text → Says old.err err [] → old.disk.files ≡ Some files
+    → Reaches old (outside old.disk out err) found 0
+printed text files found old out err found_is wrote says is = record {
   outcome = printing text files;
   is = found_is;
   status_is = refl;
@@ -91,31 +92,31 @@ printed text files found old out out_new err err_new before now found_is wrote s
   files_are = is;
 }
 
-pub says_none : {old new : Option (List ℕ)} {before now : ℕ} → new ≡ old → now ≡ before → Says [] old new before now
-says_none {old = old} {before = before} same fine = rw (same, fine) (nothing_said old before)
+pub says_none : {old new : SinkState} → new.written ≡ old.written → new.faults ≡ old.faults → Says old new []
+says_none {old = old} same fine = record { front = (0, same ∙ then_nothing old.written); whole = λ _ _. same ∙ then_nothing old.written }
 
 -- what arguments that asked for no job, or for which memory ran out, came to
-refused_for : (asked : Reading Job) (fault : UsageFault) (files : Files) (old : Option Files) (out err err_new : Option (List ℕ)) (before now : ℕ) → Err fault ≡ asked → Says (usage_message fault) err err_new before now → old ≡ Some files → Reaches (job_outcome files asked) 2 out out err err_new before now old
-refused_for asked fault files old out err err_new before now is says there = subst (λ (a : Reading Job). Reaches (job_outcome files a) 2 out out err err_new before now old) is (misused fault files old out err err_new before now says there)
+refused_for : (asked : Reading Job) (fault : UsageFault) (files : Files) (old : Outside) (err : SinkState) → Err fault ≡ asked → Says old.err err (usage_message fault) → old.disk.files ≡ Some files → Reaches old (outside old.disk old.out err) (job_outcome files asked) 2
+refused_for asked fault files old err is says there = subst (λ (a : Reading Job). Reaches old (outside old.disk old.out err) (job_outcome files a) 2) is (misused fault files old err says there)
 
 -- a fault of arguments, if memory did not run out, is what they ask for
 faulty : (asked : Reading Job) (fault : UsageFault) → usage_status_of fault ≢ 6 → (fault ≡ usage.Memory) ⊎ (Err fault ≡ asked) → Err fault ≡ asked
 faulty asked fault other (inl memory) = absurd (other (ap usage_status_of memory))
 faulty asked fault other (inr is) = is
 
-pub usage_outcome : (asked : Reading Job) (fault : UsageFault) (files : Files) (old : Option Files) (out err err_new : Option (List ℕ)) (before now : ℕ) → (fault ≡ usage.Memory) ⊎ (Err fault ≡ asked) → Says (usage_message fault) err err_new before now → usage_status_of fault ≢ 6 → old ≡ Some files
-    → Reaches (job_outcome files asked) (usage_status_of fault) out out err err_new before now old
-usage_outcome asked usage.Memory files old out err err_new before now either says other there = absurd (other refl)
-usage_outcome asked usage.Words files old out err err_new before now either says other there = refused_for asked usage.Words files old out err err_new before now (faulty asked usage.Words other either) says there
-usage_outcome asked (usage.BadValue letter) files old out err err_new before now either says other there = refused_for asked (usage.BadValue letter) files old out err err_new before now (faulty asked (usage.BadValue letter) other either) says there
-usage_outcome asked usage.NoFile files old out err err_new before now either says other there = refused_for asked usage.NoFile files old out err err_new before now (faulty asked usage.NoFile other either) says there
+pub usage_outcome : (asked : Reading Job) (fault : UsageFault) (files : Files) (old : Outside) (err : SinkState) → (fault ≡ usage.Memory) ⊎ (Err fault ≡ asked) → Says old.err err (usage_message fault) → usage_status_of fault ≢ 6 → old.disk.files ≡ Some files
+    → Reaches old (outside old.disk old.out err) (job_outcome files asked) (usage_status_of fault)
+usage_outcome asked usage.Memory files old err either says other there = absurd (other refl)
+usage_outcome asked usage.Words files old err either says other there = refused_for asked usage.Words files old err (faulty asked usage.Words other either) says there
+usage_outcome asked (usage.BadValue letter) files old err either says other there = refused_for asked (usage.BadValue letter) files old err (faulty asked (usage.BadValue letter) other either) says there
+usage_outcome asked usage.NoFile files old err either says other there = refused_for asked usage.NoFile files old err (faulty asked usage.NoFile other either) says there
 
-pub usage_cut : (asked : Reading Job) (fault : UsageFault) (files : Files) (out err err_new : Option (List ℕ)) (before now : ℕ) → Says (usage_message fault) err err_new before now → (usage_status_of fault ≡ 4) ⊎ (usage_status_of fault ≡ 5) ⊎ (usage_status_of fault ≡ 6)
-    → ForQuery asked (IsCutShort files (usage_status_of fault) out out err err_new before now)
-usage_cut asked usage.Memory files out err err_new before now says either = early_cut asked files out err err_new before now says
-usage_cut asked usage.Words files out err err_new before now says either = absurd (omega (arith, either))
-usage_cut asked (usage.BadValue letter) files out err err_new before now says either = absurd (omega (arith, either))
-usage_cut asked usage.NoFile files out err err_new before now says either = absurd (omega (arith, either))
+pub usage_cut : (asked : Reading Job) (fault : UsageFault) (files : Files) (old : Outside) (err : SinkState) → Says old.err err (usage_message fault) → (usage_status_of fault ≡ 4) ⊎ (usage_status_of fault ≡ 5) ⊎ (usage_status_of fault ≡ 6)
+    → ForQuery asked (IsCutShort old (outside old.disk old.out err) files (usage_status_of fault))
+usage_cut asked usage.Memory files old err says either = early_cut asked files old err says
+usage_cut asked usage.Words files old err says either = absurd (omega (arith, either))
+usage_cut asked (usage.BadValue letter) files old err says either = absurd (omega (arith, either))
+usage_cut asked usage.NoFile files old err says either = absurd (omega (arith, either))
 
 message_for : (asked : Reading Job) (fault : UsageFault) (out now : ℕ) → Err fault ≡ asked → IsMessage asked out now 2 (usage_message fault)
 message_for asked fault out now is = subst (λ (a : Reading Job). IsMessage a out now 2 (usage_message fault)) is (misused_message fault out now)
@@ -157,8 +158,8 @@ text_missing asked job files o is found none = absurd (none_some (sym none ∙ a
 misused_missing : {P : Type 0} (asked : Reading Job) (fault : UsageFault) (files : Files) → Err fault ≡ asked → job_outcome files asked ≡ None → P
 misused_missing asked fault files is none = absurd (none_some (sym none ∙ ap (job_outcome files) (sym is)))
 
-pub usage_missing : (asked : Reading Job) (fault : UsageFault) (files : Files) (known : Option Files) (out : Option (List ℕ)) → (fault ≡ usage.Memory) ⊎ (Err fault ≡ asked) → job_outcome files asked ≡ None → LacksFile (usage_status_of fault) known known out out
-usage_missing asked usage.Memory files known out either none = record { status_is = inr refl; files_are = refl; out = refl }
-usage_missing asked usage.Words files known out either none = misused_missing asked usage.Words files (faulty asked usage.Words (λ e. omega (arith, e)) either) none
-usage_missing asked (usage.BadValue letter) files known out either none = misused_missing asked (usage.BadValue letter) files (faulty asked (usage.BadValue letter) (λ e. omega (arith, e)) either) none
-usage_missing asked usage.NoFile files known out either none = misused_missing asked usage.NoFile files (faulty asked usage.NoFile (λ e. omega (arith, e)) either) none
+pub usage_missing : (asked : Reading Job) (fault : UsageFault) (files : Files) (old : Outside) (err : SinkState) → (fault ≡ usage.Memory) ⊎ (Err fault ≡ asked) → job_outcome files asked ≡ None → LacksFile old (outside old.disk old.out err) (usage_status_of fault)
+usage_missing asked usage.Memory files old err either none = record { status_is = inr refl; files_are = refl; out = refl }
+usage_missing asked usage.Words files old err either none = misused_missing asked usage.Words files (faulty asked usage.Words (λ e. omega (arith, e)) either) none
+usage_missing asked (usage.BadValue letter) files old err either none = misused_missing asked (usage.BadValue letter) files (faulty asked (usage.BadValue letter) (λ e. omega (arith, e)) either) none
+usage_missing asked usage.NoFile files old err either none = misused_missing asked usage.NoFile files (faulty asked usage.NoFile (λ e. omega (arith, e)) either) none

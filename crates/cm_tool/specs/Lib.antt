@@ -7,3 +7,4 @@ pub mod Outcome
 pub mod TestEnds
 pub mod Leaves
 pub mod Run
+pub mod Runs

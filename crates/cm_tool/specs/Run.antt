@@ -13,6 +13,7 @@ use Rattle.cm_func.specs.declared.function.Func.TheVariants as func
 use Rattle.cm_dump_items.specs.declared.fault.LoadFault.{LoadFault}
 use Rattle.cm_io.specs.Causes.{Rose}
 use Rattle.cm_io.specs.Files.{Files, file_at, with_file}
+use Rattle.cm_io.specs.States.{Outside}
 use Rattle.cm_io.specs.Writing.{then_bytes}
 use Rattle.cm_spec.specs.Lists.{has}
 use Rattle.cm_tool_files.specs.Asked.{AskedPart, GotNothing, Spells, keys_at}
@@ -105,19 +106,19 @@ UnlessJob (Err fault) P = P
 UnlessJob asked P = Unit {0}
 
 -- the outcome is what came
-pub record Reaches (found : Option Outcome) (status : ℕ) (out_old out_new err_old err_new : Option (List ℕ)) (err_before err_now : ℕ) (files_new : Option Files) : Type 0 where
+pub record Reaches (old new : Outside) (found : Option Outcome) (status : ℕ) : Type 0 where
   pub outcome : Outcome
   pub is : found ≡ Some outcome
   pub status_is : status ≡ outcome.status
-  pub out : out_new ≡ then_bytes out_old outcome.out
-  pub err : Says outcome.err err_old err_new err_before err_now
-  pub files_are : files_new ≡ Some outcome.files
+  pub out : new.out.written ≡ then_bytes old.out.written outcome.out
+  pub err : Says old.err new.err outcome.err
+  pub files_are : new.disk.files ≡ Some outcome.files
 
 -- a file that is needed isn't there: nothing was done
-pub record LacksFile (status : ℕ) (files_old files_new : Option Files) (out_old out_new : Option (List ℕ)) : Type 0 where
+pub record LacksFile (old new : Outside) (status : ℕ) : Type 0 where
   pub status_is : (status ≡ 4) ⊎ (status ≡ 6)
-  pub files_are : files_new ≡ files_old
-  pub out : out_new ≡ out_old
+  pub files_are : new.disk.files ≡ old.disk.files
+  pub out : new.out.written ≡ old.out.written
 
 -- a build saved a function under the first seed whose graph of the keys has an empty 2-core; by BRZ under the first that splits the
 -- keys, and in each bucket with keys under the first whose graph of those has an empty 2-core
@@ -155,23 +156,24 @@ IsCored files job = (bytes : List ℕ) × (file_at files job.keys ≡ Some bytes
 
 -- the outcome saves a function, of whose dump the function file holds a prefix, or the files are as before; out got nothing, and the
 -- message names the function file
-abbrev pub SavedPart : Files → Option Files → Option Files → Option (List ℕ) → Option (List ℕ) → ℕ → ℕ → List ℕ → BuildJob → Type 0
-SavedPart files old new out_old out_new before now text job = (f : Func) × (job_outcome files (Ok (Build job)) ≡ Some (saving job files f)) × IsPart job (dump_of f) old new × (out_new ≡ out_old) × (now ≡ before) × (text ≡ cannot_write job.function)
+abbrev pub SavedPart : Outside → Outside → Files → List ℕ → BuildJob → Type 0
+SavedPart old new files text job =
+    (f : Func) × (job_outcome files (Ok (Build job)) ≡ Some (saving job files f)) × IsPart job (dump_of f) old.disk.files new.disk.files × (new.out.written ≡ old.out.written) × (new.out.faults ≡ old.out.faults) × (text ≡ cannot_write job.function)
 
 -- the outcome shows a report, of which out got a prefix, and its count rose; the files are as before, and the message is that of out
-abbrev pub ReportedPart : Files → Option Files → Option Files → Option (List ℕ) → Option (List ℕ) → ℕ → ℕ → List ℕ → BuildJob → Type 0
-ReportedPart files old new out_old out_new before now text job =
-    (shown : FailureReport) × (n : ℕ) × (job_outcome files (Ok (Build job)) ≡ Some (reporting files shown)) × (out_new ≡ then_bytes out_old (take n shown.report)) × (new ≡ old) × Rose before now × (text ≡ cannot_write_out)
+abbrev pub ReportedPart : Outside → Outside → Files → List ℕ → BuildJob → Type 0
+ReportedPart old new files text job =
+    (shown : FailureReport) × (n : ℕ) × (job_outcome files (Ok (Build job)) ≡ Some (reporting files shown)) × (new.out.written ≡ then_bytes old.out.written (take n shown.report)) × (new.disk.files ≡ old.disk.files) × Rose old.out.faults new.out.faults × (text ≡ cannot_write_out)
 
 -- the spill of a build by BRZ failed; the files are as before, out got nothing, and the message names the directory
-abbrev pub FailedSpill : Option Files → Option Files → Option (List ℕ) → Option (List ℕ) → ℕ → ℕ → List ℕ → BuildJob → Type 0
-FailedSpill old new out_old out_new before now text job = UsesSpill job.algorithm × (new ≡ old) × (out_new ≡ out_old) × (now ≡ before) × (text ≡ cannot_use_spill job.dir)
+abbrev pub FailedSpill : Outside → Outside → List ℕ → BuildJob → Type 0
+FailedSpill old new text job = UsesSpill job.algorithm × (new.disk.files ≡ old.disk.files) × (new.out.written ≡ old.out.written) × (new.out.faults ≡ old.out.faults) × (text ≡ cannot_use_spill job.dir)
 
--- what a build that could not write leaves of the files and of out, by what its message names, with the count of out before and now
-pub record IsUnfinished (files : Files) (old new : Option Files) (out_old out_new err_old err_new : Option (List ℕ)) (before now err_before err_now : ℕ) (job : BuildJob) : Type 0 where
+-- what a build that could not write leaves of the files and of out, by what its message names
+pub record IsUnfinished (old new : Outside) (files : Files) (job : BuildJob) : Type 0 where
   pub text : List ℕ
-  pub says : Says text err_old err_new err_before err_now
-  pub part : SavedPart files old new out_old out_new before now text job ⊎ ReportedPart files old new out_old out_new before now text job ⊎ FailedSpill old new out_old out_new before now text job
+  pub says : Says old.err new.err text
+  pub part : SavedPart old new files text job ⊎ ReportedPart old new files text job ⊎ FailedSpill old new text job
 
 -- the outcome saves a function, and the function file is empty
 abbrev pub IsEmptied : Option Files → Option Files → BuildJob → Type 0
@@ -217,13 +219,13 @@ pub record IsQueryMessage (job : QueryJob) (status : ℕ) (text : List ℕ) : Ty
   pub keys : status ≡ 8 → (text ≡ too_many_keys job.keys) ⊎ ((line : ℕ) × (text ≡ line_too_long job.keys line))
 
 -- a query that a fault cut short, or for which memory ran out: err got the notes of the keys that were answered, and the message
-pub record IsCutShort (files : Files) (status : ℕ) (out_old out_new err_old err_new : Option (List ℕ)) (err_before err_now : ℕ) (job : QueryJob) : Type 0 where
+pub record IsCutShort (old new : Outside) (files : Files) (status : ℕ) (job : QueryJob) : Type 0 where
   pub notes : List ℕ
   pub text : List ℕ
-  pub says : Says (notes ++ text) err_old err_new err_before err_now
-  pub read : status ≡ 4 → StoppedReading files out_old out_new notes text job
-  pub write : status ≡ 5 → StoppedWriting files out_old out_new notes text job
-  pub memory : status ≡ 6 → GotNothing out_old out_new notes × (text ≡ out_of_memory)
+  pub says : Says old.err new.err (notes ++ text)
+  pub read : status ≡ 4 → StoppedReading files old.out.written new.out.written notes text job
+  pub write : status ≡ 5 → StoppedWriting files old.out.written new.out.written notes text job
+  pub memory : status ≡ 6 → GotNothing old.out.written new.out.written notes × (text ≡ out_of_memory)
 
 -- the message of arguments that ask for no job
 pub record IsUsageMessage (fault : UsageFault) (status : ℕ) (text : List ℕ) : Type 0 where

@@ -4,6 +4,7 @@ use Rattle.cm_algo_names.specs.declared.algorithm.Algorithm.{Algorithm}
 use Rattle.cm_algo_names.specs.declared.algorithm.Algorithm.TheVariants.{Chm, Bdz, BdzPh}
 use Rattle.cm_io.specs.Causes.{Rose}
 use Rattle.cm_io.specs.Files.{Files}
+use Rattle.cm_io.specs.States.{Outside, SinkState}
 use Rattle.cm_io.specs.Writing.{then_bytes}
 use Rattle.cm_tool_stops.specs.Ends.{Says}
 use Rattle.cm_tool_stops.specs.Messages.{cannot_use_spill, cannot_write_out, keys_changed, line_too_long, no_keys, out_of_memory, seed_failure_message, spill_damaged, too_many_keys}
@@ -73,15 +74,15 @@ pub record IsTestMessage (job : TestJob) (before now status : ℕ) (text : List 
   pub keys : status ≡ 8 → (text ≡ no_keys test_name) ⊎ (text ≡ too_many_keys test_name) ⊎ ((line : ℕ) × (text ≡ line_too_long test_name line))
 
 -- out failed, and got a prefix of what the test prints; the message is that of out
-abbrev pub PrintedPart : Files → Option (List ℕ) → Option (List ℕ) → ℕ → ℕ → List ℕ → TestJob → Type 0
-PrintedPart files old new before now text job = GotPrefix (test_outcome job files).out old new × Rose before now × (text ≡ cannot_write_out)
+abbrev pub PrintedPart : SinkState → SinkState → Files → List ℕ → TestJob → Type 0
+PrintedPart old new files text job = GotPrefix (test_outcome job files).out old.written new.written × Rose old.faults new.faults × (text ≡ cannot_write_out)
 
 -- the spill of BRZ failed, after out got the lines of the other algorithms; the message names the directory
-abbrev pub PrintedOthers : Files → Option (List ℕ) → Option (List ℕ) → ℕ → ℕ → List ℕ → TestJob → Type 0
-PrintedOthers files old new before now text job = EndsTest (tested_by job files (Chm ∷ Bdz ∷ BdzPh ∷ [])) old new (Ok tt) × (now ≡ before) × (text ≡ cannot_use_spill job.dir)
+abbrev pub PrintedOthers : SinkState → SinkState → Files → List ℕ → TestJob → Type 0
+PrintedOthers old new files text job = EndsTest (tested_by job files (Chm ∷ Bdz ∷ BdzPh ∷ [])) old.written new.written (Ok tt) × (new.faults ≡ old.faults) × (text ≡ cannot_use_spill job.dir)
 
--- what a test that could not write leaves of out, by what its message names, with the count of out before and now
-pub record IsUnfinishedTest (files : Files) (out_old out_new err_old err_new : Option (List ℕ)) (before now err_before err_now : ℕ) (job : TestJob) : Type 0 where
+-- what a test that could not write leaves of out, by what its message names
+pub record IsUnfinishedTest (old new : Outside) (files : Files) (job : TestJob) : Type 0 where
   pub text : List ℕ
-  pub says : Says text err_old err_new err_before err_now
-  pub part : PrintedPart files out_old out_new before now text job ⊎ PrintedOthers files out_old out_new before now text job
+  pub says : Says old.err new.err text
+  pub part : PrintedPart old.out new.out files text job ⊎ PrintedOthers old.out new.out files text job

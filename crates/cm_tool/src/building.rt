@@ -2,7 +2,8 @@
 ghost use Rattle.std.specs.Prelude.{◌≡◌, ◌≢◌, ◌<◌, ◌≤◌, ◌⊎◌, ◌↔◌, ◌^◌, ℕ, List, Option, None, Some, Ok, IfOk, IfErr};
 ghost use Rattle.std.specs.Option.{ForSome};
 ghost use Rattle.cm_func.specs.Functions.{IsFunction};
-ghost use Rattle.cm_io.specs.Causes.{HasCause, IsSent};
+ghost use Rattle.cm_io.specs.Causes.{HasCause};
+ghost use Rattle.cm_io.specs.States.{IsSent, SinkState, outside};
 ghost use Rattle.cm_io.specs.Files.{file_at};
 ghost use Rattle.cm_io.specs.Writing.{Writes};
 ghost use Rattle.cm_tool_stops.specs.Ends.{Says};
@@ -55,9 +56,9 @@ fn stop_of_key(fault: KeyFault) -> Stop
 
 /// Flushes out after a report was written, and returns why the build stops.
 fn end_report<O: Sink>(written: Result<(), Failed>, failure: SeedFailure, out: &mut O) -> Stop
-    ensures shown { (report : List ℕ) (old : Option (List ℕ)) → Writes old (O.written out.old) report written → GotReport (record { failure = failure; report = report }) old (O.written out.new) result }
-    ensures cause { (before : ℕ) → HasCause before (O.faults out.old) written → IsOutCause before (O.faults out.new) result }
-    ensures sent { (before : ℕ) → HasCause before (O.faults out.old) written → IsSent (O.waits out.new) before (O.faults out.new) }
+    ensures shown { (report : List ℕ) (old : Option (List ℕ)) → Writes old (O.state out.old).written report written → GotReport (record { failure = failure; report = report }) old (O.state out.new).written result }
+    ensures cause { (before : ℕ) → HasCause before (O.state out.old).faults written → IsOutCause before (O.state out.new).faults result }
+    ensures sent { (before : SinkState) → HasCause before.faults (O.state out.old).faults written → IsSent before (O.state out.new) }
 {
     match send_text(written, out) {
         Ok(()) => Stop::Refused(failure),
@@ -79,9 +80,9 @@ fn seed_failure_for(certificate: &Certificate) -> SeedFailure
 
 /// Writes a certificate to out and flushes it, and returns why the build stops.
 fn show_core<O: Sink>(certificate: &Certificate, out: &mut O) -> Stop
-    ensures shown { GotReport (shown_core certificate.now) (O.written out.old) (O.written out.new) result }
-    ensures cause { IsOutCause (O.faults out.old) (O.faults out.new) result }
-    ensures sent { IsSent (O.waits out.new) (O.faults out.old) (O.faults out.new) }
+    ensures shown { GotReport (shown_core certificate.now) (O.state out.old).written (O.state out.new).written result }
+    ensures cause { IsOutCause (O.state out.old).faults (O.state out.new).faults result }
+    ensures sent { IsSent (O.state out.old) (O.state out.new) }
 {
     let failure = seed_failure_for(certificate);
     let written = certificate.write(out);
@@ -90,9 +91,9 @@ fn show_core<O: Sink>(certificate: &Certificate, out: &mut O) -> Stop
 
 /// Writes the report on an overfull bucket to out and flushes it, and returns why the build stops.
 fn show_overfull<O: Sink>(seed: u32, bucket: u32, count: u32, equal: &[Pair], out: &mut O) -> Stop
-    ensures shown { GotReport (shown_overfull seed bucket count equal.now) (O.written out.old) (O.written out.new) result }
-    ensures cause { IsOutCause (O.faults out.old) (O.faults out.new) result }
-    ensures sent { IsSent (O.waits out.new) (O.faults out.old) (O.faults out.new) }
+    ensures shown { GotReport (shown_overfull seed bucket count equal.now) (O.state out.old).written (O.state out.new).written result }
+    ensures cause { IsOutCause (O.state out.old).faults (O.state out.new).faults result }
+    ensures sent { IsSent (O.state out.old) (O.state out.new) }
 {
     let written = write_overfull(seed, bucket, count, equal, out);
     end_report(written, SeedFailure::NoSplit, out)
@@ -100,10 +101,10 @@ fn show_overfull<O: Sink>(seed: u32, bucket: u32, count: u32, equal: &[Pair], ou
 
 /// Why a fault stops a job. A report is written to out first.
 pub(crate) fn stop_of<O: Sink>(fault: FuncFault, out: &mut O) -> Stop
-    ensures stops { StopsFor fault (O.written out.old) (O.written out.new) result }
-    ensures cause { IsOutCause (O.faults out.old) (O.faults out.new) result }
-    ensures out { KeepsOut (O.written out.old) (O.written out.new) result }
-    ensures sent { O.waits out.old ≡ 0 → IsSent (O.waits out.new) (O.faults out.old) (O.faults out.new) }
+    ensures stops { StopsFor fault (O.state out.old).written (O.state out.new).written result }
+    ensures cause { IsOutCause (O.state out.old).faults (O.state out.new).faults result }
+    ensures out { KeepsOut (O.state out.old).written (O.state out.new).written result }
+    ensures sent { (O.state out.old).waits ≡ 0 → IsSent (O.state out.old) (O.state out.new) }
 {
     match fault {
         FuncFault::Memory => Stop::Memory,
@@ -139,17 +140,17 @@ fn function_of<D: Disk, O: Sink>(
     out: &mut O,
 ) -> Result<Func, Stop>
     requires job { IsBuild job.now }
-    ensures files { D.files disk.new ≡ D.files disk.old }
-    ensures cause { HasStopCause (D.read_faults disk.old) (D.read_faults disk.new) (D.write_faults disk.old) (D.write_faults disk.new) result }
-    ensures made { IfOk result (λ f. ForSome (D.files disk.old) (λ files. (bytes : List ℕ) × (file_at files job.now.keys ≡ Some bytes) × IsFunctionOf job.now bytes f)) }
-    ensures spilled { IfOk result (λ f. ForSome (D.files disk.old) (λ files. (bytes : List ℕ) × (file_at files job.now.keys ≡ Some bytes) × HasSpilled f (keys_in job.now.first bytes).keys (D.spilled disk.old) (D.spilled disk.new))) }
-    ensures unspilled { UnlessSpilled job.now.algorithm (D.spilled disk.new ≡ D.spilled disk.old) }
+    ensures files { (D.state disk.new).files ≡ (D.state disk.old).files }
+    ensures cause { HasStopCause (D.state disk.old).read_faults (D.state disk.new).read_faults (D.state disk.old).write_faults (D.state disk.new).write_faults result }
+    ensures made { IfOk result (λ f. ForSome (D.state disk.old).files (λ files. (bytes : List ℕ) × (file_at files job.now.keys ≡ Some bytes) × IsFunctionOf job.now bytes f)) }
+    ensures spilled { IfOk result (λ f. ForSome (D.state disk.old).files (λ files. (bytes : List ℕ) × (file_at files job.now.keys ≡ Some bytes) × HasSpilled f (keys_in job.now.first bytes).keys (D.state disk.old).spilled (D.state disk.new).spilled)) }
+    ensures unspilled { UnlessSpilled job.now.algorithm ((D.state disk.new).spilled ≡ (D.state disk.old).spilled) }
     ensures valid { IfOk result IsFunction }
-    ensures refused { IfErr result (λ stop. ForSome (D.files disk.old) (λ files. IsRefused job.now files (O.written out.old) (O.written out.new) stop)) }
+    ensures refused { IfErr result (λ stop. ForSome (D.state disk.old).files (λ files. IsRefused job.now files (O.state out.old).written (O.state out.new).written stop)) }
     ensures form { IfErr result (HasStopForm job.now.algorithm) }
-    ensures out { HasKeptOut (O.written out.old) (O.written out.new) result }
-    ensures out_cause { HasOutCause (O.faults out.old) (O.faults out.new) result }
-    ensures sent { O.waits out.old ≡ 0 → IsSent (O.waits out.new) (O.faults out.old) (O.faults out.new) }
+    ensures out { HasKeptOut (O.state out.old).written (O.state out.new).written result }
+    ensures out_cause { HasOutCause (O.state out.old).faults (O.state out.new).faults result }
+    ensures sent { (O.state out.old).waits ≡ 0 → IsSent (O.state out.old) (O.state out.new) }
 {
     let reader = match disk.open(job.keys.as_str()) {
         Ok(reader) => reader,
@@ -181,14 +182,14 @@ fn build_file<D: Disk, O: Sink>(
     out: &mut O,
 ) -> Result<Summary, Stop>
     requires job { IsBuild job.now }
-    ensures cause { HasStopCause (D.read_faults disk.old) (D.read_faults disk.new) (D.write_faults disk.old) (D.write_faults disk.new) result }
-    ensures leaves { Leaves job.now (D.files disk.old) (D.files disk.new) (O.written out.old) (O.written out.new) result }
-    ensures spilled { IfOk result (λ _. ForSome (D.files disk.old) (λ files. KeysSpilled files (D.spilled disk.old) (D.spilled disk.new) job.now)) }
-    ensures unspilled { UnlessSpilled job.now.algorithm (D.spilled disk.new ≡ D.spilled disk.old) }
+    ensures cause { HasStopCause (D.state disk.old).read_faults (D.state disk.new).read_faults (D.state disk.old).write_faults (D.state disk.new).write_faults result }
+    ensures leaves { Leaves job.now (D.state disk.old).files (D.state disk.new).files (O.state out.old).written (O.state out.new).written result }
+    ensures spilled { IfOk result (λ _. ForSome (D.state disk.old).files (λ files. KeysSpilled files (D.state disk.old).spilled (D.state disk.new).spilled job.now)) }
+    ensures unspilled { UnlessSpilled job.now.algorithm ((D.state disk.new).spilled ≡ (D.state disk.old).spilled) }
     ensures form { IfErr result (HasStopForm job.now.algorithm) }
-    ensures out { HasKeptOut (O.written out.old) (O.written out.new) result }
-    ensures out_cause { HasOutCause (O.faults out.old) (O.faults out.new) result }
-    ensures sent { O.waits out.old ≡ 0 → IsSent (O.waits out.new) (O.faults out.old) (O.faults out.new) }
+    ensures out { HasKeptOut (O.state out.old).written (O.state out.new).written result }
+    ensures out_cause { HasOutCause (O.state out.old).faults (O.state out.new).faults result }
+    ensures sent { (O.state out.old).waits ≡ 0 → IsSent (O.state out.old) (O.state out.new) }
 {
     let function = match function_of(alloc, job, disk, out) {
         Ok(function) => function,
@@ -211,27 +212,27 @@ pub(crate) fn run_build<D: Disk, O: Sink, E: Sink>(
 ) -> u8
     requires job { IsBuild job.now }
     ensures status { IsStatus (Ok (Build job.now)) result }
-    ensures read { D.read_faults disk.old < 2 ^ 63 → ((result ≡ 4) ↔ (D.read_faults disk.old < D.read_faults disk.new)) }
-    ensures write { D.write_faults disk.old < 2 ^ 63 → O.faults out.old < 2 ^ 63 →
-        ((result ≡ 5) ↔ ((D.write_faults disk.old < D.write_faults disk.new) ⊎ (O.faults out.old < O.faults out.new))) }
-    ensures outcome { result ≢ 4 → result ≢ 5 → result ≢ 6 → ForSome (D.files disk.old) (λ files.
-        Reaches (job_outcome files (Ok (Build job.now))) result (O.written out.old) (O.written out.new) (E.written err.old) (E.written err.new) (E.faults err.old) (E.faults err.new) (D.files disk.new)) }
-    ensures first { result ≡ 0 → ForSome (D.files disk.old) (λ files. TookFirst files job.now) }
-    ensures cored { result ≡ 1 → ForSome (D.files disk.old) (λ files. IsCored files job.now) }
-    ensures numbers { result ≡ 0 → ForSome (D.files disk.old) (λ files. SavedNumbers files (D.files disk.new) job.now) }
-    ensures spilled { result ≡ 0 → ForSome (D.files disk.old) (λ files. KeysSpilled files (D.spilled disk.old) (D.spilled disk.new) job.now) }
-    ensures unspilled { UnlessSpilled job.now.algorithm (D.spilled disk.new ≡ D.spilled disk.old) }
-    ensures unchanged { ForSome (D.files disk.old) (λ _. result ≢ 7) }
-    ensures missing { ForSome (D.files disk.old) (λ files. job_outcome files (Ok (Build job.now)) ≡ None →
-        LacksFile result (D.files disk.old) (D.files disk.new) (O.written out.old) (O.written out.new)) }
-    ensures kept { result ≢ 0 → result ≢ 5 → result ≢ 6 → D.files disk.new ≡ D.files disk.old }
-    ensures part { result ≡ 5 → ForSome (D.files disk.old) (λ files.
-        IsUnfinished files (D.files disk.old) (D.files disk.new) (O.written out.old) (O.written out.new) (E.written err.old) (E.written err.new) (O.faults out.old) (O.faults out.new) (E.faults err.old) (E.faults err.new) job.now) }
-    ensures memory { result ≡ 6 → (D.files disk.new ≡ D.files disk.old) ⊎ IsEmptied (D.files disk.old) (D.files disk.new) job.now }
-    ensures out { result ≢ 1 → result ≢ 5 → O.written out.new ≡ O.written out.old }
-    ensures sent { O.waits out.old ≡ 0 → IsSent (O.waits out.new) (O.faults out.old) (O.faults out.new) }
-    ensures err_sent { E.waits err.old ≡ 0 → IsSent (E.waits err.new) (E.faults err.old) (E.faults err.new) }
-    ensures err { (text : List ℕ) × IsBuildMessage job.now (O.faults out.old) (O.faults out.new) result text × Says text (E.written err.old) (E.written err.new) (E.faults err.old) (E.faults err.new) }
+    ensures read { (D.state disk.old).read_faults < 2 ^ 63 → ((result ≡ 4) ↔ ((D.state disk.old).read_faults < (D.state disk.new).read_faults)) }
+    ensures write { (D.state disk.old).write_faults < 2 ^ 63 → (O.state out.old).faults < 2 ^ 63 →
+        ((result ≡ 5) ↔ (((D.state disk.old).write_faults < (D.state disk.new).write_faults) ⊎ ((O.state out.old).faults < (O.state out.new).faults))) }
+    ensures outcome { result ≢ 4 → result ≢ 5 → result ≢ 6 → ForSome (D.state disk.old).files (λ files.
+        Reaches (outside (D.state disk.old) (O.state out.old) (E.state err.old)) (outside (D.state disk.new) (O.state out.new) (E.state err.new)) (job_outcome files (Ok (Build job.now))) result) }
+    ensures first { result ≡ 0 → ForSome (D.state disk.old).files (λ files. TookFirst files job.now) }
+    ensures cored { result ≡ 1 → ForSome (D.state disk.old).files (λ files. IsCored files job.now) }
+    ensures numbers { result ≡ 0 → ForSome (D.state disk.old).files (λ files. SavedNumbers files (D.state disk.new).files job.now) }
+    ensures spilled { result ≡ 0 → ForSome (D.state disk.old).files (λ files. KeysSpilled files (D.state disk.old).spilled (D.state disk.new).spilled job.now) }
+    ensures unspilled { UnlessSpilled job.now.algorithm ((D.state disk.new).spilled ≡ (D.state disk.old).spilled) }
+    ensures unchanged { ForSome (D.state disk.old).files (λ _. result ≢ 7) }
+    ensures missing { ForSome (D.state disk.old).files (λ files. job_outcome files (Ok (Build job.now)) ≡ None →
+        LacksFile (outside (D.state disk.old) (O.state out.old) (E.state err.old)) (outside (D.state disk.new) (O.state out.new) (E.state err.new)) result) }
+    ensures kept { result ≢ 0 → result ≢ 5 → result ≢ 6 → (D.state disk.new).files ≡ (D.state disk.old).files }
+    ensures part { result ≡ 5 → ForSome (D.state disk.old).files (λ files.
+        IsUnfinished (outside (D.state disk.old) (O.state out.old) (E.state err.old)) (outside (D.state disk.new) (O.state out.new) (E.state err.new)) files job.now) }
+    ensures memory { result ≡ 6 → ((D.state disk.new).files ≡ (D.state disk.old).files) ⊎ IsEmptied (D.state disk.old).files (D.state disk.new).files job.now }
+    ensures out { result ≢ 1 → result ≢ 5 → (O.state out.new).written ≡ (O.state out.old).written }
+    ensures sent { (O.state out.old).waits ≡ 0 → IsSent (O.state out.old) (O.state out.new) }
+    ensures err_sent { (E.state err.old).waits ≡ 0 → IsSent (E.state err.old) (E.state err.new) }
+    ensures err { (text : List ℕ) × IsBuildMessage job.now (O.state out.old).faults (O.state out.new).faults result text × Says (E.state err.old) (E.state err.new) text }
 {
     match build_file(alloc, job, disk, out) {
         Ok(summary) => {

@@ -1,7 +1,7 @@
 //! Queries.
 ghost use Rattle.std.specs.Prelude.{◌≡◌, ◌≢◌, ◌<◌, ◌≤◌, ◌^◌, ◌⊎◌, ◌↔◌, ◌+◌, ◌++◌, ℕ, List, Ok, Err, None};
 ghost use Rattle.std.specs.Option.{ForSome};
-ghost use Rattle.cm_io.specs.Causes.{IsSent};
+ghost use Rattle.cm_io.specs.States.{IsSent, outside};
 ghost use Rattle.cm_tool_stops.specs.Ends.{Says};
 ghost use Rattle.cm_tool.specs.Outcome.{job_outcome};
 ghost use Rattle.cm_tool.specs.Run.{IsCutShort, IsQueryMessage, IsStatus, LacksFile, Reaches};
@@ -23,21 +23,21 @@ pub(crate) fn run_query<D: Disk, O: Sink, E: Sink>(
     err: &mut E,
 ) -> u8
     ensures status { IsStatus (Ok (Query job.now)) result }
-    ensures files { D.files disk.new ≡ D.files disk.old }
-    ensures spilled { D.spilled disk.new ≡ D.spilled disk.old }
-    ensures write_faults { D.write_faults disk.new ≡ D.write_faults disk.old }
-    ensures read { D.read_faults disk.old < 2 ^ 63 → ((result ≡ 4) ↔ (D.read_faults disk.old < D.read_faults disk.new)) }
-    ensures write { O.faults out.old < 2 ^ 63 → ((result ≡ 5) ↔ (O.faults out.old < O.faults out.new)) }
-    ensures outcome { result ≢ 4 → result ≢ 5 → result ≢ 6 → ForSome (D.files disk.old) (λ files.
-        Reaches (job_outcome files (Ok (Query job.now))) result (O.written out.old) (O.written out.new) (E.written err.old) (E.written err.new) (E.faults err.old) (E.faults err.new) (D.files disk.new)) }
-    ensures missing { ForSome (D.files disk.old) (λ files. job_outcome files (Ok (Query job.now)) ≡ None →
-        LacksFile result (D.files disk.old) (D.files disk.new) (O.written out.old) (O.written out.new)) }
-    ensures memory { result ≡ 6 → O.written out.new ≡ O.written out.old }
-    ensures sent { O.waits out.old ≡ 0 → IsSent (O.waits out.new) (O.faults out.old) (O.faults out.new) }
-    ensures err_sent { E.waits err.old ≡ 0 → IsSent (E.waits err.new) (E.faults err.old) (E.faults err.new) }
-    ensures cut { (result ≡ 4) ⊎ (result ≡ 5) ⊎ (result ≡ 6) → ForSome (D.files disk.old) (λ files.
-        IsCutShort files result (O.written out.old) (O.written out.new) (E.written err.old) (E.written err.new) (E.faults err.old) (E.faults err.new) job.now) }
-    ensures err { (notes : List ℕ) × (text : List ℕ) × IsQueryMessage job.now result text × Says (notes ++ text) (E.written err.old) (E.written err.new) (E.faults err.old) (E.faults err.new) }
+    ensures files { (D.state disk.new).files ≡ (D.state disk.old).files }
+    ensures spilled { (D.state disk.new).spilled ≡ (D.state disk.old).spilled }
+    ensures write_faults { (D.state disk.new).write_faults ≡ (D.state disk.old).write_faults }
+    ensures read { (D.state disk.old).read_faults < 2 ^ 63 → ((result ≡ 4) ↔ ((D.state disk.old).read_faults < (D.state disk.new).read_faults)) }
+    ensures write { (O.state out.old).faults < 2 ^ 63 → ((result ≡ 5) ↔ ((O.state out.old).faults < (O.state out.new).faults)) }
+    ensures outcome { result ≢ 4 → result ≢ 5 → result ≢ 6 → ForSome (D.state disk.old).files (λ files.
+        Reaches (outside (D.state disk.old) (O.state out.old) (E.state err.old)) (outside (D.state disk.new) (O.state out.new) (E.state err.new)) (job_outcome files (Ok (Query job.now))) result) }
+    ensures missing { ForSome (D.state disk.old).files (λ files. job_outcome files (Ok (Query job.now)) ≡ None →
+        LacksFile (outside (D.state disk.old) (O.state out.old) (E.state err.old)) (outside (D.state disk.new) (O.state out.new) (E.state err.new)) result) }
+    ensures memory { result ≡ 6 → (O.state out.new).written ≡ (O.state out.old).written }
+    ensures sent { (O.state out.old).waits ≡ 0 → IsSent (O.state out.old) (O.state out.new) }
+    ensures err_sent { (E.state err.old).waits ≡ 0 → IsSent (E.state err.old) (E.state err.new) }
+    ensures cut { (result ≡ 4) ⊎ (result ≡ 5) ⊎ (result ≡ 6) → ForSome (D.state disk.old).files (λ files.
+        IsCutShort (outside (D.state disk.old) (O.state out.old) (E.state err.old)) (outside (D.state disk.new) (O.state out.new) (E.state err.new)) files result job.now) }
+    ensures err { (notes : List ℕ) × (text : List ℕ) × IsQueryMessage job.now result text × Says (E.state err.old) (E.state err.new) (notes ++ text) }
 {
     let mut notes = Notes::new();
     match answer_file(alloc, job, disk, out, err, &mut notes) {

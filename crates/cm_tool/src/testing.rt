@@ -6,7 +6,8 @@ ghost use Rattle.cm_algo_names.specs.declared.algorithm.Algorithm.TheVariants.{B
 ghost use Rattle.cm_func.specs.Functions.{IsFunction, answer_by};
 ghost use Rattle.cm_words_values.specs.Limits.{IsBuffer};
 ghost use Rattle.cm_words_values.specs.Options.{bits_value, usual_ratio};
-ghost use Rattle.cm_io.specs.Causes.{HasCause, IsSent};
+ghost use Rattle.cm_io.specs.Causes.{HasCause};
+ghost use Rattle.cm_io.specs.States.{IsSent, outside};
 ghost use Rattle.cm_io.specs.Writing.{Writes};
 ghost use Rattle.cm_spec.specs.declared.limits.TheConstants.{MAX_KEYS};
 ghost use Rattle.cm_query.specs.Sums.{answer_sum};
@@ -93,14 +94,14 @@ fn build_generated<D: Disk>(
     disk: &mut D,
 ) -> Result<Func, FuncFault>
     requires job { IsTest job.now }
-    ensures files { D.files disk.new ≡ D.files disk.old }
-    ensures read_faults { D.read_faults disk.new ≡ D.read_faults disk.old }
-    ensures cause { HasFuncCause 0 0 (D.write_faults disk.old) (D.write_faults disk.new) result }
-    ensures made { IfOk result (λ f. ForSome (D.files disk.old) (λ _. test_result job.now algorithm ≡ Ok f)) }
-    ensures spilled { IfOk result (λ f. ForSome (D.files disk.old) (λ _. HasSpilled f (generated job.now.keys).keys (D.spilled disk.old) (D.spilled disk.new))) }
-    ensures unspilled { UnlessSpilled algorithm (D.spilled disk.new ≡ D.spilled disk.old) }
+    ensures files { (D.state disk.new).files ≡ (D.state disk.old).files }
+    ensures read_faults { (D.state disk.new).read_faults ≡ (D.state disk.old).read_faults }
+    ensures cause { HasFuncCause 0 0 (D.state disk.old).write_faults (D.state disk.new).write_faults result }
+    ensures made { IfOk result (λ f. ForSome (D.state disk.old).files (λ _. test_result job.now algorithm ≡ Ok f)) }
+    ensures spilled { IfOk result (λ f. ForSome (D.state disk.old).files (λ _. HasSpilled f (generated job.now.keys).keys (D.state disk.old).spilled (D.state disk.new).spilled)) }
+    ensures unspilled { UnlessSpilled algorithm ((D.state disk.new).spilled ≡ (D.state disk.old).spilled) }
     ensures valid { IfOk result IsFunction }
-    ensures fault { IfErr result (λ e. ForSome (D.files disk.old) (λ _. FailsTest job.now algorithm e)) }
+    ensures fault { IfErr result (λ e. ForSome (D.state disk.old).files (λ _. FailsTest job.now algorithm e)) }
     ensures form { IfErr result (λ e. HasFuncForm algorithm e) }
 {
     // A law, for the proof alone.
@@ -149,9 +150,9 @@ fn print_line<O: Sink>(
     sum: u64,
     out: &mut O,
 ) -> Result<(), Failed>
-    ensures text { Writes (O.written out.old) (O.written out.new) (line_text algorithm n bytes sum) result }
-    ensures cause { HasCause (O.faults out.old) (O.faults out.new) result }
-    ensures sent { IsSent (O.waits out.new) (O.faults out.old) (O.faults out.new) }
+    ensures text { Writes (O.state out.old).written (O.state out.new).written (line_text algorithm n bytes sum) result }
+    ensures cause { HasCause (O.state out.old).faults (O.state out.new).faults result }
+    ensures sent { IsSent (O.state out.old) (O.state out.new) }
 {
     let mut keys = Buffer::new();
     let mut len = Buffer::new();
@@ -181,15 +182,15 @@ fn test_algorithm<D: Disk, O: Sink>(
     out: &mut O,
 ) -> Result<(), Stop>
     requires job { IsTest job.now }
-    ensures files { D.files disk.new ≡ D.files disk.old }
-    ensures read_faults { D.read_faults disk.new ≡ D.read_faults disk.old }
-    ensures cause { HasStopCause 0 0 (D.write_faults disk.old) (D.write_faults disk.new) result }
-    ensures out_cause { HasOutCause (O.faults out.old) (O.faults out.new) result }
+    ensures files { (D.state disk.new).files ≡ (D.state disk.old).files }
+    ensures read_faults { (D.state disk.new).read_faults ≡ (D.state disk.old).read_faults }
+    ensures cause { HasStopCause 0 0 (D.state disk.old).write_faults (D.state disk.new).write_faults result }
+    ensures out_cause { HasOutCause (O.state out.old).faults (O.state out.new).faults result }
     ensures form { IfErr result (HasTestForm algorithm) }
-    ensures spilled { OnOk result (ForSome (D.files disk.old) (λ _. TestSpilled job.now algorithm (D.spilled disk.old) (D.spilled disk.new))) }
-    ensures out { IfErr result (KeepsOut (O.written out.old) (O.written out.new)) }
-    ensures sent { O.waits out.old ≡ 0 → IsSent (O.waits out.new) (O.faults out.old) (O.faults out.new) }
-    ensures ends { ForSome (D.files disk.old) (λ files. EndsTest (tested_by job.now files (algorithm ∷ [])) (O.written out.old) (O.written out.new) result) }
+    ensures spilled { OnOk result (ForSome (D.state disk.old).files (λ _. TestSpilled job.now algorithm (D.state disk.old).spilled (D.state disk.new).spilled)) }
+    ensures out { IfErr result (KeepsOut (O.state out.old).written (O.state out.new).written) }
+    ensures sent { (O.state out.old).waits ≡ 0 → IsSent (O.state out.old) (O.state out.new) }
+    ensures ends { ForSome (D.state disk.old).files (λ files. EndsTest (tested_by job.now files (algorithm ∷ [])) (O.state out.old).written (O.state out.new).written result) }
 {
     let function = match build_generated(alloc, job, algorithm, disk) {
         Ok(function) => function,
@@ -215,15 +216,15 @@ fn test_each<D: Disk, O: Sink>(
     out: &mut O,
 ) -> Result<(), Stop>
     requires job { IsTest job.now }
-    ensures files { D.files disk.new ≡ D.files disk.old }
-    ensures read_faults { D.read_faults disk.new ≡ D.read_faults disk.old }
-    ensures cause { HasStopCause 0 0 (D.write_faults disk.old) (D.write_faults disk.new) result }
-    ensures out_cause { HasOutCause (O.faults out.old) (O.faults out.new) result }
+    ensures files { (D.state disk.new).files ≡ (D.state disk.old).files }
+    ensures read_faults { (D.state disk.new).read_faults ≡ (D.state disk.old).read_faults }
+    ensures cause { HasStopCause 0 0 (D.state disk.old).write_faults (D.state disk.new).write_faults result }
+    ensures out_cause { HasOutCause (O.state out.old).faults (O.state out.new).faults result }
     ensures form { IfErr result (λ stop. (algorithm : Algorithm) × HasTestForm algorithm stop) }
-    ensures spilled { OnOk result (ForSome (D.files disk.old) (λ _. TestsSpilled job.now algorithms.now (D.spilled disk.old) (D.spilled disk.new))) }
-    ensures spilling { IfErr result (λ stop. ForSome (D.files disk.old) (λ files. StopsSpilling job.now files algorithms.now (O.written out.old) (O.written out.new) stop)) }
-    ensures sent { O.waits out.old ≡ 0 → IsSent (O.waits out.new) (O.faults out.old) (O.faults out.new) }
-    ensures ends { ForSome (D.files disk.old) (λ files. EndsTest (tested_by job.now files algorithms.now) (O.written out.old) (O.written out.new) result) }
+    ensures spilled { OnOk result (ForSome (D.state disk.old).files (λ _. TestsSpilled job.now algorithms.now (D.state disk.old).spilled (D.state disk.new).spilled)) }
+    ensures spilling { IfErr result (λ stop. ForSome (D.state disk.old).files (λ files. StopsSpilling job.now files algorithms.now (O.state out.old).written (O.state out.new).written stop)) }
+    ensures sent { (O.state out.old).waits ≡ 0 → IsSent (O.state out.old) (O.state out.new) }
+    ensures ends { ForSome (D.state disk.old).files (λ files. EndsTest (tested_by job.now files algorithms.now) (O.state out.old).written (O.state out.new).written result) }
 {
     for algorithm in algorithms {
         match test_algorithm(alloc, job, *algorithm, disk, out) {
@@ -245,20 +246,20 @@ pub(crate) fn run_test<D: Disk, O: Sink, E: Sink>(
     requires job { IsTest job.now }
     ensures status { IsStatus (Ok (Test job.now)) result }
     ensures known { result ≢ 4 }
-    ensures files { D.files disk.new ≡ D.files disk.old }
-    ensures read_faults { D.read_faults disk.new ≡ D.read_faults disk.old }
-    ensures write { D.write_faults disk.old < 2 ^ 63 → O.faults out.old < 2 ^ 63 →
-        ((result ≡ 5) ↔ ((D.write_faults disk.old < D.write_faults disk.new) ⊎ (O.faults out.old < O.faults out.new))) }
-    ensures outcome { result ≢ 5 → result ≢ 6 → ForSome (D.files disk.old) (λ files.
-        Reaches (Some (test_outcome job.now files)) result (O.written out.old) (O.written out.new) (E.written err.old) (E.written err.new) (E.faults err.old) (E.faults err.new) (D.files disk.new)) }
-    ensures spilled { result ≡ 0 → ForSome (D.files disk.old) (λ _. TestSpilled job.now Brz (D.spilled disk.old) (D.spilled disk.new)) }
-    ensures unchanged { ForSome (D.files disk.old) (λ _. (result ≢ 7) × (result ≢ 8)) }
-    ensures part { (result ≡ 5) ⊎ (result ≡ 6) → ForSome (D.files disk.old) (λ files. GotPrefix (test_outcome job.now files).out (O.written out.old) (O.written out.new)) }
-    ensures unfinished { result ≡ 5 → ForSome (D.files disk.old) (λ files.
-        IsUnfinishedTest files (O.written out.old) (O.written out.new) (E.written err.old) (E.written err.new) (O.faults out.old) (O.faults out.new) (E.faults err.old) (E.faults err.new) job.now) }
-    ensures sent { O.waits out.old ≡ 0 → IsSent (O.waits out.new) (O.faults out.old) (O.faults out.new) }
-    ensures err_sent { E.waits err.old ≡ 0 → IsSent (E.waits err.new) (E.faults err.old) (E.faults err.new) }
-    ensures err { (text : List ℕ) × IsTestMessage job.now (O.faults out.old) (O.faults out.new) result text × Says text (E.written err.old) (E.written err.new) (E.faults err.old) (E.faults err.new) }
+    ensures files { (D.state disk.new).files ≡ (D.state disk.old).files }
+    ensures read_faults { (D.state disk.new).read_faults ≡ (D.state disk.old).read_faults }
+    ensures write { (D.state disk.old).write_faults < 2 ^ 63 → (O.state out.old).faults < 2 ^ 63 →
+        ((result ≡ 5) ↔ (((D.state disk.old).write_faults < (D.state disk.new).write_faults) ⊎ ((O.state out.old).faults < (O.state out.new).faults))) }
+    ensures outcome { result ≢ 5 → result ≢ 6 → ForSome (D.state disk.old).files (λ files.
+        Reaches (outside (D.state disk.old) (O.state out.old) (E.state err.old)) (outside (D.state disk.new) (O.state out.new) (E.state err.new)) (Some (test_outcome job.now files)) result) }
+    ensures spilled { result ≡ 0 → ForSome (D.state disk.old).files (λ _. TestSpilled job.now Brz (D.state disk.old).spilled (D.state disk.new).spilled) }
+    ensures unchanged { ForSome (D.state disk.old).files (λ _. (result ≢ 7) × (result ≢ 8)) }
+    ensures part { (result ≡ 5) ⊎ (result ≡ 6) → ForSome (D.state disk.old).files (λ files. GotPrefix (test_outcome job.now files).out (O.state out.old).written (O.state out.new).written) }
+    ensures unfinished { result ≡ 5 → ForSome (D.state disk.old).files (λ files.
+        IsUnfinishedTest (outside (D.state disk.old) (O.state out.old) (E.state err.old)) (outside (D.state disk.new) (O.state out.new) (E.state err.new)) files job.now) }
+    ensures sent { (O.state out.old).waits ≡ 0 → IsSent (O.state out.old) (O.state out.new) }
+    ensures err_sent { (E.state err.old).waits ≡ 0 → IsSent (E.state err.old) (E.state err.new) }
+    ensures err { (text : List ℕ) × IsTestMessage job.now (O.state out.old).faults (O.state out.new).faults result text × Says (E.state err.old) (E.state err.new) text }
 {
     let algorithms = [
         Algorithm::Chm,

@@ -77,13 +77,13 @@ fn brz_by<P: KeyPass, D: Disk, L: Ledger>(
     requires by { plan.now.algorithm ≡ Brz }
     requires seeds { 0 < length seeds.now }
     ensures told { P.told keys.new ≡ P.told keys.old }
-    ensures files { D.files disk.new ≡ D.files disk.old }
-    ensures read_faults { D.read_faults disk.new ≡ D.read_faults disk.old }
-    ensures cause { HasFuncCause (P.faults keys.old) (P.faults keys.new) (D.write_faults disk.old) (D.write_faults disk.new) result }
-    ensures made { IfOk result (λ f. ForSome (D.files disk.old) (λ _. ForSome (P.told keys.old) (λ told. IsFuncOf Brz plan.now.b told plan.now.c seeds.now f))) }
-    ensures spilled { IfOk result (λ f. ForSome (D.files disk.old) (λ _. ForSome (P.told keys.old) (λ told. HasSpilled f told.keys (D.spilled disk.old) (D.spilled disk.new)))) }
+    ensures files { (D.state disk.new).files ≡ (D.state disk.old).files }
+    ensures read_faults { (D.state disk.new).read_faults ≡ (D.state disk.old).read_faults }
+    ensures cause { HasFuncCause (P.faults keys.old) (P.faults keys.new) (D.state disk.old).write_faults (D.state disk.new).write_faults result }
+    ensures made { IfOk result (λ f. ForSome (D.state disk.old).files (λ _. ForSome (P.told keys.old) (λ told. IsFuncOf Brz plan.now.b told plan.now.c seeds.now f))) }
+    ensures spilled { IfOk result (λ f. ForSome (D.state disk.old).files (λ _. ForSome (P.told keys.old) (λ told. HasSpilled f told.keys (D.state disk.old).spilled (D.state disk.new).spilled))) }
     ensures valid { IfOk result IsFunction }
-    ensures fault { IfErr result (λ e. ForSome (D.files disk.old) (λ _. ForSome (P.told keys.old) (λ told. FailsFunc Brz plan.now.b told plan.now.c seeds.now e))) }
+    ensures fault { IfErr result (λ e. ForSome (D.state disk.old).files (λ _. ForSome (P.told keys.old) (λ told. FailsFunc Brz plan.now.b told plan.now.c seeds.now e))) }
     ensures form { IfErr result (λ e. HasFuncForm Brz e) }
 {
     // Laws, for the proof alone.
@@ -137,14 +137,14 @@ fn func_by<P: KeyPass, D: Disk, L: Ledger>(
     requires plan { IsPlan plan.now }
     requires seeds { 0 < length seeds.now }
     ensures told { P.told keys.new ≡ P.told keys.old }
-    ensures files { D.files disk.new ≡ D.files disk.old }
-    ensures read_faults { D.read_faults disk.new ≡ D.read_faults disk.old }
-    ensures cause { HasFuncCause (P.faults keys.old) (P.faults keys.new) (D.write_faults disk.old) (D.write_faults disk.new) result }
-    ensures made { IfOk result (λ f. ForSome (D.files disk.old) (λ _. ForSome (P.told keys.old) (λ told. IsFuncOf plan.now.algorithm plan.now.b told plan.now.c seeds.now f))) }
-    ensures spilled { IfOk result (λ f. ForSome (D.files disk.old) (λ _. ForSome (P.told keys.old) (λ told. HasSpilled f told.keys (D.spilled disk.old) (D.spilled disk.new)))) }
-    ensures unspilled { UnlessSpilled plan.now.algorithm (D.spilled disk.new ≡ D.spilled disk.old) }
+    ensures files { (D.state disk.new).files ≡ (D.state disk.old).files }
+    ensures read_faults { (D.state disk.new).read_faults ≡ (D.state disk.old).read_faults }
+    ensures cause { HasFuncCause (P.faults keys.old) (P.faults keys.new) (D.state disk.old).write_faults (D.state disk.new).write_faults result }
+    ensures made { IfOk result (λ f. ForSome (D.state disk.old).files (λ _. ForSome (P.told keys.old) (λ told. IsFuncOf plan.now.algorithm plan.now.b told plan.now.c seeds.now f))) }
+    ensures spilled { IfOk result (λ f. ForSome (D.state disk.old).files (λ _. ForSome (P.told keys.old) (λ told. HasSpilled f told.keys (D.state disk.old).spilled (D.state disk.new).spilled))) }
+    ensures unspilled { UnlessSpilled plan.now.algorithm ((D.state disk.new).spilled ≡ (D.state disk.old).spilled) }
     ensures valid { IfOk result IsFunction }
-    ensures fault { IfErr result (λ e. ForSome (D.files disk.old) (λ _. ForSome (P.told keys.old) (λ told. FailsFunc plan.now.algorithm plan.now.b told plan.now.c seeds.now e))) }
+    ensures fault { IfErr result (λ e. ForSome (D.state disk.old).files (λ _. ForSome (P.told keys.old) (λ told. FailsFunc plan.now.algorithm plan.now.b told plan.now.c seeds.now e))) }
     ensures form { IfErr result (λ e. HasFuncForm plan.now.algorithm e) }
 {
     match plan.algorithm {
@@ -187,14 +187,14 @@ pub fn func_of<P: KeyPass, D: Disk>(
     requires plan { IsPlan plan.now }
     requires seeds { 0 < length seeds.now }
     ensures told { P.told keys.new ≡ P.told keys.old }
-    ensures files { D.files disk.new ≡ D.files disk.old }
-    ensures read_faults { D.read_faults disk.new ≡ D.read_faults disk.old }
-    ensures cause { HasFuncCause (P.faults keys.old) (P.faults keys.new) (D.write_faults disk.old) (D.write_faults disk.new) result }
-    ensures made { IfOk result (λ f. ForSome (D.files disk.old) (λ _. ForSome (P.told keys.old) (λ told. IsFuncOf plan.now.algorithm plan.now.b told plan.now.c seeds.now f))) }
-    ensures spilled { IfOk result (λ f. ForSome (D.files disk.old) (λ _. ForSome (P.told keys.old) (λ told. HasSpilled f told.keys (D.spilled disk.old) (D.spilled disk.new)))) }
-    ensures unspilled { UnlessSpilled plan.now.algorithm (D.spilled disk.new ≡ D.spilled disk.old) }
+    ensures files { (D.state disk.new).files ≡ (D.state disk.old).files }
+    ensures read_faults { (D.state disk.new).read_faults ≡ (D.state disk.old).read_faults }
+    ensures cause { HasFuncCause (P.faults keys.old) (P.faults keys.new) (D.state disk.old).write_faults (D.state disk.new).write_faults result }
+    ensures made { IfOk result (λ f. ForSome (D.state disk.old).files (λ _. ForSome (P.told keys.old) (λ told. IsFuncOf plan.now.algorithm plan.now.b told plan.now.c seeds.now f))) }
+    ensures spilled { IfOk result (λ f. ForSome (D.state disk.old).files (λ _. ForSome (P.told keys.old) (λ told. HasSpilled f told.keys (D.state disk.old).spilled (D.state disk.new).spilled))) }
+    ensures unspilled { UnlessSpilled plan.now.algorithm ((D.state disk.new).spilled ≡ (D.state disk.old).spilled) }
     ensures valid { IfOk result IsFunction }
-    ensures fault { IfErr result (λ e. ForSome (D.files disk.old) (λ _. ForSome (P.told keys.old) (λ told. FailsFunc plan.now.algorithm plan.now.b told plan.now.c seeds.now e))) }
+    ensures fault { IfErr result (λ e. ForSome (D.state disk.old).files (λ _. ForSome (P.told keys.old) (λ told. FailsFunc plan.now.algorithm plan.now.b told plan.now.c seeds.now e))) }
     ensures form { IfErr result (λ e. HasFuncForm plan.now.algorithm e) }
 {
     func_by::<P, D, Brand>(

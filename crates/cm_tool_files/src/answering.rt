@@ -1,7 +1,7 @@
 //! The keys of a file, answered by the function of another.
 ghost use Rattle.std.specs.Prelude.{◌≡◌, ℕ, List, Ok, Err, false};
 ghost use Rattle.std.specs.Option.{ForSome};
-ghost use Rattle.cm_io.specs.Causes.{IsSent};
+ghost use Rattle.cm_io.specs.States.{IsSent};
 ghost use Rattle.cm_io.specs.Noting.{Noted};
 ghost use Rattle.cm_tool_files.specs.Asked.{EndsQuery, HasQueryStopCause};
 ghost use Rattle.cm_tool_stops.specs.declared.stop.QueryStop.{QueryStop};
@@ -23,15 +23,15 @@ pub fn answer_file<D: Disk, O: Sink, E: Sink>(
     err: &mut E,
     notes: &mut Notes,
 ) -> Result<Tally, QueryStop>
-    ensures files { D.files disk.new ≡ D.files disk.old }
-    ensures spilled { D.spilled disk.new ≡ D.spilled disk.old }
-    ensures cause { HasQueryStopCause (D.read_faults disk.old) (D.read_faults disk.new) (D.write_faults disk.old) (D.write_faults disk.new) (O.faults out.old) (O.faults out.new) result }
-    ensures memory { result ≡ Err QueryStop.Memory → O.written out.new ≡ O.written out.old }
-    ensures sent { O.waits out.old ≡ 0 → IsSent (O.waits out.new) (O.faults out.old) (O.faults out.new) }
-    ensures notes_sent { (notes.old ≡ false → E.waits err.old ≡ 0) → notes.new ≡ false → E.waits err.new ≡ 0 }
-    ensures says { (text : List ℕ) × Noted notes.old notes.new (E.written err.old) (E.written err.new) (E.faults err.old) (E.faults err.new) text }
-    ensures told { ForSome (D.files disk.old) (λ files. (text : List ℕ) × Noted notes.old notes.new (E.written err.old) (E.written err.new) (E.faults err.old) (E.faults err.new) text
-        × EndsQuery files job.now (O.written out.old) (O.written out.new) text result) }
+    ensures files { (D.state disk.new).files ≡ (D.state disk.old).files }
+    ensures spilled { (D.state disk.new).spilled ≡ (D.state disk.old).spilled }
+    ensures cause { HasQueryStopCause (D.state disk.old).read_faults (D.state disk.new).read_faults (D.state disk.old).write_faults (D.state disk.new).write_faults (O.state out.old).faults (O.state out.new).faults result }
+    ensures memory { result ≡ Err QueryStop.Memory → (O.state out.new).written ≡ (O.state out.old).written }
+    ensures sent { (O.state out.old).waits ≡ 0 → IsSent (O.state out.old) (O.state out.new) }
+    ensures notes_sent { (notes.old ≡ false → (E.state err.old).waits ≡ 0) → notes.new ≡ false → (E.state err.new).waits ≡ 0 }
+    ensures says { (text : List ℕ) × Noted notes.old notes.new (E.state err.old) (E.state err.new) text }
+    ensures told { ForSome (D.state disk.old).files (λ files. (text : List ℕ) × Noted notes.old notes.new (E.state err.old) (E.state err.new) text
+        × EndsQuery files job.now (O.state out.old).written (O.state out.new).written text result) }
 {
     let function = match load_file(alloc, job.function.as_str(), disk) {
         Ok(function) => function,

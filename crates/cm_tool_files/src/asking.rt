@@ -2,7 +2,7 @@
 ghost use Rattle.std.specs.Prelude.{◌≡◌, ◌+◌, ◌≤◌, ℕ, List, Err, IfOk, false};
 ghost use Rattle.std.specs.Option.{ForSome};
 ghost use Rattle.cm_func.specs.Functions.{answer_by};
-ghost use Rattle.cm_io.specs.Causes.{IsSent};
+ghost use Rattle.cm_io.specs.States.{IsSent};
 ghost use Rattle.cm_io.specs.Noting.{Noted};
 ghost use Rattle.cm_tool_files.specs.Asked.{EndsKeys, HasQueryStopCause, stop_from_query};
 ghost use Rattle.cm_tool_stops.specs.declared.stop.QueryStop.{QueryStop};
@@ -39,16 +39,16 @@ pub(crate) fn ask_keys<D: Disk, O: Sink, E: Sink>(
     err: &mut E,
     notes: &mut Notes,
 ) -> Result<Tally, QueryStop>
-    ensures files { D.files disk.new ≡ D.files disk.old }
-    ensures spilled { D.spilled disk.new ≡ D.spilled disk.old }
-    ensures cause { HasQueryStopCause (D.read_faults disk.old) (D.read_faults disk.new) (D.write_faults disk.old) (D.write_faults disk.new) (O.faults out.old) (O.faults out.new) result }
-    ensures memory { result ≡ Err QueryStop.Memory → O.written out.new ≡ O.written out.old }
-    ensures sent { O.waits out.old ≡ 0 → IsSent (O.waits out.new) (O.faults out.old) (O.faults out.new) }
-    ensures notes_sent { (notes.old ≡ false → E.waits err.old ≡ 0) → notes.new ≡ false → E.waits err.new ≡ 0 }
+    ensures files { (D.state disk.new).files ≡ (D.state disk.old).files }
+    ensures spilled { (D.state disk.new).spilled ≡ (D.state disk.old).spilled }
+    ensures cause { HasQueryStopCause (D.state disk.old).read_faults (D.state disk.new).read_faults (D.state disk.old).write_faults (D.state disk.new).write_faults (O.state out.old).faults (O.state out.new).faults result }
+    ensures memory { result ≡ Err QueryStop.Memory → (O.state out.new).written ≡ (O.state out.old).written }
+    ensures sent { (O.state out.old).waits ≡ 0 → IsSent (O.state out.old) (O.state out.new) }
+    ensures notes_sent { (notes.old ≡ false → (E.state err.old).waits ≡ 0) → notes.new ≡ false → (E.state err.new).waits ≡ 0 }
     ensures within { IfOk result (λ tally. tally.repeated + tally.unknown ≤ tally.lines) }
-    ensures says { (text : List ℕ) × Noted notes.old notes.new (E.written err.old) (E.written err.new) (E.faults err.old) (E.faults err.new) text }
-    ensures told { ForSome (D.files disk.old) (λ files. (text : List ℕ) × Noted notes.old notes.new (E.written err.old) (E.written err.new) (E.faults err.old) (E.faults err.new) text
-        × EndsKeys (answer_by function.now) files job.now (O.written out.old) (O.written out.new) text result) }
+    ensures says { (text : List ℕ) × Noted notes.old notes.new (E.state err.old) (E.state err.new) text }
+    ensures told { ForSome (D.state disk.old).files (λ files. (text : List ℕ) × Noted notes.old notes.new (E.state err.old) (E.state err.new) text
+        × EndsKeys (answer_by function.now) files job.now (O.state out.old).written (O.state out.new).written text result) }
 {
     let reader = match disk.open(job.keys.as_str()) {
         Ok(reader) => reader,

@@ -21,11 +21,11 @@ fn stop_of_load(fault: LoadFault) -> QueryStop
 
 /// Loads the function of a function file.
 pub(crate) fn load_file<D: Disk>(alloc: Global, path: &str, disk: &mut D) -> Result<Func, QueryStop>
-    ensures files { D.files disk.new ≡ D.files disk.old }
-    ensures spilled { D.spilled disk.new ≡ D.spilled disk.old }
-    ensures cause { (o : ℕ) → HasQueryStopCause (D.read_faults disk.old) (D.read_faults disk.new) (D.write_faults disk.old) (D.write_faults disk.new) o o result }
-    ensures spelled { IfOk result (λ f. ForSome (D.files disk.old) (λ files. Spells files path.now f)) }
-    ensures refused { IfErr result (λ stop. ForSome (D.files disk.old) (λ files. RefusesDump files path.now stop)) }
+    ensures files { (D.state disk.new).files ≡ (D.state disk.old).files }
+    ensures spilled { (D.state disk.new).spilled ≡ (D.state disk.old).spilled }
+    ensures cause { (o : ℕ) → HasQueryStopCause (D.state disk.old).read_faults (D.state disk.new).read_faults (D.state disk.old).write_faults (D.state disk.new).write_faults o o result }
+    ensures spelled { IfOk result (λ f. ForSome (D.state disk.old).files (λ files. Spells files path.now f)) }
+    ensures refused { IfErr result (λ stop. ForSome (D.state disk.old).files (λ files. RefusesDump files path.now stop)) }
 {
     let mut reader = match disk.open(path) {
         Ok(reader) => reader,

@@ -9,10 +9,10 @@ use cm_io::{Disk, DiskFault, Failed};
 
 /// Makes the path hold the dump of a function.
 pub fn store<D: Disk>(path: &str, function: &Func, disk: &mut D) -> Result<(), DiskFault>
-    ensures files { Stores path.now (dump_of function.now) (D.files disk.old) (D.files disk.new) result }
-    ensures spilled { D.spilled disk.new ≡ D.spilled disk.old }
-    ensures read_faults { D.read_faults disk.new ≡ D.read_faults disk.old }
-    ensures cause { HasDiskCause (D.write_faults disk.old) (D.write_faults disk.new) result }
+    ensures files { Stores path.now (dump_of function.now) (D.state disk.old).files (D.state disk.new).files result }
+    ensures spilled { (D.state disk.new).spilled ≡ (D.state disk.old).spilled }
+    ensures read_faults { (D.state disk.new).read_faults ≡ (D.state disk.old).read_faults }
+    ensures cause { HasDiskCause (D.state disk.old).write_faults (D.state disk.new).write_faults result }
 {
     let mut writer = disk.create(path)?;
     match save(function, &mut writer) {

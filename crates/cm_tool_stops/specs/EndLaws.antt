@@ -2,6 +2,7 @@
 use Rattle.std.proofs.Common.{◌≡◌, ℕ, ◌<◌, ◌≤◌, ◌^◌, lit<, List, Option, Bool, arith}
 use Rattle.cm_io.specs.Causes.{Collects, Rose}
 use Rattle.cm_io.specs.Noting.{HasNoted}
+use Rattle.cm_io.specs.States.{SinkState}
 use Rattle.cm_io.specs.NotingLaws.{noted_all, noted_front}
 use Rattle.cm_tool_stops.specs.Ends.{Says}
 
@@ -12,5 +13,5 @@ collected count count_now before middle now failed fresh back same =
     rw same at (back.some (omega (arith, failed.1 low)))
 
 -- all that was noted is said
-pub says_all : {f : Bool} {a b : Option (List ℕ)} {i j : ℕ} {text : List ℕ} → HasNoted f a b i j text → Says text a b i j
+pub says_all : {f : Bool} {a b : SinkState} {text : List ℕ} → HasNoted f a b text → Says a b text
 says_all noted = record { front = noted_front noted; whole = noted_all noted }

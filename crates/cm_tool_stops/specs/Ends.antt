@@ -1,5 +1,6 @@
 -- The status and the message of a job that stopped.
 use Rattle.std.specs.Prelude.{◌≡◌, ◌<◌, ◌^◌, ℕ, List, [], take, Option}
+use Rattle.cm_io.specs.States.{SinkState}
 use Rattle.cm_io.specs.Writing.{then_bytes}
 use Rattle.cm_tool_stops.specs.Messages.{bad_dump, cannot_write_out, out_of_memory, cannot_read, cannot_use_spill, cannot_write, keys_changed, no_keys, line_too_long, seed_failure_message, spill_damaged, too_many_keys}
 use Rattle.cm_tool_stops.specs.declared.stop.QueryStop.{QueryStop}
@@ -72,6 +73,6 @@ pub record IsPrintMessage (status : ℕ) (text : List ℕ) : Type 0 where
   pub memory : status ≡ 6 → text ≡ out_of_memory
 
 -- err got the text, or a prefix of it if its own count rose
-pub record Says (text : List ℕ) (old new : Option (List ℕ)) (before now : ℕ) : Type 0 where
-  pub front : (n : ℕ) × (new ≡ then_bytes old (take n text))
-  pub whole : before < 2 ^ 63 → now ≡ before → new ≡ then_bytes old text
+pub record Says (old new : SinkState) (text : List ℕ) : Type 0 where
+  pub front : (n : ℕ) × (new.written ≡ then_bytes old.written (take n text))
+  pub whole : old.faults < 2 ^ 63 → new.faults ≡ old.faults → new.written ≡ then_bytes old.written text

@@ -1,6 +1,6 @@
 //! What is said on err.
 ghost use Rattle.std.specs.Prelude.{◌≡◌, [], ◌∷◌, codes, false, map};
-ghost use Rattle.cm_io.specs.Causes.{IsSent};
+ghost use Rattle.cm_io.specs.States.{IsSent};
 ghost use Rattle.cm_io.specs.Noting.{Noted};
 ghost use Rattle.cm_io.specs.Writing.{joined};
 ghost use Rattle.cm_tool_stops.specs.Ends.{Says, status_of, message_of, query_status_of, query_message_of, usage_status_of};
@@ -21,8 +21,8 @@ pub(crate) const PROGRAM: [u8; 4] = *b"cmph";
 
 /// Says one message. If err fails, it gets a prefix of it.
 pub(crate) fn say<E: Sink>(err: &mut E, pieces: &[&[u8]])
-    ensures says { Says (joined (map (λ piece. piece.now) pieces.now)) (E.written err.old) (E.written err.new) (E.faults err.old) (E.faults err.new) }
-    ensures sent { IsSent (E.waits err.new) (E.faults err.old) (E.faults err.new) }
+    ensures says { Says (E.state err.old) (E.state err.new) (joined (map (λ piece. piece.now) pieces.now)) }
+    ensures sent { IsSent (E.state err.old) (E.state err.new) }
 {
     let mut notes = Notes::new();
     notes.note_pieces(err, pieces);
@@ -31,8 +31,8 @@ pub(crate) fn say<E: Sink>(err: &mut E, pieces: &[&[u8]])
 /// Says why arguments ask for no job, and returns the status.
 pub fn report_usage<E: Sink>(fault: UsageFault, err: &mut E) -> u8
     ensures status { result ≡ usage_status_of fault }
-    ensures says { Says (usage_message fault) (E.written err.old) (E.written err.new) (E.faults err.old) (E.faults err.new) }
-    ensures sent { IsSent (E.waits err.new) (E.faults err.old) (E.faults err.new) }
+    ensures says { Says (E.state err.old) (E.state err.new) (usage_message fault) }
+    ensures sent { IsSent (E.state err.old) (E.state err.new) }
 {
     explain_usage(fault, err);
     usage_status(fault)
@@ -41,16 +41,16 @@ pub fn report_usage<E: Sink>(fault: UsageFault, err: &mut E) -> u8
 /// Says that memory ran out before the arguments were read, and returns the status of that.
 pub fn report_no_memory<E: Sink>(err: &mut E) -> u8
     ensures status { result ≡ 6 }
-    ensures says { Says out_of_memory (E.written err.old) (E.written err.new) (E.faults err.old) (E.faults err.new) }
-    ensures sent { IsSent (E.waits err.new) (E.faults err.old) (E.faults err.new) }
+    ensures says { Says (E.state err.old) (E.state err.new) out_of_memory }
+    ensures sent { IsSent (E.state err.old) (E.state err.new) }
 {
     report_usage(UsageFault::Memory, err)
 }
 
 /// Says why arguments ask for no job.
 fn explain_usage<E: Sink>(fault: UsageFault, err: &mut E)
-    ensures says { Says (usage_message fault) (E.written err.old) (E.written err.new) (E.faults err.old) (E.faults err.new) }
-    ensures sent { IsSent (E.waits err.new) (E.faults err.old) (E.faults err.new) }
+    ensures says { Says (E.state err.old) (E.state err.new) (usage_message fault) }
+    ensures sent { IsSent (E.state err.old) (E.state err.new) }
 {
     match fault {
         UsageFault::Memory => say(err, &[&PROGRAM, b": out of memory\n"]),
@@ -93,8 +93,8 @@ fn counted_by(algorithm: Algorithm) -> &'static [u8]
 
 /// Says what function was built, if that is asked for.
 pub fn say_built<E: Sink>(job: &BuildJob, summary: Summary, err: &mut E)
-    ensures says { Says (built_message job.now summary) (E.written err.old) (E.written err.new) (E.faults err.old) (E.faults err.new) }
-    ensures sent { E.waits err.old ≡ 0 → IsSent (E.waits err.new) (E.faults err.old) (E.faults err.new) }
+    ensures says { Says (E.state err.old) (E.state err.new) (built_message job.now summary) }
+    ensures sent { (E.state err.old).waits ≡ 0 → IsSent (E.state err.old) (E.state err.new) }
 {
     if job.verbose {
         let mut keys = Buffer::new();
@@ -121,8 +121,8 @@ pub fn say_built<E: Sink>(job: &BuildJob, summary: Summary, err: &mut E)
 /// Says why a build stopped, by the paths of its keys file and its function file and by the directory of its spill, and returns its status.
 pub fn report<E: Sink>(stop: Stop, keys: &str, function: &str, dir: &str, err: &mut E) -> u8
     ensures status { result ≡ status_of stop }
-    ensures says { Says (message_of keys.now function.now dir.now stop) (E.written err.old) (E.written err.new) (E.faults err.old) (E.faults err.new) }
-    ensures sent { IsSent (E.waits err.new) (E.faults err.old) (E.faults err.new) }
+    ensures says { Says (E.state err.old) (E.state err.new) (message_of keys.now function.now dir.now stop) }
+    ensures sent { IsSent (E.state err.old) (E.state err.new) }
 {
     let mut notes = Notes::new();
     explain(
@@ -145,8 +145,8 @@ fn explain<E: Sink>(
     err: &mut E,
     notes: &mut Notes,
 )
-    ensures noted { Noted notes.old notes.new (E.written err.old) (E.written err.new) (E.faults err.old) (E.faults err.new) (message_of keys.now function.now dir.now stop) }
-    ensures sent { notes.new ≡ false → E.waits err.new ≡ 0 }
+    ensures noted { Noted notes.old notes.new (E.state err.old) (E.state err.new) (message_of keys.now function.now dir.now stop) }
+    ensures sent { notes.new ≡ false → (E.state err.new).waits ≡ 0 }
 {
     match stop {
         Stop::Refused(failure) => note_seed_failure(failure, err, notes),
@@ -192,8 +192,8 @@ fn status(stop: Stop) -> u8
 /// Notes why a query stopped, and returns its status.
 pub fn report_query<E: Sink>(job: &QueryJob, stop: QueryStop, err: &mut E, notes: &mut Notes) -> u8
     ensures status { result ≡ query_status_of stop }
-    ensures noted { Noted notes.old notes.new (E.written err.old) (E.written err.new) (E.faults err.old) (E.faults err.new) (query_message_of job.now stop) }
-    ensures sent { notes.new ≡ false → E.waits err.new ≡ 0 }
+    ensures noted { Noted notes.old notes.new (E.state err.old) (E.state err.new) (query_message_of job.now stop) }
+    ensures sent { notes.new ≡ false → (E.state err.new).waits ≡ 0 }
 {
     explain_query(job, stop, err, notes);
     query_status(stop)
@@ -201,8 +201,8 @@ pub fn report_query<E: Sink>(job: &QueryJob, stop: QueryStop, err: &mut E, notes
 
 /// Notes why a query stopped.
 fn explain_query<E: Sink>(job: &QueryJob, stop: QueryStop, err: &mut E, notes: &mut Notes)
-    ensures noted { Noted notes.old notes.new (E.written err.old) (E.written err.new) (E.faults err.old) (E.faults err.new) (query_message_of job.now stop) }
-    ensures sent { notes.new ≡ false → E.waits err.new ≡ 0 }
+    ensures noted { Noted notes.old notes.new (E.state err.old) (E.state err.new) (query_message_of job.now stop) }
+    ensures sent { notes.new ≡ false → (E.state err.new).waits ≡ 0 }
 {
     let keys = job.keys.as_str().as_bytes();
     let function = job.function.as_str().as_bytes();
@@ -232,8 +232,8 @@ fn query_status(stop: QueryStop) -> u8
 
 /// Notes why there is no function of the keys.
 fn note_seed_failure<E: Sink>(failure: SeedFailure, err: &mut E, notes: &mut Notes)
-    ensures noted { Noted notes.old notes.new (E.written err.old) (E.written err.new) (E.faults err.old) (E.faults err.new) (seed_failure_message failure) }
-    ensures sent { notes.new ≡ false → E.waits err.new ≡ 0 }
+    ensures noted { Noted notes.old notes.new (E.state err.old) (E.state err.new) (seed_failure_message failure) }
+    ensures sent { notes.new ≡ false → (E.state err.new).waits ≡ 0 }
 {
     match failure {
         SeedFailure::NoSeed => {
@@ -273,32 +273,32 @@ fn note_seed_failure<E: Sink>(failure: SeedFailure, err: &mut E, notes: &mut Not
 
 /// Notes that memory ran out.
 fn note_want_of_memory<E: Sink>(err: &mut E, notes: &mut Notes)
-    ensures noted { Noted notes.old notes.new (E.written err.old) (E.written err.new) (E.faults err.old) (E.faults err.new) out_of_memory }
-    ensures sent { notes.new ≡ false → E.waits err.new ≡ 0 }
+    ensures noted { Noted notes.old notes.new (E.state err.old) (E.state err.new) out_of_memory }
+    ensures sent { notes.new ≡ false → (E.state err.new).waits ≡ 0 }
 {
     notes.note_pieces(err, &[&PROGRAM, b": out of memory\n"]);
 }
 
 /// Notes that out can't be written.
 fn note_out_fault<E: Sink>(err: &mut E, notes: &mut Notes)
-    ensures noted { Noted notes.old notes.new (E.written err.old) (E.written err.new) (E.faults err.old) (E.faults err.new) cannot_write_out }
-    ensures sent { notes.new ≡ false → E.waits err.new ≡ 0 }
+    ensures noted { Noted notes.old notes.new (E.state err.old) (E.state err.new) cannot_write_out }
+    ensures sent { notes.new ≡ false → (E.state err.new).waits ≡ 0 }
 {
     notes.note_pieces(err, &[&PROGRAM, b": cannot write standard output\n"]);
 }
 
 /// Notes that a file can't be opened, read or rewound.
 fn note_unread<E: Sink>(file: &[u8], err: &mut E, notes: &mut Notes)
-    ensures noted { Noted notes.old notes.new (E.written err.old) (E.written err.new) (E.faults err.old) (E.faults err.new) (cannot_read file.now) }
-    ensures sent { notes.new ≡ false → E.waits err.new ≡ 0 }
+    ensures noted { Noted notes.old notes.new (E.state err.old) (E.state err.new) (cannot_read file.now) }
+    ensures sent { notes.new ≡ false → (E.state err.new).waits ≡ 0 }
 {
     notes.note_pieces(err, &[&PROGRAM, b": ", file, b": cannot read\n"]);
 }
 
 /// Notes that the keys changed.
 fn note_change<E: Sink>(file: &[u8], first: u32, again: u32, err: &mut E, notes: &mut Notes)
-    ensures noted { Noted notes.old notes.new (E.written err.old) (E.written err.new) (E.faults err.old) (E.faults err.new) (keys_changed file.now first again) }
-    ensures sent { notes.new ≡ false → E.waits err.new ≡ 0 }
+    ensures noted { Noted notes.old notes.new (E.state err.old) (E.state err.new) (keys_changed file.now first again) }
+    ensures sent { notes.new ≡ false → (E.state err.new).waits ≡ 0 }
 {
     let mut first_buffer = Buffer::new();
     let first_text = first_buffer.format(first).as_bytes();
@@ -328,8 +328,8 @@ fn note_damage<E: Sink>(
     err: &mut E,
     notes: &mut Notes,
 )
-    ensures noted { Noted notes.old notes.new (E.written err.old) (E.written err.new) (E.faults err.old) (E.faults err.new) (spill_damaged dir.now offset expected found) }
-    ensures sent { notes.new ≡ false → E.waits err.new ≡ 0 }
+    ensures noted { Noted notes.old notes.new (E.state err.old) (E.state err.new) (spill_damaged dir.now offset expected found) }
+    ensures sent { notes.new ≡ false → (E.state err.new).waits ≡ 0 }
 {
     let mut offset_buffer = Buffer::new();
     let offset_text = offset_buffer.format(offset).as_bytes();
@@ -356,8 +356,8 @@ fn note_damage<E: Sink>(
 
 /// Notes that a line is too long.
 fn note_long_line<E: Sink>(file: &[u8], line: u32, err: &mut E, notes: &mut Notes)
-    ensures noted { Noted notes.old notes.new (E.written err.old) (E.written err.new) (E.faults err.old) (E.faults err.new) (line_too_long file.now line) }
-    ensures sent { notes.new ≡ false → E.waits err.new ≡ 0 }
+    ensures noted { Noted notes.old notes.new (E.state err.old) (E.state err.new) (line_too_long file.now line) }
+    ensures sent { notes.new ≡ false → (E.state err.new).waits ≡ 0 }
 {
     let mut buffer = Buffer::new();
     let text = buffer.format(line).as_bytes();
@@ -369,8 +369,8 @@ fn note_long_line<E: Sink>(file: &[u8], line: u32, err: &mut E, notes: &mut Note
 
 /// Notes that there are too many keys.
 fn note_many_keys<E: Sink>(file: &[u8], err: &mut E, notes: &mut Notes)
-    ensures noted { Noted notes.old notes.new (E.written err.old) (E.written err.new) (E.faults err.old) (E.faults err.new) (too_many_keys file.now) }
-    ensures sent { notes.new ≡ false → E.waits err.new ≡ 0 }
+    ensures noted { Noted notes.old notes.new (E.state err.old) (E.state err.new) (too_many_keys file.now) }
+    ensures sent { notes.new ≡ false → (E.state err.new).waits ≡ 0 }
 {
     let mut buffer = Buffer::new();
     let text = buffer.format(MAX_KEYS).as_bytes();
@@ -382,8 +382,8 @@ fn note_many_keys<E: Sink>(file: &[u8], err: &mut E, notes: &mut Notes)
 
 /// Notes why the function file is no dump.
 fn explain_dump<E: Sink>(file: &[u8], fault: LoadFault, err: &mut E, notes: &mut Notes)
-    ensures noted { Noted notes.old notes.new (E.written err.old) (E.written err.new) (E.faults err.old) (E.faults err.new) (bad_dump file.now fault) }
-    ensures sent { notes.new ≡ false → E.waits err.new ≡ 0 }
+    ensures noted { Noted notes.old notes.new (E.state err.old) (E.state err.new) (bad_dump file.now fault) }
+    ensures sent { notes.new ≡ false → (E.state err.new).waits ≡ 0 }
 {
     let words = words_of(fault);
     match place_of(fault) {
@@ -398,9 +398,9 @@ fn explain_dump<E: Sink>(file: &[u8], fault: LoadFault, err: &mut E, notes: &mut
 
 /// Notes what is wrong with the function file, and at which byte.
 fn note_dump<E: Sink>(file: &[u8], words: &[u8], place: &[u8], err: &mut E, notes: &mut Notes)
-    ensures noted { Noted notes.old notes.new (E.written err.old) (E.written err.new) (E.faults err.old) (E.faults err.new)
+    ensures noted { Noted notes.old notes.new (E.state err.old) (E.state err.new)
         (joined (program ∷ codes ": " ∷ file.now ∷ codes ": bad dump: " ∷ words.now ∷ place.now ∷ codes "\n" ∷ [])) }
-    ensures sent { notes.new ≡ false → E.waits err.new ≡ 0 }
+    ensures sent { notes.new ≡ false → (E.state err.new).waits ≡ 0 }
 {
     notes.note_pieces(
         err,

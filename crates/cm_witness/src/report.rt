@@ -44,8 +44,8 @@ pub fn append_number<const N: usize>(
 
 /// Writes the line of an edge as one piece.
 fn write_edge<O: Sink>(out: &mut O, edge: &CoreEdge, buffer: &mut Buffer) -> Result<(), Failed>
-    ensures line { Writes (O.written out.old) (O.written out.new) (edge_line edge.now) result }
-    ensures cause { HasCause (O.faults out.old) (O.faults out.new) result }
+    ensures line { Writes (O.state out.old).written (O.state out.new).written (edge_line edge.now) result }
+    ensures cause { HasCause (O.state out.old).faults (O.state out.new).faults result }
 {
     let mut line = ArrayVec::<u8, LINE_ROOM>::new();
     append_number(&mut line, b"edge ", edge.line, buffer);
@@ -60,8 +60,8 @@ fn write_edge<O: Sink>(out: &mut O, edge: &CoreEdge, buffer: &mut Buffer) -> Res
 
 /// Writes the line of a pair as one piece.
 fn write_pair<O: Sink>(out: &mut O, pair: &Pair, buffer: &mut Buffer) -> Result<(), Failed>
-    ensures line { Writes (O.written out.old) (O.written out.new) (pair_line pair.now) result }
-    ensures cause { HasCause (O.faults out.old) (O.faults out.new) result }
+    ensures line { Writes (O.state out.old).written (O.state out.new).written (pair_line pair.now) result }
+    ensures cause { HasCause (O.state out.old).faults (O.state out.new).faults result }
 {
     let mut line = ArrayVec::<u8, LINE_ROOM>::new();
     append_number(&mut line, b"equal ", pair.first, buffer);
@@ -72,8 +72,8 @@ fn write_pair<O: Sink>(out: &mut O, pair: &Pair, buffer: &mut Buffer) -> Result<
 
 /// Writes the lines of the edges.
 fn write_edges<O: Sink>(out: &mut O, edges: &[CoreEdge], buffer: &mut Buffer) -> Result<(), Failed>
-    ensures lines { Writes (O.written out.old) (O.written out.new) (joined (map edge_line edges.now)) result }
-    ensures cause { HasCause (O.faults out.old) (O.faults out.new) result }
+    ensures lines { Writes (O.state out.old).written (O.state out.new).written (joined (map edge_line edges.now)) result }
+    ensures cause { HasCause (O.state out.old).faults (O.state out.new).faults result }
 {
     for edge in edges {
         write_edge(out, edge, buffer)?;
@@ -84,8 +84,8 @@ fn write_edges<O: Sink>(out: &mut O, edges: &[CoreEdge], buffer: &mut Buffer) ->
 /// Writes a line for each pair of equal keys. Takes no memory. Fails exactly if the sink does, which has then taken a prefix of the
 /// text. The buffer is scratch space.
 pub fn write_pairs<O: Sink>(out: &mut O, pairs: &[Pair], buffer: &mut Buffer) -> Result<(), Failed>
-    ensures lines { Writes (O.written out.old) (O.written out.new) (joined (map pair_line pairs.now)) result }
-    ensures cause { HasCause (O.faults out.old) (O.faults out.new) result }
+    ensures lines { Writes (O.state out.old).written (O.state out.new).written (joined (map pair_line pairs.now)) result }
+    ensures cause { HasCause (O.state out.old).faults (O.state out.new).faults result }
 {
     for pair in pairs {
         write_pair(out, pair, buffer)?;
@@ -96,8 +96,8 @@ pub fn write_pairs<O: Sink>(out: &mut O, pairs: &[Pair], buffer: &mut Buffer) ->
 impl Certificate {
     /// Writes the first line as one piece.
     fn write_head<O: Sink>(&self, out: &mut O, buffer: &mut Buffer) -> Result<(), Failed>
-        ensures line { Writes (O.written out.old) (O.written out.new) (head_line self.now.algorithm self.now.place self.now.seed (length self.now.edges.items)) result }
-        ensures cause { HasCause (O.faults out.old) (O.faults out.new) result }
+        ensures line { Writes (O.state out.old).written (O.state out.new).written (head_line self.now.algorithm self.now.place self.now.seed (length self.now.edges.items)) result }
+        ensures cause { HasCause (O.state out.old).faults (O.state out.new).faults result }
     {
         let mut line = ArrayVec::<u8, HEAD_ROOM>::new();
         append(&mut line, b"core ");
@@ -117,9 +117,9 @@ impl Certificate {
     /// each pair of equal keys, each in a line of its own. Takes no memory. Fails exactly if the sink does, which has then taken a
     /// prefix of the text.
     pub fn write<O: Sink>(&self, out: &mut O) -> Result<(), Failed>
-        ensures text { Writes (O.written out.old) (O.written out.new)
+        ensures text { Writes (O.state out.old).written (O.state out.new).written
             (report_text self.now.algorithm self.now.place self.now.seed self.now.edges.items self.now.equal.items) result }
-        ensures cause { HasCause (O.faults out.old) (O.faults out.new) result }
+        ensures cause { HasCause (O.state out.old).faults (O.state out.new).faults result }
     {
         let mut buffer = Buffer::new();
         self.write_head(out, &mut buffer)?;

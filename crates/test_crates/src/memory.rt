@@ -36,7 +36,7 @@ fn first_bytes<D: Disk>(disk: &mut D, path: &str, buf: &mut [u8]) -> Result<usiz
 
 /// The message is stated whole, and is one call.
 fn complain<E: Sink>(notes: &mut Notes, err: &mut E, path: &str)
-    ensures noted { Noted notes.old notes.new (E.written err.old) (E.written err.new) (E.faults err.old) (E.faults err.new)
+    ensures noted { Noted notes.old notes.new (E.state err.old) (E.state err.new)
         (codes "cmph: " ++ (path.now ++ codes ": no keys\n")) }
 {
     notes.note_pieces(err, &[b"cmph: ", path.as_bytes(), b": no keys\n"]);
@@ -44,9 +44,9 @@ fn complain<E: Sink>(notes: &mut Notes, err: &mut E, path: &str)
 
 /// The line is stated whole, and is one call.
 fn write_answer<O: Sink>(out: &mut O, key: &[u8], answer: &[u8]) -> Result<(), Failed>
-    ensures bytes { Writes (O.written out.old) (O.written out.new)
+    ensures bytes { Writes (O.state out.old).written (O.state out.new).written
         (key.now ++ (codes " -> " ++ (answer.now ++ codes "\n"))) result }
-    ensures cause { HasCause (O.faults out.old) (O.faults out.new) result }
+    ensures cause { HasCause (O.state out.old).faults (O.state out.new).faults result }
 {
     write_pieces(out, &[key, b" -> ", answer, b"\n"])
 }

@@ -12,7 +12,7 @@ returns-in_err-save_bucket-clause-bytes g c =
     let bs : List Bucket = c.args.brz.now.buckets in
     let j : ℕ = c.loop-j.j in
     let inside : j < length bs = omega (arith, c.loop-j-test.true, c.buckets-j-end.ensures.buckets) in
-    more_stopped _ (g.O.Sink.written c.loop-j.out) _ (buckets_image version_1 (take j bs)) (bucket_image version_1 (slice_index_or bs j no_bucket)) (buckets_image version_1 (drop (j + 1) bs)) (buckets_image version_1 bs) _ (buckets_whole bs j inside) c.from_residual.ensures.0 c.loop-j.invariant.bytes c.in_err-save_bucket.ensures.bytes
+    more_stopped _ (g.O.Sink.state c.loop-j.out).written _ (buckets_image version_1 (take j bs)) (bucket_image version_1 (slice_index_or bs j no_bucket)) (buckets_image version_1 (drop (j + 1) bs)) (buckets_image version_1 bs) _ (buckets_whole bs j inside) c.from_residual.ensures.0 c.loop-j.invariant.bytes c.in_err-save_bucket.ensures.bytes
 
 pub loop-j-preserved : goal.loop-j-preserved
 loop-j-preserved g c =
@@ -21,5 +21,5 @@ loop-j-preserved g c =
     let inside : j < length bs = omega (arith, c.loop-j-test.true, c.buckets-j-end.ensures.buckets) in
     record {
       quiet = search rules;
-      bytes = more_wrote _ (g.O.Sink.written c.loop-j.out) _ (buckets_image version_1 (take j bs)) (bucket_image version_1 (slice_index_or bs j no_bucket)) _ (buckets_more bs j inside) c.loop-j.invariant.bytes c.in_ok-save_bucket.ensures.bytes;
+      bytes = more_wrote _ (g.O.Sink.state c.loop-j.out).written _ (buckets_image version_1 (take j bs)) (bucket_image version_1 (slice_index_or bs j no_bucket)) _ (buckets_more bs j inside) c.loop-j.invariant.bytes c.in_ok-save_bucket.ensures.bytes;
     }

@@ -6,6 +6,6 @@ use Rattle.cm_dump.proofs.buckets.save_buckets.Given as goal
 
 abbrev pub invariant-loop-j : goal.invariant-loop-j
 invariant-loop-j g l = record {
-  quiet : g.O.Sink.faults l.out ≡ g.O.Sink.faults l.fn.out;
-  bytes : g.O.Sink.written l.out ≡ then_bytes (g.O.Sink.written l.fn.out) (buckets_image version_1 (take l.j l.brz.buckets));
+  quiet : (g.O.Sink.state l.out).faults ≡ (g.O.Sink.state l.fn.out).faults;
+  bytes : (g.O.Sink.state l.out).written ≡ then_bytes (g.O.Sink.state l.fn.out).written (buckets_image version_1 (take l.j l.brz.buckets));
 }

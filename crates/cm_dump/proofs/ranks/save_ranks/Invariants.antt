@@ -5,9 +5,9 @@ use Rattle.cm_dump.proofs.ranks.save_ranks.Given as goal
 
 abbrev pub invariant-pieces : goal.invariant-pieces
 invariant-pieces g l = record {
-  quiet : g.O.Sink.faults l.out ≡ g.O.Sink.faults l.fn.out;
+  quiet : (g.O.Sink.state l.out).faults ≡ (g.O.Sink.state l.fn.out).faults;
   within : l.done ≤ l.entries;
-  bytes : g.O.Sink.written l.out ≡ then_bytes (g.O.Sink.written l.fn.out) (ranks_image (take l.done l.ranks.ranks));
+  bytes : (g.O.Sink.state l.out).written ≡ then_bytes (g.O.Sink.state l.fn.out).written (ranks_image (take l.done l.ranks.ranks));
 }
 
 abbrev pub decreases-pieces : goal.decreases-pieces

@@ -18,19 +18,19 @@ invariant-keys g l =
       ready : P.usable l.keys ≡ true;
       same : P.told l.keys ≡ P.told l.fn.keys;
       quiet : P.faults l.keys ≡ P.faults l.fn.keys;
-      quiet_out : O.faults l.out ≡ O.faults l.fn.out;
+      quiet_out : (O.state l.out).faults ≡ (O.state l.fn.out).faults;
       at : P.place l.keys ≡ l.tally.lines + length l.batch.keys;
       few : P.place l.keys ≤ MAX_KEYS;
       counts : l.tally.repeated + l.tally.unknown ≤ l.tally.lines;
       size : length (packed_cells 2 8 l.marks.n l.marks.bytes.items) ≡ A.span_of l.function;
-      sent : O.waits l.fn.out ≡ 0 → (0 < length l.batch.keys) ⊎ (((key : List ℕ) × P.stands l.keys key) ⊎ (O.waits l.out ≡ 0));
-      notes_sent : (l.fn.notes ≡ false → E.waits l.fn.err ≡ 0) → l.notes ≡ false → E.waits l.err ≡ 0;
-      text : (text : List ℕ) × (O.written l.out ≡ then_bytes (O.written l.fn.out) text);
-      says : (text : List ℕ) × Noted l.fn.notes l.notes (E.written l.fn.err) (E.written l.err) (E.faults l.fn.err) (E.faults l.err) text;
+      sent : (O.state l.fn.out).waits ≡ 0 → (0 < length l.batch.keys) ⊎ (((key : List ℕ) × P.stands l.keys key) ⊎ ((O.state l.out).waits ≡ 0));
+      notes_sent : (l.fn.notes ≡ false → (E.state l.fn.err).waits ≡ 0) → l.notes ≡ false → (E.state l.err).waits ≡ 0;
+      text : (text : List ℕ) × ((O.state l.out).written ≡ then_bytes (O.state l.fn.out).written text);
+      says : (text : List ℕ) × Noted l.fn.notes l.notes (E.state l.fn.err) (E.state l.err) text;
       answered : AreAnswers (A.answer_of l.function) (A.span_of l.function) l.batch;
       ahead : ForSome (P.told l.fn.keys) (λ told. drop l.tally.lines told.keys ≡ l.batch.keys ++ drop (P.place l.keys) told.keys);
       so_far : ForSome (P.told l.fn.keys) (λ told. (l.tally.lines ≤ length told.keys)
-          × SoFar (A.answer_of l.function) (take l.tally.lines told.keys) (packed_cells 2 8 l.marks.n l.marks.bytes.items) l.tally (O.written l.fn.out) (O.written l.out) l.fn.notes l.notes (E.written l.fn.err) (E.written l.err) (E.faults l.fn.err) (E.faults l.err));
+          × SoFar (A.answer_of l.function) (take l.tally.lines told.keys) (packed_cells 2 8 l.marks.n l.marks.bytes.items) l.tally (O.state l.fn.out).written (O.state l.out).written l.fn.notes l.notes (E.state l.fn.err) (E.state l.err));
     }
 
 abbrev pub decreases-keys : goal.decreases-keys

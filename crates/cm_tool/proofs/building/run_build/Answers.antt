@@ -1,4 +1,5 @@
 use Rattle.std.proofs.Common.{◌≡◌, ◌∙◌, None, arith, refl, sym}
+use Rattle.cm_io.specs.States.{outside}
 use Rattle.cm_tool_stops.specs.Ends.{message_of}
 use Rattle.cm_tool_stops.specs.Messages.{built_message}
 use Rattle.cm_tool.proofs.Clauses.{not_risen}
@@ -10,11 +11,13 @@ returns-in-Ok g c =
     let job = c.args.job.now in
     let summary = c.in-Ok.summary in
     let made = c.in-Ok.ensures in
+    let old = (outside (g.D.Disk.state c.args.disk.now) (g.O.Sink.state c.args.out.now) (g.E.Sink.state c.args.err.now)) in
+    let new = (outside (g.D.Disk.state c.build_file.new.disk) (g.O.Sink.state c.build_file.new.out) (g.E.Sink.state c.say_built.new.err)) in
     record {
       status = refl;
       read = λ low. (λ four. absurd (omega (arith, four)), λ rose. not_risen _ _ made.cause.0 rose);
       write = λ low few. (λ five. absurd (omega (arith, five)), λ either. neither _ _ _ _ made.cause.1 made.out_cause either);
-      outcome = λ _ _ _ files is. finished job _ _ summary _ _ _ _ _ _ files made.leaves made.out c.say_built.ensures.says is;
+      outcome = λ _ _ _ files is. finished job old new summary files made.leaves made.out c.say_built.ensures.says is;
       first = λ _ files is. took_first job _ _ None None summary files made.leaves is;
       cored = λ one. absurd (omega (arith, one));
       numbers = λ _ files is. c.saved_numbers.ensures job _ _ None None summary files c.requires.job made.leaves is;
@@ -41,20 +44,22 @@ returns-in-Err g c =
     let function : c.as_str-in-Err.result.now ≡ job.function = c.as_str-in-Err.ensures.bytes in
     let dir : c.as_str-in-Err-2.result.now ≡ job.dir = c.as_str-in-Err-2.ensures.bytes in
     let says = rw (keys, function, dir) at c.report.ensures.says in
+    let old = (outside (g.D.Disk.state c.args.disk.now) (g.O.Sink.state c.args.out.now) (g.E.Sink.state c.args.err.now)) in
+    let new = (outside (g.D.Disk.state c.build_file.new.disk) (g.O.Sink.state c.build_file.new.out) (g.E.Sink.state c.report.new.err)) in
     record {
       status = rw status (stop_status job stop);
       read = λ low. rw status (stop_read stop _ _ _ _ left.cause low);
       write = λ low few. rw status (stop_write stop _ _ _ _ _ _ left.cause left.out_cause low few);
-      outcome = λ a b d files is. rw status (stopped job _ _ stop _ _ _ _ _ _ files left.leaves left.out says (rw status at a) (rw status at b) (rw status at d) is);
+      outcome = λ a b d files is. rw status (stopped job old new stop files left.leaves left.out says (rw status at a) (rw status at b) (rw status at d) is);
       first = λ zero. stop_failed stop (sym status ∙ zero);
       cored = λ one files is. is_cored job _ _ _ _ stop files left.leaves is (sym status ∙ one);
       numbers = λ zero. stop_failed stop (sym status ∙ zero);
       spilled = λ zero. stop_failed stop (sym status ∙ zero);
       unspilled = c.build_file.ensures.unspilled;
       unchanged = λ files is seven. stop_known job _ _ _ _ stop files left.leaves is (sym status ∙ seven);
-      missing = λ files is none. rw status (missing job _ _ _ _ stop files left.leaves left.out is none);
+      missing = λ files is none. rw status (missing job old new stop files left.leaves left.out is none);
       kept = λ a b d. stop_kept job _ _ _ _ stop left.leaves (rw status at b) (rw status at d);
-      part = λ five files is. written_part job _ _ _ _ _ _ _ _ _ _ stop files left.leaves left.out left.form left.out_cause says is (sym status ∙ five);
+      part = λ five files is. written_part job old new stop files left.leaves left.out left.form left.out_cause says is (sym status ∙ five);
       memory = λ six. emptied job _ _ _ _ stop left.leaves (sym status ∙ six);
       out = λ a b. stop_quiet _ _ stop left.out (rw status at a) (rw status at b);
       sent = c.build_file.ensures.sent;

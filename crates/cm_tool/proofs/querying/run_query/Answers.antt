@@ -1,4 +1,5 @@
 use Rattle.std.proofs.Common.{[], ◌∙◌}
+use Rattle.cm_io.specs.States.{outside}
 use Rattle.cm_io.specs.NotingLaws.{noted_first, noted_next}
 use Rattle.cm_tool_stops.specs.EndLaws.{says_all}
 use Rattle.cm_tool_stops.specs.Ends.{query_message_of}
@@ -8,7 +9,7 @@ use Rattle.cm_tool.proofs.querying.run_query.Goals as goal
 pub returns-in-Ok-clause-outcome : goal.returns-in-Ok-clause-outcome
 returns-in-Ok-clause-outcome g c = λ _ _ _ files is.
     let told = c.in-Ok.ensures.told files is in
-    query_done c.args.job.now files _ _ _ _ _ _ told.0 c.in-Ok.tally _ _ c.noted_exactly.ensures told.2 (says_all (noted_first c.new-notes.ensures.fresh told.1)) c.noted_status.ensures.none c.noted_status.ensures.some (c.answer_file.ensures.files ∙ is)
+    query_done c.args.job.now files (outside (g.D.Disk.state c.args.disk.now) (g.O.Sink.state c.args.out.now) (g.E.Sink.state c.args.err.now)) (outside (g.D.Disk.state c.answer_file.new.disk) (g.O.Sink.state c.answer_file.new.out) (g.E.Sink.state c.answer_file.new.err)) told.0 c.in-Ok.tally _ c.noted_exactly.ensures told.2 (says_all (noted_first c.new-notes.ensures.fresh told.1)) c.noted_status.ensures.none c.noted_status.ensures.some (c.answer_file.ensures.files ∙ is)
 
 pub returns-in-Ok-clause-err : goal.returns-in-Ok-clause-err
 returns-in-Ok-clause-err g c =
@@ -20,19 +21,19 @@ returns-in-Err-clause-outcome g c = λ a b d files is.
     let told = c.in-Err.ensures.told files is in
     let status = c.report_query.ensures.status in
     let says = says_all (noted_next (noted_first c.new-notes.ensures.fresh told.1) c.report_query.ensures.noted) in
-    rw status (query_stopped c.args.job.now files _ _ _ _ _ _ told.0 c.in-Err.stop _ told.2 says (rw status at a) (rw status at b) (rw status at d) (c.answer_file.ensures.files ∙ is))
+    rw status (query_stopped c.args.job.now files (outside (g.D.Disk.state c.args.disk.now) (g.O.Sink.state c.args.out.now) (g.E.Sink.state c.args.err.now)) (outside (g.D.Disk.state c.answer_file.new.disk) (g.O.Sink.state c.answer_file.new.out) (g.E.Sink.state c.report_query.new.err)) told.0 c.in-Err.stop told.2 says (rw status at a) (rw status at b) (rw status at d) (c.answer_file.ensures.files ∙ is))
 
 pub returns-in-Err-clause-missing : goal.returns-in-Err-clause-missing
 returns-in-Err-clause-missing g c = λ files is none.
     let told = c.in-Err.ensures.told files is in
-    rw c.report_query.ensures.status (lacking c.args.job.now files _ _ _ _ told.0 c.in-Err.stop told.2 c.answer_file.ensures.files none)
+    rw c.report_query.ensures.status (lacking c.args.job.now files (outside (g.D.Disk.state c.args.disk.now) (g.O.Sink.state c.args.out.now) (g.E.Sink.state c.args.err.now)) (outside (g.D.Disk.state c.answer_file.new.disk) (g.O.Sink.state c.answer_file.new.out) (g.E.Sink.state c.report_query.new.err)) told.0 c.in-Err.stop told.2 c.answer_file.ensures.files none)
 
 pub returns-in-Err-clause-cut : goal.returns-in-Err-clause-cut
 returns-in-Err-clause-cut g c = λ either files is.
     let told = c.in-Err.ensures.told files is in
     let status = c.report_query.ensures.status in
     let says = says_all (noted_next (noted_first c.new-notes.ensures.fresh told.1) c.report_query.ensures.noted) in
-    rw status (cut_short c.args.job.now files _ _ _ _ _ _ told.0 c.in-Err.stop told.2 says (rw status at either))
+    rw status (cut_short c.args.job.now files (outside (g.D.Disk.state c.args.disk.now) (g.O.Sink.state c.args.out.now) (g.E.Sink.state c.args.err.now)) (outside (g.D.Disk.state c.answer_file.new.disk) (g.O.Sink.state c.answer_file.new.out) (g.E.Sink.state c.report_query.new.err)) told.0 c.in-Err.stop told.2 says (rw status at either))
 
 pub returns-in-Err-clause-err : goal.returns-in-Err-clause-err
 returns-in-Err-clause-err g c =

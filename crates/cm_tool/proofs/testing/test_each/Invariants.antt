@@ -1,7 +1,7 @@
 use Rattle.std.proofs.Common.{◌≡◌, ◌++◌, ℕ, List, Option, Result, take}
 use Rattle.std.specs.Option.{ForSome}
 use Rattle.cm_algo_names.specs.declared.algorithm.Algorithm.{Algorithm}
-use Rattle.cm_io.specs.Causes.{IsSent}
+use Rattle.cm_io.specs.States.{IsSent}
 use Rattle.cm_tool_stops.specs.declared.stop.Stop.{Stop}
 use Rattle.cm_tool.specs.Spills.{TestsSpilled}
 use Rattle.cm_tool.specs.TestEnds.{EndsTest}
@@ -13,13 +13,13 @@ invariant-loop-algorithm g l =
     let D = g.D.Disk in
     let O = g.O.Sink in
     record {
-      files : D.files l.disk ≡ D.files l.fn.disk;
-      reads : D.read_faults l.disk ≡ D.read_faults l.fn.disk;
-      writes : D.write_faults l.disk ≡ D.write_faults l.fn.disk;
-      quiet : O.faults l.out ≡ O.faults l.fn.out;
-      sent : O.waits l.fn.out ≡ 0 → IsSent (O.waits l.out) (O.faults l.fn.out) (O.faults l.out);
-      ends : ForSome (D.files l.fn.disk) (λ files. (next : List Algorithm) (r : Result (Unit {0}) Stop) (new : Option (List ℕ)) → EndsTest (tested_by l.job files next) (O.written l.out) new r
-          → EndsTest (tested_by l.job files (take l.algorithm-index l.algorithms ++ next)) (O.written l.fn.out) new r);
-      spilled : ForSome (D.files l.fn.disk) (λ _. (next : List Algorithm) (new : Option (List ℕ)) → TestsSpilled l.job next (D.spilled l.disk) new
-          → TestsSpilled l.job (take l.algorithm-index l.algorithms ++ next) (D.spilled l.fn.disk) new);
+      files : (D.state l.disk).files ≡ (D.state l.fn.disk).files;
+      reads : (D.state l.disk).read_faults ≡ (D.state l.fn.disk).read_faults;
+      writes : (D.state l.disk).write_faults ≡ (D.state l.fn.disk).write_faults;
+      quiet : (O.state l.out).faults ≡ (O.state l.fn.out).faults;
+      sent : (O.state l.fn.out).waits ≡ 0 → IsSent (O.state l.fn.out) (O.state l.out);
+      ends : ForSome (D.state l.fn.disk).files (λ files. (next : List Algorithm) (r : Result (Unit {0}) Stop) (new : Option (List ℕ)) → EndsTest (tested_by l.job files next) (O.state l.out).written new r
+          → EndsTest (tested_by l.job files (take l.algorithm-index l.algorithms ++ next)) (O.state l.fn.out).written new r);
+      spilled : ForSome (D.state l.fn.disk).files (λ _. (next : List Algorithm) (new : Option (List ℕ)) → TestsSpilled l.job next (D.state l.disk).spilled new
+          → TestsSpilled l.job (take l.algorithm-index l.algorithms ++ next) (D.state l.fn.disk).spilled new);
     }

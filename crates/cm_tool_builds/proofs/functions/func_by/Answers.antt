@@ -62,17 +62,17 @@ same_fault (Err e) fault P is holds = subst P (sym is) holds
 
 pub returns-in_err-built-in-Chm-clause-fault : goal.returns-in_err-built-in-Chm-clause-fault
 returns-in_err-built-in-Chm-clause-fault g c =
-    rw c.in-Chm.is (same_fault _ _ (λ e. ForSome (g.D.Disk.files c.args.disk.now) (λ _. ForSome (g.P.KeyPass.told c.args.keys.now) (λ told. FailsFunc Chm c.args.plan.now.b told c.args.plan.now.c c.args.seeds.now e))) c.from_residual.ensures.1
+    rw c.in-Chm.is (same_fault _ _ (λ e. ForSome (g.D.Disk.state c.args.disk.now).files (λ _. ForSome (g.P.KeyPass.told c.args.keys.now) (λ told. FailsFunc Chm c.args.plan.now.b told c.args.plan.now.c c.args.seeds.now e))) c.from_residual.ensures.1
     (λ _ _ told is. chm_fails c.args.plan.now.b told c.args.plan.now.c c.args.seeds.now _ (c.in_err-built-in-Chm.ensures.fault told is) c.in_err-built-in-Chm.ensures.certificate))
 
 pub returns-in_err-built-in-Bdz-clause-fault : goal.returns-in_err-built-in-Bdz-clause-fault
 returns-in_err-built-in-Bdz-clause-fault g c =
-    rw c.in-Bdz.is (same_fault _ _ (λ e. ForSome (g.D.Disk.files c.args.disk.now) (λ _. ForSome (g.P.KeyPass.told c.args.keys.now) (λ told. FailsFunc Bdz c.args.plan.now.b told c.args.plan.now.c c.args.seeds.now e))) c.from_residual-in_err-built-in-Bdz.ensures.1
+    rw c.in-Bdz.is (same_fault _ _ (λ e. ForSome (g.D.Disk.state c.args.disk.now).files (λ _. ForSome (g.P.KeyPass.told c.args.keys.now) (λ told. FailsFunc Bdz c.args.plan.now.b told c.args.plan.now.c c.args.seeds.now e))) c.from_residual-in_err-built-in-Bdz.ensures.1
     (λ _ _ told is. bdz_fails c.args.plan.now.b told c.args.plan.now.c c.args.seeds.now _ (c.in_err-built-in-Bdz.ensures.fault told is) c.in_err-built-in-Bdz.ensures.certificate))
 
 pub returns-in_err-built-in-BdzPh-clause-fault : goal.returns-in_err-built-in-BdzPh-clause-fault
 returns-in_err-built-in-BdzPh-clause-fault g c =
-    rw c.in-BdzPh.is (same_fault _ _ (λ e. ForSome (g.D.Disk.files c.args.disk.now) (λ _. ForSome (g.P.KeyPass.told c.args.keys.now) (λ told. FailsFunc BdzPh c.args.plan.now.b told c.args.plan.now.c c.args.seeds.now e))) c.from_residual-in_err-built-in-BdzPh.ensures.1
+    rw c.in-BdzPh.is (same_fault _ _ (λ e. ForSome (g.D.Disk.state c.args.disk.now).files (λ _. ForSome (g.P.KeyPass.told c.args.keys.now) (λ told. FailsFunc BdzPh c.args.plan.now.b told c.args.plan.now.c c.args.seeds.now e))) c.from_residual-in_err-built-in-BdzPh.ensures.1
     (λ _ _ told is. bdz_ph_fails c.args.plan.now.b told c.args.plan.now.c c.args.seeds.now _ (c.in_err-built-in-BdzPh.ensures.fault told is) c.in_err-built-in-BdzPh.ensures.certificate))
 
 pub returns-in-Ok-brz_by-clause-made : goal.returns-in-Ok-brz_by-clause-made

@@ -7,12 +7,12 @@ pub returns-in-Err-clause-cause : goal.returns-in-Err-clause-cause
 returns-in-Err-clause-cause g c = c.in-Err.ensures.cause _
 
 pub returns-in-Err-clause-says : goal.returns-in-Err-clause-says
-returns-in-Err-clause-says g c = ([], noted_nothing _ _ _)
+returns-in-Err-clause-says g c = ([], noted_nothing _ _)
 
 pub returns-in-Err-clause-told : goal.returns-in-Err-clause-told
 returns-in-Err-clause-told g c = λ files is.
     let path : c.as_str.result.now ≡ c.args.job.now.function = c.as_str.ensures.bytes in
-    ([], noted_nothing _ _ _, without_function files c.args.job.now _ c.in-Err.stop (rw path at (c.in-Err.ensures.refused files is)))
+    ([], noted_nothing _ _, without_function files c.args.job.now _ c.in-Err.stop (rw path at (c.in-Err.ensures.refused files is)))
 
 pub returns-clause-cause : goal.returns-clause-cause
 returns-clause-cause g c =

@@ -10,16 +10,16 @@ use Rattle.cm_tool_files.proofs.Asks.{asked_none, asked_until}
 use Rattle.cm_tool_files.proofs.asking.ask_keys.Goals as goal
 
 pub returns-in-Err-Memory-clause-says : goal.returns-in-Err-Memory-clause-says
-returns-in-Err-Memory-clause-says g c = ([], noted_nothing _ _ _)
+returns-in-Err-Memory-clause-says g c = ([], noted_nothing _ _)
 
 pub returns-in-Err-Memory-clause-told : goal.returns-in-Err-Memory-clause-told
-returns-in-Err-Memory-clause-told g c = λ files is. ([], noted_nothing _ _ _, (refl, refl))
+returns-in-Err-Memory-clause-told g c = λ files is. ([], noted_nothing _ _, (refl, refl))
 
 pub returns-in-Err-Failed-clause-says : goal.returns-in-Err-Failed-clause-says
-returns-in-Err-Failed-clause-says g c = ([], noted_nothing _ _ _)
+returns-in-Err-Failed-clause-says g c = ([], noted_nothing _ _)
 
 pub returns-in-Err-Failed-clause-told : goal.returns-in-Err-Failed-clause-told
-returns-in-Err-Failed-clause-told g c = λ files is. ([], noted_nothing _ _ _, asked_none (answer_by c.args.function.now) files c.args.job.now _)
+returns-in-Err-Failed-clause-told g c = λ files is. ([], noted_nothing _ _, asked_none (answer_by c.args.function.now) files c.args.job.now _)
 
 pub returns-in-Ok-asked-clause-told : goal.returns-in-Ok-asked-clause-told
 returns-in-Ok-asked-clause-told g c = λ files is.

@@ -16,7 +16,7 @@ pub returns-in-Err-clause-files : goal.returns-in-Err-clause-files
 returns-in-Err-clause-files g c =
     let bytes : List ℕ = dump_of c.args.function.now in
     let m = c.in-Err.ensures.bytes.0 in
-    let closed = front_closed c.args.path.now (g.D.Writer.Sink.written c.save.new.out) (g.D.Disk.files c.create.new.self) _ c.close-in-Err.result c.close-in-Err.ensures.files in
+    let closed = front_closed c.args.path.now (g.D.Writer.Sink.state c.save.new.out).written (g.D.Disk.state c.create.new.self).files _ c.close-in-Err.result c.close-in-Err.ensures.files in
     let n = closed.0 in
     inr (holds_front c.args.path.now bytes m n _ _
     (holds _ (take m bytes) (λ (l : List ℕ). take n l) _ _ _ _ _ c.in_ok-writer.ensures.files c.in_ok-writer.ensures.writer c.in-Err.ensures.bytes.1 closed.1))
@@ -25,4 +25,4 @@ pub returns-in-Err-close-clause-files : goal.returns-in-Err-close-clause-files
 returns-in-Err-close-clause-files g c =
     let closed = c.in-Err-close.ensures.files in
     let n = closed.0 in
-    inr (n, holds _ _ (λ (l : List ℕ). take n l) _ _ (g.D.Disk.files c.close.new.self) _ _ c.in_ok-writer.ensures.files c.in_ok-writer.ensures.writer c.in-Ok.ensures.bytes closed.1)
+    inr (n, holds _ _ (λ (l : List ℕ). take n l) _ _ (g.D.Disk.state c.close.new.self).files _ _ c.in_ok-writer.ensures.files c.in_ok-writer.ensures.writer c.in-Ok.ensures.bytes closed.1)

@@ -5,6 +5,6 @@ use Rattle.cm_witness.proofs.report.write_edges.Given as goal
 
 abbrev pub invariant-loop-edge : goal.invariant-loop-edge
 invariant-loop-edge g l = record {
-  lines : g.O.Sink.written l.out ≡ then_bytes (g.O.Sink.written l.fn.out) (joined (map edge_line (take l.edge-index l.edges)));
-  quiet : g.O.Sink.faults l.out ≡ g.O.Sink.faults l.fn.out;
+  lines : (g.O.Sink.state l.out).written ≡ then_bytes (g.O.Sink.state l.fn.out).written (joined (map edge_line (take l.edge-index l.edges)));
+  quiet : (g.O.Sink.state l.out).faults ≡ (g.O.Sink.state l.fn.out).faults;
 }

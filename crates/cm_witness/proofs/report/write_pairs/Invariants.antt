@@ -5,6 +5,6 @@ use Rattle.cm_witness.proofs.report.write_pairs.Given as goal
 
 abbrev pub invariant-loop-pair : goal.invariant-loop-pair
 invariant-loop-pair g l = record {
-  lines : g.O.Sink.written l.out ≡ then_bytes (g.O.Sink.written l.fn.out) (joined (map pair_line (take l.pair-index l.pairs)));
-  quiet : g.O.Sink.faults l.out ≡ g.O.Sink.faults l.fn.out;
+  lines : (g.O.Sink.state l.out).written ≡ then_bytes (g.O.Sink.state l.fn.out).written (joined (map pair_line (take l.pair-index l.pairs)));
+  quiet : (g.O.Sink.state l.out).faults ≡ (g.O.Sink.state l.fn.out).faults;
 }
