@@ -3,6 +3,7 @@ use Rattle.std.specs.Prelude.{◌≡◌, ◌<◌, ◌≤◌, ◌+◌, ◌-◌, �
 use Rattle.std.specs.Option.{ForSome}
 use Rattle.cm_io.specs.Passes.{Told, Ends, GivesKey, HasKeyCause}
 use Rattle.cm_io.specs.declared.key_pass.KeyFault.{KeyFault}
+use Rattle.cm_io.specs.declared.key_pass.KeyPass.{Ghosts}
 use Rattle.cm_query_batch.specs.declared.taken.Spot.{Spot}
 use Rattle.cm_spec.specs.declared.limits.TheConstants.{MAX_KEYS}
 
@@ -45,26 +46,13 @@ RefillsBy before now old new (Ok true) = (0 < new) × (now + old ≡ before + ne
 RefillsBy before now old new (Ok false) = (old ≡ 0) × (now ≡ before)
 RefillsBy before now old new (Err fault) = (old ≡ 0) × (now ≡ before)
 
--- what is seen of a pass: its keys, if they are known; how many it has yielded; how often what it reads from has failed; whether no call
--- has failed since the last rewind; and the fault that the last call failed with
-pub record PassState : Type 0 where
-  pub told : Option Told
-  pub place : ℕ
-  pub faults : ℕ
-  pub usable : Bool
-  pub failure : Option KeyFault
-
--- this of a pass, by the words of its trait
-abbrev pub state_of : {P : Type 0} → (P → Option Told) → (P → ℕ) → (P → ℕ) → (P → Bool) → (P → Option KeyFault) → P → PassState
-state_of told place faults usable failure pass = record { told = told pass; place = place pass; faults = faults pass; usable = usable pass; failure = failure pass }
-
 -- No key waited, and the next keys of a pass were taken, which wait now; or there is no further key, or the pass failed.
-pub record Fills (before now : PassState) (waiting : List (ℕ × List ℕ)) (result : Result Bool KeyFault) : Type 0 where
-  pub told : now.told ≡ before.told
-  pub cause : HasKeyCause before.faults now.faults result
-  pub failed : IfErr result (λ fault. now.failure ≡ Some fault)
-  pub usable : OnOk result (now.usable ≡ true)
-  pub unusable : OnErr result (now.usable ≡ false)
-  pub few : now.place ≤ MAX_KEYS
-  pub counts : RefillsBy before.place now.place 0 (length waiting) result
-  pub refills : ForSome before.told (λ told. Refills told before.place now.place [] waiting result)
+pub record FillsBatch {P : Type 0} (K : Ghosts P) (old new : P) (waiting : List (ℕ × List ℕ)) (result : Result Bool KeyFault) : Type 0 where
+  pub told : K.told new ≡ K.told old
+  pub cause : HasKeyCause (K.faults old) (K.faults new) result
+  pub failed : IfErr result (λ fault. K.failure new ≡ Some fault)
+  pub usable : OnOk result (K.usable new ≡ true)
+  pub unusable : OnErr result (K.usable new ≡ false)
+  pub few : K.place new ≤ MAX_KEYS
+  pub counts : RefillsBy (K.place old) (K.place new) 0 (length waiting) result
+  pub refills : ForSome (K.told old) (λ told. Refills told (K.place old) (K.place new) [] waiting result)

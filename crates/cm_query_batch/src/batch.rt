@@ -2,7 +2,7 @@
 ghost use Rattle.std.specs.Prelude.{◌≡◌, ◌<◌, ◌≤◌, ℕ, List, [], length, drop, slice_index_or, Option, Ok, true, false, IsTrue, ◌↔◌, OnOk, OnErr, Some, IfErr};
 ghost use Rattle.std.specs.Option.{ForSome};
 ghost use Rattle.cm_io.specs.Passes.{HasKeyCause};
-ghost use Rattle.cm_query_batch.specs.Waiting.{AreAnswers, Fills, Refills, RefillsBy, WaitingKeys, state_of};
+ghost use Rattle.cm_query_batch.specs.Waiting.{AreAnswers, FillsBatch, Refills, RefillsBy, WaitingKeys};
 
 use crate::taken::{MOST, Taken};
 use arrayvec::ArrayVec;
@@ -90,7 +90,7 @@ impl Batch {
     ) -> Result<bool, KeyFault>
         requires usable { IsTrue (P.usable keys.old) }
         requires none { self.old.keys ≡ [] }
-        ensures fills { Fills (state_of P.told P.place P.faults P.usable P.failure keys.old) (state_of P.told P.place P.faults P.usable P.failure keys.new) self.new.keys result }
+        ensures fills { FillsBatch P.KeyPass keys.old keys.new self.new.keys result }
         ensures answers { AreAnswers (A.answer_of function.now) (A.span_of function.now) self.new }
         ensures at_hand { (key : List ℕ) → P.stands keys.old key → result ≡ Ok true }
     {

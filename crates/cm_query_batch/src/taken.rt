@@ -2,7 +2,7 @@
 ghost use Rattle.std.specs.Prelude.{◌≡◌, ◌⊎◌, ◌<◌, ◌≤◌, ◌+◌, ◌++◌, ℕ, List, [], ◌∷◌, length, map, slice_index_or, All, Option, IfSome, Ok, IfOk, OnOk, OnErr, true, false, IsTrue, Some, IfErr};
 ghost use Rattle.std.specs.Option.{ForSome};
 ghost use Rattle.cm_io.specs.Passes.{HasKeyCause};
-ghost use Rattle.cm_query_batch.specs.Waiting.{Fills, Takes, state_of};
+ghost use Rattle.cm_query_batch.specs.Waiting.{FillsBatch, Takes};
 
 use arrayvec::ArrayVec;
 use cm_algo_scheme::{Answers, Place};
@@ -126,7 +126,7 @@ impl Taken {
         requires usable { IsTrue (P.usable keys.old) }
         requires none { self.old.keys ≡ [] }
         requires room { self.old.bytes ≡ 0 }
-        ensures fills { Fills (state_of P.told P.place P.faults P.usable P.failure keys.old) (state_of P.told P.place P.faults P.usable P.failure keys.new) self.new.keys result }
+        ensures fills { FillsBatch P.KeyPass keys.old keys.new self.new.keys result }
         ensures at_hand { (key : List ℕ) → P.stands keys.old key → result ≡ Ok true }
         ensures ended { IfOk result (λ more. more ≡ false → self.new.keys ≡ []) }
         ensures refused { OnErr result (self.new.keys ≡ []) }
