@@ -1,6 +1,6 @@
 -- What a store says of a record in a damaged spill: `expected` is the number that was expected, and `found` the one that was found.
 use Rattle.std.specs.Prelude.{◌≡◌, ◌⊎◌, ◌<◌, ◌≤◌, ◌+◌, [], ℕ, length, None, Some, slice_index_or}
-use Rattle.cm_spill.specs.Reading.{HasHeader, HavePassed, RunLeft}
+use Rattle.cm_spill.specs.Reading.{HasHeader, ArePast, RunLeft}
 use Rattle.cm_spill.specs.Stores.{Store}
 use Rattle.cm_spill.specs.declared.fault.SpillError.{SpillError}
 use Rattle.cm_spill.specs.declared.fault.SpillError.TheVariants as faults
@@ -85,7 +85,7 @@ least_of store = store.given_last + 1
 -- The record that is refused is the next one of the run at which the store stands, and the runs before have no more of the bucket.
 pub record IsRefused (store : Store) (bucket offset expected found : ℕ) : Type 0 where
   pub inside : store.at < length store.runs
-  pub passed : HavePassed bucket store.at store.runs
+  pub passed : ArePast bucket store.at store.runs
   pub there : (d : RunLeft) → offset ≡ (slice_index_or store.runs store.at d).next
   pub wrong : (d : RunLeft) → let run = slice_index_or store.runs store.at d in IsWrongPlace run bucket (least_of store) expected found ⊎ IsWrongKey run bucket (least_of store) expected found
 

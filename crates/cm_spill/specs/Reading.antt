@@ -42,13 +42,13 @@ abbrev pub IsStill : RunLeft → RunLeft → Type 0
 IsStill now before = (now.until ≡ before.until) × (now.next ≡ before.next)
 
 -- No record is left of a run, or the header of the next one, which was read, is of a higher bucket.
-abbrev pub HasPassed : ℕ → RunLeft → Option Header → Type 0
-HasPassed bucket run None = run.next ≡ run.until
-HasPassed bucket run (Some h) = bucket < h.bucket
+abbrev pub IsPast : ℕ → RunLeft → Option Header → Type 0
+IsPast bucket run None = run.next ≡ run.until
+IsPast bucket run (Some h) = bucket < h.bucket
 
 -- This holds of the runs before a place.
-abbrev pub HavePassed : ℕ → ℕ → List RunLeft → Type 0
-HavePassed bucket at runs = (i : ℕ) (d : RunLeft) → i < at → HasPassed bucket (slice_index_or runs i d) (slice_index_or runs i d).header
+abbrev pub ArePast : ℕ → ℕ → List RunLeft → Type 0
+ArePast bucket at runs = (i : ℕ) (d : RunLeft) → i < at → IsPast bucket (slice_index_or runs i d) (slice_index_or runs i d).header
 
 -- The header is the one that begins these bytes.
 abbrev pub IsHeaderAt : List ℕ → Header → Type 0

@@ -3,7 +3,7 @@ ghost use Rattle.std.specs.Prelude.{◌≡◌, ◌<◌, ◌≤◌, ◌^◌, ◌+
 ghost use Rattle.std.specs.Option.{ForSome};
 ghost use Rattle.std.specs.List.{AllZip};
 ghost use Rattle.cm_spill.specs.Records.{Record};
-ghost use Rattle.cm_spill.specs.Reading.{AreLeft, HasSameEnd, HavePassed, IsLineOf, IsStill, IsWithin, RunLeft, Takes};
+ghost use Rattle.cm_spill.specs.Reading.{AreLeft, HasSameEnd, ArePast, IsLineOf, IsStill, IsWithin, RunLeft, Takes};
 ghost use Rattle.cm_spill.specs.Reads.{FindsRun, HasHeaderAt, IsReady};
 ghost use Rattle.cm_spill.specs.Stores.{HasSpillCause, IsOfReading};
 ghost use Rattle.cm_spill.specs.Damage.{IsKeyDamage, IsPlaceDamage};
@@ -50,9 +50,9 @@ pub(crate) fn find<P: Spill>(
     at: &mut usize,
 ) -> Result<bool, SpillError>
     requires ready { All IsReady runs.old }
-    requires passed { HavePassed bucket at.old runs.old }
+    requires passed { ArePast bucket at.old runs.old }
     ensures told { P.told spill.new ≡ P.told spill.old }
-    ensures passed { HavePassed bucket at.new runs.new }
+    ensures passed { ArePast bucket at.new runs.new }
     ensures still { AllZip IsStill runs.new runs.old }
     ensures ready { OnOk result (All IsReady runs.new) }
     ensures header { IfOk result (λ found. found ≡ true → HasHeaderAt bucket least runs.new at.new) }

@@ -2,7 +2,7 @@
 ghost use Rattle.std.specs.Prelude.{◌≡◌, ◌<◌, ◌≤◌, ◌^◌, ◌+◌, ◌++◌, ◌∷◌, [], ℕ, List, IfOk, IfErr, IfSome, IfNone, OnOk, OnErr, IsSome, Option, None, Some, MatchResult, true, false, length};
 ghost use Rattle.std.specs.Option.{ForSome};
 ghost use Rattle.cm_spill.specs.Records.{Record};
-ghost use Rattle.cm_spill.specs.Reading.{AreLeft, Finds, HasHeader, HasPassed, IsLineOf, IsHeaderAt, IsStill, IsWithin, Peeks, RunLeft, Takes, new_run};
+ghost use Rattle.cm_spill.specs.Reading.{AreLeft, Finds, HasHeader, IsPast, IsLineOf, IsHeaderAt, IsStill, IsWithin, Peeks, RunLeft, Takes, new_run};
 ghost use Rattle.cm_spill.specs.declared.fault.SpillError.{SpillError};
 ghost use Rattle.cm_spill.specs.Stores.{HasSpillCause, IsOfReading};
 ghost use Rattle.cm_spill.specs.Damage.{IsHeaderDamage, IsKeyDamage, IsPlaceDamage};
@@ -155,7 +155,7 @@ impl Run {
         ensures room { self.new.ahead.room ≡ self.old.ahead.room }
         ensures still { IsStill self.new self.old }
         ensures header { IfOk result (λ more. more ≡ true → HasHeader bucket least self.new.header) }
-        ensures passed { IfOk result (λ more. more ≡ false → HasPassed bucket self.new self.new.header) }
+        ensures passed { IfOk result (λ more. more ≡ false → IsPast bucket self.new self.new.header) }
         ensures within { OnOk result (IsWithin self.new self.new.header) }
         ensures left { OnOk result (ForSome (P.told spill.old) (λ bytes. (records : List Record) → AreLeft bytes self.old records → AreLeft bytes self.new records)) }
         ensures finds { ForSome (P.told spill.old) (λ bytes. (records : List Record) → AreLeft bytes self.old records → Finds bucket least records result) }
