@@ -8,7 +8,7 @@ use Rattle.cm_brz_split.specs.FaultsLaws.{changed_weaker}
 use Rattle.cm_brz_split.specs.declared.fault.BrzFault.{BrzFault}
 use Rattle.cm_brz_split.specs.Given.{CountedBucket, CountedOver, GaveCount, GaveOther, GaveSizes}
 use Rattle.cm_spill.specs.declared.fault.SpillError.{SpillError}
-use Rattle.cm_witness.specs.Gathers.{HasPassed, IsOther}
+use Rattle.cm_io.specs.PassFaults.{HasPassed, IsOtherCount}
 
 -- the number of an overfull bucket, as one pass counted it, and as the last one gave it
 pub over_other : {P : Type 0} (at_end : P → Type 0) (gave : P → List (ℕ × List ℕ) → Type 0) (Gave : List (ℕ × List ℕ) → Type 0) (k split bucket count first now : ℕ) (seeds : List ℕ) → Contains seeds split → CountedOver at_end gave k split bucket count
@@ -45,8 +45,8 @@ size_other at_end gave state Gave sizes k split first now seeds from ended count
 }
 
 -- the buckets are as many as the keys that were counted ask for
-pub other_at : (Counted Gave : ℕ → ℕ → ℕ → ℕ → Type 0) (k n m place : ℕ) (seeds : List ℕ) (first now : ℕ) → k ≡ n → ((first ≡ m) × IsOther first now place) ⊎ IsOtherBucket Counted Gave k seeds first now → ((first ≡ m) × IsOther first now place) ⊎ IsOtherBucket Counted Gave n seeds first now
-other_at Counted Gave k n m place seeds first now same other = subst (λ (x : ℕ). ((first ≡ m) × IsOther first now place) ⊎ IsOtherBucket Counted Gave x seeds first now) same other
+pub other_at : (Counted Gave : ℕ → ℕ → ℕ → ℕ → Type 0) (k n m place : ℕ) (seeds : List ℕ) (first now : ℕ) → k ≡ n → ((first ≡ m) × IsOtherCount first now place) ⊎ IsOtherBucket Counted Gave k seeds first now → ((first ≡ m) × IsOtherCount first now place) ⊎ IsOtherBucket Counted Gave n seeds first now
+other_at Counted Gave k n m place seeds first now same other = subst (λ (x : ℕ). ((first ≡ m) × IsOtherCount first now place) ⊎ IsOtherBucket Counted Gave x seeds first now) same other
 
 -- one of two reasons, the second of which says more
 pub other_weaker : (A B C : Type 0) → (B → C) → A ⊎ B → A ⊎ C
@@ -55,17 +55,17 @@ other_weaker A B C more (inr h) = inr (more h)
 
 -- so it is after the keys were counted, and put
 pub put_changed : {P : Type 0} (at_end : P → Type 0) (gave : P → List (ℕ × List ℕ) → Type 0) (place : P → ℕ) (counted chosen last : P) (sizes : List ℕ) (k b m split : ℕ) (seeds : List ℕ) (e : BrzFault) → at_end counted → place counted ≡ m → k ≡ bucket_count m b → Contains seeds split → at_end chosen → GaveSizes (gave chosen) sizes k split
-    → IfChanged e (λ first now. ((first ≡ m) × IsOther first now (place last)) ⊎ GaveOther (gave last) sizes k split first now)
-    → IfChanged e (λ first now. (n : ℕ) × HasPassed at_end place n × (((first ≡ n) × IsOther first now (place last)) ⊎ IsOtherBucket (CountedBucket at_end gave) (GaveCount (gave last)) (bucket_count n b) seeds first now))
+    → IfChanged e (λ first now. ((first ≡ m) × IsOtherCount first now (place last)) ⊎ GaveOther (gave last) sizes k split first now)
+    → IfChanged e (λ first now. (n : ℕ) × HasPassed at_end place n × (((first ≡ n) × IsOtherCount first now (place last)) ⊎ IsOtherBucket (CountedBucket at_end gave) (GaveCount (gave last)) (bucket_count n b) seeds first now))
 put_changed at_end gave place counted chosen last sizes k b m split seeds e over many same from ended sized other =
-    changed_weaker e (λ first now. ((first ≡ m) × IsOther first now (place last)) ⊎ GaveOther (gave last) sizes k split first now)
-    (λ first now. (n : ℕ) × HasPassed at_end place n × (((first ≡ n) × IsOther first now (place last)) ⊎ IsOtherBucket (CountedBucket at_end gave) (GaveCount (gave last)) (bucket_count n b) seeds first now))
+    changed_weaker e (λ first now. ((first ≡ m) × IsOtherCount first now (place last)) ⊎ GaveOther (gave last) sizes k split first now)
+    (λ first now. (n : ℕ) × HasPassed at_end place n × (((first ≡ n) × IsOtherCount first now (place last)) ⊎ IsOtherBucket (CountedBucket at_end gave) (GaveCount (gave last)) (bucket_count n b) seeds first now))
     (λ first now h.
     let passed : HasPassed at_end place m = (counted, over, many) in (
       m,
       passed,
       other_at (CountedBucket at_end gave) (GaveCount (gave last)) k (bucket_count m b) m (place last) seeds first now same
-          (other_weaker ((first ≡ m) × IsOther first now (place last)) (GaveOther (gave last) sizes k split first now) (IsOtherBucket (CountedBucket at_end gave) (GaveCount (gave last)) k seeds first now)
+          (other_weaker ((first ≡ m) × IsOtherCount first now (place last)) (GaveOther (gave last) sizes k split first now) (IsOtherBucket (CountedBucket at_end gave) (GaveCount (gave last)) k seeds first now)
           (λ o. size_other at_end gave chosen (gave last) sizes k split first now seeds from ended sized o) h),
     )) other
 

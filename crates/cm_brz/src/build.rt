@@ -12,7 +12,7 @@ ghost use Rattle.cm_brz_split.specs.Split.{split_of};
 ghost use Rattle.cm_brz_func.specs.Functions.{bucket_count};
 ghost use Rattle.cm_spec.specs.declared.limits.TheConstants.{MAX_WIDTH, MIN_WIDTH};
 ghost use Rattle.cm_spec.specs.Rule.{IsRatio};
-ghost use Rattle.cm_witness.specs.Gathers.{HasPassed, IsOther};
+ghost use Rattle.cm_io.specs.PassFaults.{HasPassed, IsOtherCount};
 ghost use Rattle.cm_spill.specs.Damage.{IsDamageOf};
 ghost use Rattle.cm_spill.specs.Stores.{Store, given_of};
 ghost use Rattle.cm_spill.specs.declared.runs.TheConstants.{MAX_BYTES, MIN_BYTES};
@@ -71,7 +71,7 @@ pub fn brz<P: KeyPass, S: Spill, L: Ledger>(
     ensures failed { IfErr result.0 (HasFailure (P.failure keys.new)) }
     ensures overfull { IfErr result.0 (λ e. IfOverfull e (λ seed bucket count equal. (m : ℕ) × HasPassed P.at_end P.place m × (seed ≡ slice_index seeds.now 0) × P.at_end keys.new
         × CountedOver P.at_end P.gave (bucket_count m b) seed bucket count × GaveEqual (P.gave keys.new) (bucket_count m b) seed bucket count equal)) }
-    ensures changed { IfErr result.0 (λ e. IfChanged e (λ first now. (m : ℕ) × HasPassed P.at_end P.place m × (((first ≡ m) × IsOther first now (P.place keys.new))
+    ensures changed { IfErr result.0 (λ e. IfChanged e (λ first now. (m : ℕ) × HasPassed P.at_end P.place m × (((first ≡ m) × IsOtherCount first now (P.place keys.new))
         ⊎ IsOtherBucket (CountedBucket P.at_end P.gave) (GaveCount (P.gave keys.new)) (bucket_count m b) seeds.now first now))) }
 
     // A damage is one that a store over the spill found, after all keys of the last pass were put into it.

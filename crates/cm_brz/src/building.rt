@@ -12,7 +12,7 @@ ghost use Rattle.cm_brz_split.specs.Puts.{records_under};
 ghost use Rattle.cm_brz_split.specs.Split.{AreSizes, size_of_bucket, split_of};
 ghost use Rattle.cm_brz_func.specs.Functions.{bucket_count};
 ghost use Rattle.cm_spec.specs.Rule.{IsRatio};
-ghost use Rattle.cm_witness.specs.Gathers.{HasPassed, IsOther};
+ghost use Rattle.cm_io.specs.PassFaults.{HasPassed, IsOtherCount};
 
 use crate::buckets::build_buckets;
 use cm_algo_scheme::Divisor;
@@ -46,7 +46,7 @@ fn refuse_overfull<P: KeyPass>(
     ensures failed { HasFailure (P.failure keys.new) result }
     ensures overfull { IfOverfull result (λ seed bucket count equal. (seed ≡ split.now.seed) × (bucket ≡ over.bucket) × (count ≡ over.count)
         × P.at_end keys.new × GaveEqual (P.gave keys.new) split.now.buckets seed bucket count equal) }
-    ensures changed { IfChanged result (λ first now. ((first ≡ m) × IsOther first now (P.place keys.new))
+    ensures changed { IfChanged result (λ first now. ((first ≡ m) × IsOtherCount first now (P.place keys.new))
         ⊎ ((first ≡ over.count) × (first ≢ now) × GaveCount (P.gave keys.new) split.now.buckets split.now.seed over.bucket now)) }
     ensures form { IsOfOverfull result }
     ensures spill { (n : ℕ) → HasSpillCause {T = Unit {0}} n n (Err result) }
@@ -99,7 +99,7 @@ fn split_keys<P: KeyPass>(
     ensures failed { IfErr result (HasFailure (P.failure keys.new)) }
     ensures overfull { IfErr result (λ e. IfOverfull e (λ seed bucket count equal. (seed ≡ slice_index seeds.now 0) × P.at_end keys.new
         × CountedOver P.at_end P.gave (bucket_count m b) seed bucket count × GaveEqual (P.gave keys.new) (bucket_count m b) seed bucket count equal)) }
-    ensures changed { IfErr result (λ e. IfChanged e (λ first now. ((first ≡ m) × IsOther first now (P.place keys.new))
+    ensures changed { IfErr result (λ e. IfChanged e (λ first now. ((first ≡ m) × IsOtherCount first now (P.place keys.new))
         ⊎ IsOtherBucket (CountedBucket P.at_end P.gave) (GaveCount (P.gave keys.new)) (bucket_count m b) seeds.now first now)) }
     ensures kind { IfErr result IsOfOverfull }
     ensures form { IfErr result (HasBrzForm seeds.now) }
@@ -164,7 +164,7 @@ pub(crate) fn brz_over<P: KeyPass, B: Store, L: Ledger>(
     ensures failed { IfErr result (HasFailure (P.failure keys.new)) }
     ensures overfull { IfErr result (λ e. IfOverfull e (λ seed bucket count equal. (m : ℕ) × HasPassed P.at_end P.place m × (seed ≡ slice_index seeds.now 0) × P.at_end keys.new
         × CountedOver P.at_end P.gave (bucket_count m b) seed bucket count × GaveEqual (P.gave keys.new) (bucket_count m b) seed bucket count equal)) }
-    ensures changed { IfErr result (λ e. IfChanged e (λ first now. (m : ℕ) × HasPassed P.at_end P.place m × (((first ≡ m) × IsOther first now (P.place keys.new))
+    ensures changed { IfErr result (λ e. IfChanged e (λ first now. (m : ℕ) × HasPassed P.at_end P.place m × (((first ≡ m) × IsOtherCount first now (P.place keys.new))
         ⊎ IsOtherBucket (CountedBucket P.at_end P.gave) (GaveCount (P.gave keys.new)) (bucket_count m b) seeds.now first now))) }
     ensures damage { IfErr result (λ e. IfDamage e (λ damage. P.at_end keys.new × HasDamage (GaveSizes (P.gave keys.new))
         (IsDamageIn (B.damages store.new) (B.given store.new) (B.end store.new)) (bucket_count (P.place keys.new) b) seeds.now damage)) }

@@ -10,14 +10,14 @@ use Rattle.cm_brz_split.specs.declared.fault.PutFault.TheVariants as put_fault
 use Rattle.cm_spill.specs.declared.fault.SpillError.{SpillError}
 use Rattle.cm_spill.specs.declared.fault.SpillError.TheVariants as spill_error
 use Rattle.cm_witness.specs.declared.certificate.Pair.{Pair}
-use Rattle.cm_witness.specs.declared.certificate.GatherFault.{GatherFault}
-use Rattle.cm_witness.specs.declared.certificate.GatherFault.TheVariants as gather_fault
+use Rattle.cm_io.specs.declared.pass_fault.PassFault.{PassFault}
+use Rattle.cm_io.specs.declared.pass_fault.PassFault.TheVariants as pass_fault
 
 -- the fault of a build that fails in one of its passes
-abbrev pub brz_fault_of : GatherFault → BrzFault
-brz_fault_of gather_fault.Memory = Memory
-brz_fault_of (gather_fault.Key fault) = Key fault
-brz_fault_of (gather_fault.Changed first now) = Changed first now
+abbrev pub brz_fault_of : PassFault → BrzFault
+brz_fault_of pass_fault.Memory = Memory
+brz_fault_of (pass_fault.Key fault) = Key fault
+brz_fault_of (pass_fault.Changed first now) = Changed first now
 
 -- the same for a fault of the store
 abbrev pub store_fault_of : SpillError → BrzFault

@@ -1,7 +1,6 @@
 -- Lemmas about the faults of a build by BRZ: what each says of the fault that it was made of.
 use Rattle.std.proofs.Common.{◌≡◌, ◌≢◌, ◌⊎◌, ℕ, Option, inl, inr, sym}
 use Rattle.cm_brz_split.specs.Faults.{HasFailure, HasPutFailure, IfChanged, IfDamage, brz_fault_of, put_fault_of, store_fault_of}
-use Rattle.cm_brz_split.specs.Passes.{IfChanged as IfPassChanged}
 use Rattle.cm_brz_split.specs.declared.fault.BrzFault.{BrzFault}
 use Rattle.cm_brz_split.specs.declared.fault.BrzFault.TheVariants.{Memory, NoKeys, Overfull, Cored, Key, Changed, SpillFailed, SpillDamaged}
 use Rattle.cm_brz_split.specs.declared.fault.PutFault.{PutFault}
@@ -9,15 +8,15 @@ use Rattle.cm_brz_split.specs.declared.fault.PutFault.TheVariants as put_fault
 use Rattle.cm_io.specs.declared.key_pass.KeyFault.{KeyFault}
 use Rattle.cm_spill.specs.declared.fault.SpillError.{SpillError}
 use Rattle.cm_spill.specs.declared.fault.SpillError.TheVariants as spill_error
-use Rattle.cm_witness.specs.Gathers.{HasOther, IsOther, HasFailure as HasGatherFailure}
-use Rattle.cm_witness.specs.declared.certificate.GatherFault.{GatherFault}
-use Rattle.cm_witness.specs.declared.certificate.GatherFault.TheVariants as gather_fault
+use Rattle.cm_io.specs.PassFaults.{HasOtherCount, HasPassFailure, IfChanged as IfPassChanged, IsOtherCount}
+use Rattle.cm_io.specs.declared.pass_fault.PassFault.{PassFault}
+use Rattle.cm_io.specs.declared.pass_fault.PassFault.TheVariants as pass_fault
 
 -- the fault of the keys
-pub gather_failure : (failure : Option KeyFault) (e : GatherFault) → HasGatherFailure failure e → HasFailure failure (brz_fault_of e)
-gather_failure failure gather_fault.Memory h = tt
-gather_failure failure (gather_fault.Key fault) h = h
-gather_failure failure (gather_fault.Changed first now) h = tt
+pub pass_failure : (failure : Option KeyFault) (e : PassFault) → HasPassFailure failure e → HasFailure failure (brz_fault_of e)
+pass_failure failure pass_fault.Memory h = tt
+pass_failure failure (pass_fault.Key fault) h = h
+pass_failure failure (pass_fault.Changed first now) h = tt
 
 pub put_failure : (failure : Option KeyFault) (e : PutFault) → HasPutFailure failure e → HasFailure failure (put_fault_of e)
 put_failure failure (put_fault.Key fault) h = h
@@ -26,10 +25,10 @@ put_failure failure (put_fault.Store spill_error.Failed) h = tt
 put_failure failure (put_fault.Store (spill_error.Damaged offset expected found)) h = tt
 
 -- the numbers of `Changed`
-pub gather_changed : (e : GatherFault) (P : ℕ → ℕ → Type 0) → IfPassChanged e P → IfChanged (brz_fault_of e) P
-gather_changed gather_fault.Memory P h = tt
-gather_changed (gather_fault.Key fault) P h = tt
-gather_changed (gather_fault.Changed first now) P h = h
+pub pass_changed : (e : PassFault) (P : ℕ → ℕ → Type 0) → IfPassChanged e P → IfChanged (brz_fault_of e) P
+pass_changed pass_fault.Memory P h = tt
+pass_changed (pass_fault.Key fault) P h = tt
+pass_changed (pass_fault.Changed first now) P h = h
 
 pub put_unchanged : (e : PutFault) (P : ℕ → ℕ → Type 0) → IfChanged (put_fault_of e) P
 put_unchanged (put_fault.Key fault) P = tt
@@ -38,10 +37,10 @@ put_unchanged (put_fault.Store spill_error.Failed) P = tt
 put_unchanged (put_fault.Store (spill_error.Damaged offset expected found)) P = tt
 
 -- another number of keys in all is one of two reasons
-pub other_changed : (m place : ℕ) (e : GatherFault) (P : ℕ → ℕ → Type 0) → HasOther m place e → IfPassChanged e (λ first now. ((first ≡ m) × IsOther first now place) ⊎ P first now)
-other_changed m place gather_fault.Memory P h = tt
-other_changed m place (gather_fault.Key fault) P h = tt
-other_changed m place (gather_fault.Changed first now) P h = inl h
+pub other_changed : (m place : ℕ) (e : PassFault) (P : ℕ → ℕ → Type 0) → HasOtherCount m place e → IfPassChanged e (λ first now. ((first ≡ m) × IsOtherCount first now place) ⊎ P first now)
+other_changed m place pass_fault.Memory P h = tt
+other_changed m place (pass_fault.Key fault) P h = tt
+other_changed m place (pass_fault.Changed first now) P h = inl h
 
 pub changed_weaker : (e : BrzFault) (P Q : ℕ → ℕ → Type 0) → ((first now : ℕ) → P first now → Q first now) → IfChanged e P → IfChanged e Q
 changed_weaker Memory P Q more h = tt
@@ -54,7 +53,7 @@ changed_weaker SpillFailed P Q more h = tt
 changed_weaker (SpillDamaged offset expected found) P Q more h = tt
 
 -- either way the numbers differ
-pub other_differs : (m place first now : ℕ) (P : Type 0) → (P → first ≢ now) → ((first ≡ m) × IsOther first now place) ⊎ P → first ≢ now
+pub other_differs : (m place first now : ℕ) (P : Type 0) → (P → first ≢ now) → ((first ≡ m) × IsOtherCount first now place) ⊎ P → first ≢ now
 other_differs m place first now P other (inl h) = λ same. h.1.differs (sym same)
 other_differs m place first now P other (inr h) = other h
 

@@ -4,8 +4,8 @@ use Rattle.cm_io.specs.Passes.{IsToldFault}
 use Rattle.cm_brz_func.specs.Functions.{bucket_of}
 use Rattle.cm_io.specs.Passes.{Told}
 use Rattle.cm_witness.specs.Noted.{AreNoted}
-use Rattle.cm_witness.specs.declared.certificate.GatherFault.{GatherFault}
-use Rattle.cm_witness.specs.declared.certificate.GatherFault.TheVariants.{Memory, Key, Changed}
+use Rattle.cm_io.specs.declared.pass_fault.PassFault.{PassFault}
+use Rattle.cm_io.specs.declared.pass_fault.PassFault.TheVariants.{Memory, Key, Changed}
 use Rattle.cm_witness.specs.declared.certificate.Pair.{Pair}
 
 -- there are m keys, with no fault at their end
@@ -14,16 +14,10 @@ pub record AreCounted (m : ℕ) (told : Told) : Type 0 where
   pub whole : told.fault ≡ None
 
 -- the failures of a later pass over known keys: it never finds another number of them
-abbrev pub FailsAgain : Told → GatherFault → Type 0
+abbrev pub FailsAgain : Told → PassFault → Type 0
 FailsAgain told Memory = Unit {0}
 FailsAgain told (Key fault) = IsToldFault told fault
 FailsAgain told (Changed first now) = ⊥
-
--- a fact of the two numbers of `Changed`
-abbrev pub IfChanged : GatherFault → (ℕ → ℕ → Type 0) → Type 0
-IfChanged Memory P = Unit {0}
-IfChanged (Key fault) P = Unit {0}
-IfChanged (Changed first now) P = P first now
 
 -- the next of the keys that were left is passed, and noted if it is here, in this bucket
 pub record NotesNext (left rest : List (ℕ × List ℕ)) (k split bucket : ℕ) (here : Bool) (noted : List (ℕ × List ℕ)) (found : List Pair) (noted' : List (ℕ × List ℕ)) (found' : List Pair) : Type 0 where

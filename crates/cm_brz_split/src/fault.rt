@@ -4,9 +4,9 @@ ghost use Rattle.cm_brz_split.specs.declared.fault.BrzFault.TheVariants as brz_f
 ghost use Rattle.cm_brz_split.specs.declared.fault.PutFault.TheVariants as put_fault;
 ghost use Rattle.cm_brz_split.specs.Faults.{brz_fault_of, put_fault_of, store_fault_of};
 
-use cm_io::KeyFault;
+use cm_io::{KeyFault, PassFault};
 use cm_spill::SpillError;
-use cm_witness::{Certificate, GatherFault, Pair};
+use cm_witness::{Certificate, Pair};
 use std::alloc::AllocError;
 
 /// Why a build by BRZ failed.
@@ -84,15 +84,15 @@ impl From<KeyFault> for BrzFault {
     }
 }
 
-/// A pass that expects the keys that were counted fails as the gathering of a certificate does.
-impl From<GatherFault> for BrzFault {
+/// Each later pass expects the keys that were counted.
+impl From<PassFault> for BrzFault {
     ghost from_gives = { λ f e. e ≡ brz_fault_of f };
 
-    fn from(fault: GatherFault) -> Self {
+    fn from(fault: PassFault) -> Self {
         match fault {
-            GatherFault::Memory => BrzFault::Memory,
-            GatherFault::Key(fault) => BrzFault::Key(fault),
-            GatherFault::Changed { first, now } => BrzFault::Changed { first, now },
+            PassFault::Memory => BrzFault::Memory,
+            PassFault::Key(fault) => BrzFault::Key(fault),
+            PassFault::Changed { first, now } => BrzFault::Changed { first, now },
         }
     }
 }

@@ -3,16 +3,16 @@ ghost use Rattle.std.specs.Prelude.{◌≡◌, ◌≢◌, ◌⊎◌, ℕ, ◌+�
 ghost use Rattle.std.specs.Option.{ForSome};
 ghost use Rattle.cm_io.specs.Passes.{Ends};
 ghost use Rattle.cm_spec.specs.declared.limits.TheConstants.{MAX_KEYS};
-ghost use Rattle.cm_witness.specs.Gathers.{HasFailure, HasGatherCause, IsOther};
+ghost use Rattle.cm_io.specs.PassFaults.{HasPassCause, HasPassFailure, IfChanged, IsOtherCount};
 ghost use Rattle.cm_witness.specs.Pairs.{pairs};
 ghost use Rattle.cm_brz_split.specs.Given.{GaveCount, GaveEqual};
-ghost use Rattle.cm_brz_split.specs.Passes.{AreCounted, FailsAgain, IfChanged, NotesNext};
+ghost use Rattle.cm_brz_split.specs.Passes.{AreCounted, FailsAgain, NotesNext};
 ghost use Rattle.cm_brz_func.specs.Splitting.{keys_of_bucket};
 ghost use Rattle.cm_brz_split.specs.Split.{size_of_bucket};
 
 use crate::split::{Overfull, Split};
-use cm_io::{KeyBuf, KeyPass};
-use cm_witness::{EqualKeys, GatherFault, Pair, expect_end};
+use cm_io::{KeyBuf, KeyPass, PassFault, expect_end};
+use cm_witness::{EqualKeys, Pair};
 use std::alloc::Global;
 
 /// Passes the next key, and notes it with its line if it is of this bucket. Returns whether it is, or none at the end. The buffer is
@@ -24,10 +24,10 @@ fn note_next<P: KeyPass>(
     split: &Split,
     bucket: u32,
     equal: &mut EqualKeys,
-) -> Result<Option<bool>, GatherFault>
+) -> Result<Option<bool>, PassFault>
     requires usable { IsTrue (P.usable keys.old) }
     ensures told { P.told keys.new ≡ P.told keys.old }
-    ensures cause { HasGatherCause (P.faults keys.old) (P.faults keys.new) result }
+    ensures cause { HasPassCause (P.faults keys.old) (P.faults keys.new) result }
     ensures counts { IfOk result (λ o. IfSome o (λ _. P.place keys.new ≡ P.place keys.old + 1)) }
     ensures usable { OnOk result (P.usable keys.new ≡ true) }
     ensures notes { IfOk result (λ o. IfSome o (λ here. ForSome (P.told keys.old) (λ told. NotesNext (drop (P.place keys.old) told.keys) (drop (P.place keys.new) told.keys) split.now.buckets split.now.seed bucket here equal.old.firsts equal.old.pairs.items equal.new.firsts equal.new.pairs.items))) }
@@ -36,7 +36,7 @@ fn note_next<P: KeyPass>(
     ensures gave { (before : List (ℕ × List ℕ)) → P.gave keys.old before → IfOk result (λ o. IfSome o (λ here. (next : ℕ × List ℕ) × P.gave keys.new (before ++ next ∷ [])
         × NotesNext (next ∷ []) [] split.now.buckets split.now.seed bucket here equal.old.firsts equal.old.pairs.items equal.new.firsts equal.new.pairs.items)) }
     ensures unchanged { IfErr result (λ e. IfChanged e (λ _ _. ⊥)) }
-    ensures failed { IfErr result (HasFailure (P.failure keys.new)) }
+    ensures failed { IfErr result (HasPassFailure (P.failure keys.new)) }
     ensures fault { IfErr result (λ e. ForSome (P.told keys.old) (λ told. FailsAgain told e)) }
 {
     if !keys.next(key)? {
@@ -58,20 +58,20 @@ pub fn gather_equal<P: KeyPass>(
     m: u32,
     split: &Split,
     over: Overfull,
-) -> Result<Vec<Pair>, GatherFault>
+) -> Result<Vec<Pair>, PassFault>
     requires few { m ≤ MAX_KEYS }
     requires counted { ForSome (P.told keys.old) (AreCounted m) }
     requires over { ForSome (P.told keys.old) (λ told. over.count ≡ size_of_bucket told.keys split.now.buckets split.now.seed over.bucket) }
     ensures told { P.told keys.new ≡ P.told keys.old }
-    ensures cause { HasGatherCause (P.faults keys.old) (P.faults keys.new) result }
+    ensures cause { HasPassCause (P.faults keys.old) (P.faults keys.new) result }
     ensures equal { IfOk result (λ equal. ForSome (P.told keys.old) (λ told. equal.items ≡ pairs (keys_of_bucket told.keys split.now.buckets split.now.seed over.bucket))) }
     ensures ended { OnOk result (P.at_end keys.new) }
     ensures gave { IfOk result (λ equal. GaveEqual (P.gave keys.new) split.now.buckets split.now.seed over.bucket over.count equal.items) }
 
     // There are fewer keys, or one more; or the bucket has another number of them.
-    ensures changed { IfErr result (λ e. IfChanged e (λ first now. ((first ≡ m) × IsOther first now (P.place keys.new))
+    ensures changed { IfErr result (λ e. IfChanged e (λ first now. ((first ≡ m) × IsOtherCount first now (P.place keys.new))
         ⊎ ((first ≡ over.count) × (first ≢ now) × GaveCount (P.gave keys.new) split.now.buckets split.now.seed over.bucket now))) }
-    ensures failed { IfErr result (HasFailure (P.failure keys.new)) }
+    ensures failed { IfErr result (HasPassFailure (P.failure keys.new)) }
     ensures fault { IfErr result (λ e. ForSome (P.told keys.old) (λ told. FailsAgain told e)) }
 {
     let mut equal = EqualKeys::new(alloc, over.count as usize)?;
@@ -81,7 +81,7 @@ pub fn gather_equal<P: KeyPass>(
         match note_next(alloc, keys, key, split, over.bucket, &mut equal)? {
             Some(here) => found += here as u32,
             None => {
-                return Err(GatherFault::Changed {
+                return Err(PassFault::Changed {
                     first: m,
                     now: count,
                 });
@@ -90,7 +90,7 @@ pub fn gather_equal<P: KeyPass>(
     }
     expect_end(keys, key, m)?;
     if found != over.count {
-        return Err(GatherFault::Changed {
+        return Err(PassFault::Changed {
             first: over.count,
             now: found,
         });

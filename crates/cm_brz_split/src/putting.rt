@@ -3,7 +3,7 @@ ghost use Rattle.std.specs.Prelude.{◌≡◌, ◌≢◌, ◌⊎◌, ℕ, ◌+�
 ghost use Rattle.std.specs.Option.{ForSome};
 ghost use Rattle.cm_io.specs.Passes.{Ends};
 ghost use Rattle.cm_spec.specs.declared.limits.TheConstants.{MAX_KEYS};
-ghost use Rattle.cm_witness.specs.Gathers.{IsOther};
+ghost use Rattle.cm_io.specs.PassFaults.{IsOtherCount};
 ghost use Rattle.cm_brz_split.specs.Faults.{FailsPassing, HasFailure, HasKeysCause, HasPutFailure, HasSpillCause, IfChanged, IsOfPassing};
 ghost use Rattle.cm_brz_split.specs.Given.{GaveNext, GaveOther, GaveSizes};
 ghost use Rattle.cm_brz_split.specs.Passes.{AreCounted};
@@ -15,8 +15,7 @@ use crate::fault::{BrzFault, PutFault};
 use crate::split::{Split, Splitting};
 use crate::store::Store;
 use cm_brz_func::MAX_BUCKET;
-use cm_io::{KeyBuf, KeyPass};
-use cm_witness::expect_end;
+use cm_io::{KeyBuf, KeyPass, expect_end};
 use std::alloc::Global;
 
 /// Puts the next key into the store, and returns its bucket, or none at the end. A buffered key is put where it stands, and any other is
@@ -114,7 +113,7 @@ fn put_each<P: KeyPass, B: Store>(
     ensures ended { OnOk result (P.at_end keys.new) }
     ensures gave { OnOk result (GaveSizes (P.gave keys.new) put.new split.now.buckets split.now.seed) }
     ensures fault { IfErr result (λ e. ForSome (P.told keys.old) (λ told. FailsPassing told e)) }
-    ensures changed { IfErr result (λ e. IfChanged e (λ first now. ((first ≡ m) × IsOther first now (P.place keys.new))
+    ensures changed { IfErr result (λ e. IfChanged e (λ first now. ((first ≡ m) × IsOtherCount first now (P.place keys.new))
         ⊎ GaveOther (P.gave keys.new) sizes.now split.now.buckets split.now.seed first now)) }
     ensures failed { IfErr result (HasFailure (P.failure keys.new)) }
     ensures form { IfErr result IsOfPassing }
@@ -175,7 +174,7 @@ pub fn put_all<P: KeyPass, B: Store>(
     ensures ended { OnOk result (P.at_end keys.new) }
     ensures gave { OnOk result (GaveSizes (P.gave keys.new) splitting.now.sizes.items splitting.now.split.buckets splitting.now.split.seed) }
     ensures fault { IfErr result (λ e. ForSome (P.told keys.old) (λ told. FailsPassing told e)) }
-    ensures changed { IfErr result (λ e. IfChanged e (λ first now. ((first ≡ m) × IsOther first now (P.place keys.new))
+    ensures changed { IfErr result (λ e. IfChanged e (λ first now. ((first ≡ m) × IsOtherCount first now (P.place keys.new))
         ⊎ GaveOther (P.gave keys.new) splitting.now.sizes.items splitting.now.split.buckets splitting.now.split.seed first now)) }
     ensures failed { IfErr result (HasFailure (P.failure keys.new)) }
     ensures form { IfErr result IsOfPassing }

@@ -2,8 +2,8 @@
 ghost use Rattle.std.specs.Prelude.{◌≡◌, ◌≢◌, ◌⊎◌, ℕ, ◌+◌, ◌<◌, ◌≤◌, List, length, drop, slice_index, sum, true, false, IfOk, IfErr, IfSome, IfNone, IsTrue, OnOk, Contains, None, Some, Ok, Err};
 ghost use Rattle.std.specs.Option.{ForSome};
 ghost use Rattle.cm_io.specs.Passes.{HasKeyCause};
-ghost use Rattle.cm_witness.specs.Gathers.{HasFailure, HasGatherCause, HasOther};
-ghost use Rattle.cm_witness.specs.declared.certificate.GatherFault.TheVariants as gather_fault;
+ghost use Rattle.cm_io.specs.PassFaults.{HasOtherCount, HasPassCause, HasPassFailure};
+ghost use Rattle.cm_io.specs.declared.pass_fault.PassFault.TheVariants as pass_fault;
 ghost use Rattle.cm_brz_func.specs.Functions.{bucket_of as bucket_of_key};
 ghost use Rattle.cm_spec.specs.declared.limits.TheConstants.{MAX_BUCKET, MAX_KEYS};
 ghost use Rattle.cm_brz_split.specs.Given.{CountedOver, GaveMore, GaveNext, GaveOver, GaveSizes};
@@ -12,9 +12,8 @@ ghost use Rattle.cm_brz_split.specs.Split.{AreSizes, CountsPassed, GivesBucket, 
 
 use cm_algo_scheme::Divisor;
 use cm_brz_func::{MAX_BUCKET, bucket_of_hashed, flip};
-use cm_io::{KeyBuf, KeyFault, KeyPass, MAX_KEYS};
+use cm_io::{KeyBuf, KeyFault, KeyPass, MAX_KEYS, PassFault, expect_end};
 use cm_lookup2::words;
-use cm_witness::{GatherFault, expect_end};
 use std::alloc::{AllocError, Global};
 
 /// A split of keys into buckets: its seed, and how many buckets there are.
@@ -145,19 +144,19 @@ fn count_buckets<P: KeyPass>(
     m: u32,
     split: &Split,
     sizes: &mut [u32],
-) -> Result<(), GatherFault>
+) -> Result<(), PassFault>
     requires few { m ≤ MAX_KEYS }
     requires long { length sizes.old ≡ split.now.buckets }
     requires counted { ForSome (P.told keys.old) (AreCounted m) }
     ensures told { P.told keys.new ≡ P.told keys.old }
-    ensures cause { HasGatherCause (P.faults keys.old) (P.faults keys.new) result }
+    ensures cause { HasPassCause (P.faults keys.old) (P.faults keys.new) result }
     ensures all { OnOk result (sum sizes.new ≡ m) }
     ensures sizes { OnOk result (ForSome (P.told keys.old) (λ told. AreSizes sizes.new told.keys split.now.buckets split.now.seed)) }
     ensures ended { OnOk result (P.at_end keys.new) }
     ensures gave { OnOk result (GaveSizes (P.gave keys.new) sizes.new split.now.buckets split.now.seed) }
-    ensures memory { result ≢ Err gather_fault.Memory }
-    ensures changed { IfErr result (HasOther m (P.place keys.new)) }
-    ensures failed { IfErr result (HasFailure (P.failure keys.new)) }
+    ensures memory { result ≢ Err pass_fault.Memory }
+    ensures changed { IfErr result (HasOtherCount m (P.place keys.new)) }
+    ensures failed { IfErr result (HasPassFailure (P.failure keys.new)) }
     ensures fault { IfErr result (λ e. ForSome (P.told keys.old) (λ told. FailsAgain told e)) }
 {
     keys.rewind()?;
@@ -171,12 +170,12 @@ fn count_buckets<P: KeyPass>(
         match next_bucket(keys, key, split) {
             Ok(Some(bucket)) => sizes[bucket as usize] += 1,
             Ok(None) => {
-                return Err(GatherFault::Changed {
+                return Err(PassFault::Changed {
                     first: m,
                     now: count,
                 });
             }
-            Err(fault) => return Err(GatherFault::Key(fault)),
+            Err(fault) => return Err(PassFault::Key(fault)),
         }
         count += 1;
     }
@@ -192,13 +191,13 @@ fn try_seed<P: KeyPass>(
     m: u32,
     split: &Split,
     sizes: &mut [u32],
-) -> Result<Option<Overfull>, GatherFault>
+) -> Result<Option<Overfull>, PassFault>
     requires few { m ≤ MAX_KEYS }
     requires few_buckets { split.now.buckets ≤ MAX_KEYS }
     requires long { length sizes.old ≡ split.now.buckets }
     requires counted { ForSome (P.told keys.old) (AreCounted m) }
     ensures told { P.told keys.new ≡ P.told keys.old }
-    ensures cause { HasGatherCause (P.faults keys.old) (P.faults keys.new) result }
+    ensures cause { HasPassCause (P.faults keys.old) (P.faults keys.new) result }
     ensures all { OnOk result (sum sizes.new ≡ m) }
     ensures sizes { OnOk result (ForSome (P.told keys.old) (λ told. AreSizes sizes.new told.keys split.now.buckets split.now.seed)) }
     ensures ended { OnOk result (P.at_end keys.new) }
@@ -208,9 +207,9 @@ fn try_seed<P: KeyPass>(
     ensures over { IfOk result (λ o. IfSome o (λ over. (MAX_BUCKET < over.count) × (over.bucket < split.now.buckets))) }
     ensures gave_over { IfOk result (λ o. IfSome o (λ over. GaveOver (P.gave keys.new) split.now.buckets split.now.seed over.bucket over.count)) }
     ensures lowest { IfOk result (λ o. IfSome o (λ over. ForSome (P.told keys.old) (λ told. IsLowestOver told.keys split.now.buckets split.now.seed over.bucket over.count))) }
-    ensures memory { result ≢ Err gather_fault.Memory }
-    ensures changed { IfErr result (HasOther m (P.place keys.new)) }
-    ensures failed { IfErr result (HasFailure (P.failure keys.new)) }
+    ensures memory { result ≢ Err pass_fault.Memory }
+    ensures changed { IfErr result (HasOtherCount m (P.place keys.new)) }
+    ensures failed { IfErr result (HasPassFailure (P.failure keys.new)) }
     ensures fault { IfErr result (λ e. ForSome (P.told keys.old) (λ told. FailsAgain told e)) }
 {
     count_buckets(keys, key, m, split, sizes)?;
@@ -230,14 +229,14 @@ pub fn choose_split<P: KeyPass>(
     buckets: Divisor,
     seeds: &[u32],
     sizes: &mut [u32],
-) -> Result<Result<Split, Overfull>, GatherFault>
+) -> Result<Result<Split, Overfull>, PassFault>
     requires few { m ≤ MAX_KEYS }
     requires few_buckets { buckets ≤ MAX_KEYS }
     requires some { 0 < length seeds.now }
     requires long { length sizes.old ≡ buckets }
     requires counted { ForSome (P.told keys.old) (AreCounted m) }
     ensures told { P.told keys.new ≡ P.told keys.old }
-    ensures cause { HasGatherCause (P.faults keys.old) (P.faults keys.new) result }
+    ensures cause { HasPassCause (P.faults keys.old) (P.faults keys.new) result }
     ensures split { IfOk result (λ o. IfOk o (λ split. (split.buckets ≡ buckets) × Contains seeds.now split.seed)) }
     ensures all { IfOk result (λ o. IfOk o (λ _. sum sizes.new ≡ m)) }
     ensures small { IfOk result (λ o. IfOk o (λ _. (j : ℕ) → j < length sizes.new → slice_index sizes.new j ≤ MAX_BUCKET)) }
@@ -248,9 +247,9 @@ pub fn choose_split<P: KeyPass>(
     ensures over { IfOk result (λ o. IfErr o (λ over. (MAX_BUCKET < over.count) × (over.bucket < buckets))) }
     ensures counted { IfOk result (λ o. IfErr o (λ over. CountedOver P.at_end P.gave buckets (slice_index seeds.now 0) over.bucket over.count)) }
     ensures none { IfOk result (λ o. IfErr o (λ over. ForSome (P.told keys.old) (λ told. (split_of told.keys buckets seeds.now ≡ None) × IsLowestOver told.keys buckets (slice_index seeds.now 0) over.bucket over.count))) }
-    ensures memory { result ≢ Err gather_fault.Memory }
-    ensures changed { IfErr result (HasOther m (P.place keys.new)) }
-    ensures failed { IfErr result (HasFailure (P.failure keys.new)) }
+    ensures memory { result ≢ Err pass_fault.Memory }
+    ensures changed { IfErr result (HasOtherCount m (P.place keys.new)) }
+    ensures failed { IfErr result (HasPassFailure (P.failure keys.new)) }
     ensures fault { IfErr result (λ e. ForSome (P.told keys.old) (λ told. FailsAgain told e)) }
 {
     let split = Split {

@@ -26,7 +26,7 @@ returns-in-Err-Cored-clause-steps g c = omega (arith, c.build_with.ensures.steps
 
 pub returns-in-Err-Cored-clause-fault : goal.returns-in-Err-Cored-clause-fault
 returns-in-Err-Cored-clause-fault g c =
-    let form = rw c.in-Err-Cored.field-0-is at c.in-Err-Cored.ensures.certificate in
+    let form = (rw c.in-Err-Cored.field-0-is at c.in-Err-Cored.ensures.form).certificate in
     let fails = rw (c.in-Err-Cored.field-0-is, c.c.ensures.ratio) at c.in-Err-Cored.ensures.fault in
     let shown = rw (c.split.ensures.split, c.len.ensures.len) at c.in_bucket.ensures.place in
     cored_in (record { keys = c.args.held.now.keys; fault = None }) c.args.parts.now.ratio c.args.seeds.now (record { split = c.args.parts.now.split; bucket = length c.args.parts.now.buckets }) _ c.in_bucket.result c.in_bucket.ensures.algorithm c.in_bucket.ensures.seed shown c.in_bucket.ensures.edges c.in_bucket.ensures.equal form (fails (record { keys = c.args.held.now.keys; fault = None }) refl)
