@@ -8,6 +8,7 @@ ghost use Rattle.cm_dump_items.specs.Reading.{Answers, Fills, IsAt, HasLoadCause
 ghost use Rattle.cm_dump_items.specs.declared.fault.LoadFault.{LoadFault};
 
 use crate::LoadFault;
+use crate::part::{byte_of, number_of};
 use cm_io::{Failed, Source};
 
 /// Fills the buffer from this offset on, in bytes from 0, where the source stands, and returns how many bytes were read: fewer than the
@@ -71,12 +72,7 @@ pub fn byte<S: Source>(source: &mut S, at: u64, low: u8, high: u8) -> Result<u8,
 {
     let mut buf = [0; 1];
     item(source, at, &mut buf)?;
-    let b = buf[0];
-    if low <= b && b <= high {
-        Ok(b)
-    } else {
-        Err(LoadFault::BadField { at })
-    }
+    byte_of(&buf, at, low, high)
 }
 
 /// The number in the four bytes at this offset, in bytes from 0, where the source stands; the lowest byte comes first. Returns `BadField`
@@ -94,12 +90,7 @@ pub fn number<S: Source>(source: &mut S, at: u64, low: u32, high: u32) -> Result
 {
     let mut buf = [0; 4];
     item(source, at, &mut buf)?;
-    let x = u32::from_le_bytes(buf);
-    if low <= x && x <= high {
-        Ok(x)
-    } else {
-        Err(LoadFault::BadField { at })
-    }
+    number_of(&buf, at, low, high)
 }
 
 /// Checks that no byte is at this offset, in bytes from 0, where the source stands. Returns `Trailing` if one is, and `Read` exactly if the
