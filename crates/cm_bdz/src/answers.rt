@@ -7,10 +7,10 @@ ghost use Rattle.cm_spec.specs.Lookup2 as lookup2;
 use crate::bdz::Bdz;
 use crate::bdz_ph::BdzPh;
 use crate::choice::chosen_among;
-use crate::scheme::{place_in, places_in};
+use crate::scheme::{place_in, places_of};
 use cm_algo_scheme::{Answers, Place};
 use cm_bits::Cells;
-use cm_lookup2::{words, words_of_four};
+use cm_lookup2::words;
 
 /// A key that the function was built over gets a number below the number of keys, and no other of these keys the same. Another
 /// key gets any number, or none.
@@ -30,9 +30,7 @@ impl Answers for Bdz {
     }
 
     fn places_of_four(&self, p: &[u8], q: &[u8], r: &[u8], t: &[u8]) -> [Place; 4] {
-        let seed = self.seed();
-        let hashed = words_of_four(p, q, r, t, [seed, seed, seed, seed]);
-        places_in(&hashed, self.third())
+        places_of(p, q, r, t, self.seed(), self.third())
     }
 
     fn answer_at(&self, place: &Place) -> Option<u32> {
@@ -63,9 +61,7 @@ impl Answers for BdzPh {
     }
 
     fn places_of_four(&self, p: &[u8], q: &[u8], r: &[u8], t: &[u8]) -> [Place; 4] {
-        let seed = self.seed();
-        let hashed = words_of_four(p, q, r, t, [seed, seed, seed, seed]);
-        places_in(&hashed, self.third())
+        places_of(p, q, r, t, self.seed(), self.third())
     }
 
     fn answer_at(&self, place: &Place) -> Option<u32> {

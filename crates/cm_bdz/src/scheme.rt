@@ -1,17 +1,18 @@
 //! BDZ and BDZ_PH as schemes.
-ghost use Rattle.std.specs.Prelude.{◌≡◌, ℕ, ◌*◌, ◌/◌, ◌^◌, ◌<◌, ◌∷◌, [], false, refl, slice_index_or};
+ghost use Rattle.std.specs.Prelude.{◌≡◌, ℕ, ◌*◌, ◌/◌, ◌^◌, ◌<◌, ◌∷◌, [], false, refl};
 ghost use Rattle.cm_algo_names.specs.declared.algorithm.Algorithm.TheVariants as algorithm;
 ghost use Rattle.cm_algo_names.specs.declared.algorithm.Algorithm.{Algorithm};
 ghost use Rattle.cm_algo_scheme.specs.Kinds.{HasEnds};
 ghost use Rattle.cm_bdz.specs.BdzLaws.{bdz_is_rule, bdz_ph_is_rule, triple_rule};
 ghost use Rattle.cm_bdz.specs.Places.{bdz_place};
 ghost use Rattle.cm_spec.specs.Bdz.{bdz_edge, bdz_size};
+ghost use Rattle.cm_spec.specs.Lookup2 as lookup2;
 ghost use Rattle.cm_spec.specs.Rule.{IsRule, IsCount, IsRatio};
 
 use cm_algo_names::Algorithm;
 use cm_algo_scheme::{Divisor, Place, Scheme};
 use cm_bits::{Cells, Crumbs, Trits};
-use cm_lookup2::FourWords;
+use cm_lookup2::words_of_four;
 
 /// The number of vertices for `m` keys and the ratio `c` in millionths: three thirds, each an odd number of at least 3 for one
 /// that would be 1.
@@ -48,17 +49,25 @@ pub fn place_in(words: [u32; 3], third: &Divisor) -> Place
     [ends[0], ends[1], ends[2], 0]
 }
 
-/// Where a function looks up four keys of these hash values.
+/// Where a function of this seed looks up four keys. `third` is a third of its number of vertices.
 #[inline(always)]
-pub(crate) fn places_in(words: &FourWords, third: &Divisor) -> [Place; 4]
+pub(crate) fn places_of(
+    p: &[u8],
+    q: &[u8],
+    r: &[u8],
+    t: &[u8],
+    seed: u32,
+    third: &Divisor,
+) -> [Place; 4]
     requires room { 3 * third.now < 2 ^ 32 }
-    ensures places { result ≡ bdz_place (slice_index_or words.now 0 []) (3 * third.now) ∷ bdz_place (slice_index_or words.now 1 []) (3 * third.now) ∷ bdz_place (slice_index_or words.now 2 []) (3 * third.now) ∷ bdz_place (slice_index_or words.now 3 []) (3 * third.now) ∷ [] }
+    ensures places { result ≡ bdz_place (lookup2.words p.now seed) (3 * third.now) ∷ bdz_place (lookup2.words q.now seed) (3 * third.now) ∷ bdz_place (lookup2.words r.now seed) (3 * third.now) ∷ bdz_place (lookup2.words t.now seed) (3 * third.now) ∷ [] }
 {
+    let hashed = words_of_four(p, q, r, t, [seed, seed, seed, seed]);
     [
-        place_in(words.at(0), third),
-        place_in(words.at(1), third),
-        place_in(words.at(2), third),
-        place_in(words.at(3), third),
+        place_in(hashed.at(0), third),
+        place_in(hashed.at(1), third),
+        place_in(hashed.at(2), third),
+        place_in(hashed.at(3), third),
     ]
 }
 
