@@ -1,8 +1,7 @@
 -- A function's buckets, one after another.
 use Rattle.std.specs.Int.{w32}
-use Rattle.std.proofs.Common.{◌≡◌, ◌∙◌, ℕ, suc, ◌+◌, ◌-◌, ◌≤◌, length, ap, sym, subst, arith, refl, inl, inr, count_by, nat_lt, List, [], ◌∷◌, length-append, lit<, eq-eqb, true, false, Ok, Err}
+use Rattle.std.proofs.Common.{◌≡◌, ◌∙◌, ℕ, suc, ◌+◌, length, ap, sym, subst, arith, refl, inl, inr, count_by, nat_lt, List, [], ◌∷◌, length-append, lit<, eq-eqb, true, false, Ok, Err}
 use Rattle.std.proofs.lemmas.Bool.{false≢true, ne_eqb}
-use Rattle.std.proofs.Math.Nat.{div-le_self}
 use Rattle.cm_brz_func.specs.Functions.{Brz, Bucket, bucket_cells, bucket_count, keys_in}
 use Rattle.cm_brz_func.specs.Pushing.{Miscounts, with_bucket}
 use Rattle.cm_dump_images.specs.Images.{packed_at}
@@ -19,7 +18,6 @@ use Rattle.cm_bits.specs.Bound.{AllBelow}
 use Rattle.cm_spec.specs.Image.{packed_byte, packed_len}
 use Rattle.cm_spec.specs.Lists.{list_of}
 use Rattle.cm_dump.specs.Forms.{version_1}
-use Rattle.cm_spec.specs.declared.limits.TheConstants.{MAX_KEYS}
 
 -- a bucket of which each item was read
 pub bucket_known : (bytes : List ℕ) (at : ℕ) (f : Brz) (left size seed : ℕ) (cells : List ℕ) → size_at version_1 bytes at f left ≡ Ok size → field_at w32 bytes (at + 1) 0 (most_seed size) ≡ Ok seed → crumbs_at bytes (at + 5) size (bucket_cells size f.ratio) ≡ Ok cells

@@ -1,5 +1,5 @@
 -- Messages to a sink that may fail.
-use Rattle.std.specs.Prelude.{◌≡◌, ◌≤◌, ℕ, List, Bool, true, false, Option, take}
+use Rattle.std.specs.Prelude.{◌≡◌, ◌≤◌, ℕ, List, Bool, true, false, take}
 use Rattle.cm_io.specs.Writing.{then_bytes}
 use Rattle.cm_io.specs.States.{SinkState}
 use Rattle.cm_io.specs.Causes.{Rose}

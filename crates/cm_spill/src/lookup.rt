@@ -1,5 +1,5 @@
 //! The runs of a store, of which one after another is read.
-ghost use Rattle.std.specs.Prelude.{◌≡◌, ◌<◌, ◌≤◌, ◌^◌, ◌+◌, ◌∷◌, [], ℕ, List, length, All, true, false, OnOk, OnErr, IfOk, IfErr, IsSome, slice_index_or, slice_set};
+ghost use Rattle.std.specs.Prelude.{◌≡◌, ◌<◌, ◌^◌, ◌+◌, ◌∷◌, [], ℕ, List, length, All, true, false, OnOk, OnErr, IfOk, IfErr, IsSome, slice_index_or, slice_set};
 ghost use Rattle.std.specs.Option.{ForSome};
 ghost use Rattle.std.specs.List.{AllZip};
 ghost use Rattle.cm_spill.specs.Records.{Record};

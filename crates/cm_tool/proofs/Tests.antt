@@ -26,7 +26,6 @@ use Rattle.cm_tool_stops.specs.Messages.{seed_failure_message}
 use Rattle.cm_tool_stops.specs.declared.stop.Stop.TheVariants.{Memory, Read, Write, WriteOut, Refused, Changed, Spill, SpillDamaged, NoKeys, TooLong, TooMany}
 use Rattle.cm_tool_stops.specs.declared.stop.Stop.{Stop}
 use Rattle.cm_tool_builds.specs.Faults.{FailsFunc, HasFuncCause, HasFuncForm, IsChangeBy, IsSeedFailureBy, UsesSpill, shown_core, shown_overfull}
-use Rattle.cm_tool.specs.Stops.{HasStopForm, stop_for}
 use Rattle.cm_tool.specs.Jobs.{seeds_of}
 use Rattle.cm_tool_builds.specs.FuncOf.{IsFuncOf}
 use Rattle.cm_tool.specs.Leaves.{GotReport, IsOutCause, KeepsOut, StopsFor}

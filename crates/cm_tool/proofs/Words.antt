@@ -14,7 +14,7 @@ use Rattle.cm_tool.specs.Run.{ForQuery, ForTest, IsCutShort, IsMessage, IsStatus
 use Rattle.cm_tool.specs.TestEnds.{GotPrefix}
 use Rattle.cm_tool.specs.Tested.{test_outcome}
 use Rattle.cm_tool.proofs.Asks.{query_message_is}
-use Rattle.cm_tool.proofs.Outcomes.{message_is, none_some, nothing_said}
+use Rattle.cm_tool.proofs.Outcomes.{message_is, none_some}
 use Rattle.cm_tool.proofs.Tests.{got_nothing, test_message}
 use Rattle.cm_words.specs.Options.{Read as Reading}
 use Rattle.cm_words.specs.declared.fault.UsageFault.{UsageFault}

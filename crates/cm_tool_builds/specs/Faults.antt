@@ -8,7 +8,6 @@ use Rattle.cm_brz_split.specs.declared.fault.BrzFault.{BrzFault}
 use Rattle.cm_brz_split.specs.declared.fault.BrzFault.TheVariants as brz_fault
 use Rattle.cm_io.specs.Causes.{Rose}
 use Rattle.cm_io.specs.Passes.{HasKeyCause, Told}
-use Rattle.cm_io.specs.declared.key_pass.KeyFault.{KeyFault}
 use Rattle.cm_algo_seeds.specs.declared.fault.BuildFault.{BuildFault}
 use Rattle.cm_algo_seeds.specs.declared.fault.BuildFault.TheVariants as build_fault
 use Rattle.cm_func.specs.declared.failure.SeedFailure.TheVariants.{NoSeed, NoSeedFor, NoSplit}

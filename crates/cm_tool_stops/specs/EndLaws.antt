@@ -1,5 +1,5 @@
 -- Lemmas about counts that rise and about what is said, for those who call the steps of a job.
-use Rattle.std.proofs.Common.{◌≡◌, ℕ, ◌<◌, ◌≤◌, ◌^◌, lit<, List, Option, Bool, arith}
+use Rattle.std.proofs.Common.{◌≡◌, ℕ, ◌<◌, ◌≤◌, ◌^◌, lit<, List, Bool, arith}
 use Rattle.cm_io.specs.Causes.{Collects, Rose}
 use Rattle.cm_io.specs.Noting.{HasNoted}
 use Rattle.cm_io.specs.States.{SinkState}

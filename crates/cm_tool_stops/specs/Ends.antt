@@ -1,5 +1,5 @@
 -- The status and the message of a job that stopped.
-use Rattle.std.specs.Prelude.{◌≡◌, ◌<◌, ◌^◌, ℕ, List, [], take, Option}
+use Rattle.std.specs.Prelude.{◌≡◌, ◌<◌, ◌^◌, ℕ, List, [], take}
 use Rattle.cm_io.specs.States.{SinkState}
 use Rattle.cm_io.specs.Writing.{then_bytes}
 use Rattle.cm_tool_stops.specs.Messages.{bad_dump, cannot_write_out, out_of_memory, cannot_read, cannot_use_spill, cannot_write, keys_changed, no_keys, line_too_long, seed_failure_message, spill_damaged, too_many_keys}

@@ -65,7 +65,9 @@ pub fn bits(text: Option<&str>, builds: bool, algorithm: Algorithm) -> Result<u8
 {
     match algorithm {
         Algorithm::Bdz if builds => Ok(number(text, b'b', 3, 10, 7)? as u8),
-        Algorithm::Brz if builds => Ok(number(text, b'b', MIN_WIDTH as u32, MAX_WIDTH as u32, 128)? as u8),
+        Algorithm::Brz if builds => Ok(
+            number(text, b'b', MIN_WIDTH as u32, MAX_WIDTH as u32, 128)? as u8,
+        ),
         _ => {
             number(text, b'b', 0, u32::MAX, 0)?;
             Ok(0)
