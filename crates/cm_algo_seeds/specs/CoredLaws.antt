@@ -12,11 +12,11 @@ use Rattle.cm_algo_scheme.specs.Kinds.{HasEnds}
 use Rattle.cm_spec.specs.Built.{graph_of}
 use Rattle.cm_spec.specs.Rounds.{rest_of}
 use Rattle.cm_spec.specs.Rule.{Rule}
-use Rattle.cm_witness.specs.Cores.{core_edges, keys_at}
+use Rattle.cm_witness_gather.specs.Cores.{core_edges, keys_at}
 use Rattle.cm_io.specs.PassFaults.{FailsPass, HasOtherCount, HasPassCause, HasPassFailure, HasPassed}
-use Rattle.cm_witness.specs.Gathers.{IsGathered, ends_of, has_buckets}
-use Rattle.cm_witness.specs.Pairs.{pairs}
-use Rattle.cm_witness.specs.declared.certificate.Certificate.{Certificate}
+use Rattle.cm_witness_gather.specs.Gathers.{IsGathered, ends_of, has_buckets}
+use Rattle.cm_witness_gather.specs.Pairs.{pairs}
+use Rattle.cm_witness_gather.specs.declared.certificate.Certificate.{Certificate}
 use Rattle.cm_io.specs.declared.pass_fault.PassFault.{PassFault}
 use Rattle.cm_io.specs.declared.pass_fault.PassFault.TheVariants as pass_fault
 use Rattle.cm_algo_seeds.specs.Fails.{FailsBuild, FoundEqual, HasBuildCause, HasBuildFailure, HasCounted, HasForm, HasNumbers, IsFailure, ShowsCore, build_fault_of}

@@ -17,8 +17,8 @@ use Rattle.cm_spec.specs.Graph.{ArePlaces, degree_in, ends_at, touches}
 use Rattle.cm_spec.specs.Lookup2.{words}
 use Rattle.cm_spec.specs.Rounds.{rest_of}
 use Rattle.cm_spec.specs.Rule.{Rule}
-use Rattle.cm_witness.specs.Cores.{EqualKeysMeet, keys_at}
-use Rattle.cm_witness.specs.Pairs.{first_line, pairs, pairs_after, with_pair}
+use Rattle.cm_witness_gather.specs.Cores.{EqualKeysMeet, keys_at}
+use Rattle.cm_witness_gather.specs.Pairs.{first_line, pairs, pairs_after, with_pair}
 
 -- the ends of a key by its bytes
 ends_of_key : (r : Rule) (keys : List (ℕ × List ℕ)) (c seed i : ℕ) → i < length keys → ends_at (graph_of r keys c seed) i ≡ r.edge (words (key_at keys i) seed) (r.size (length keys) c)

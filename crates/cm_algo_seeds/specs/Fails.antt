@@ -6,10 +6,10 @@ use Rattle.cm_io.specs.declared.key_pass.KeyFault.{KeyFault}
 use Rattle.cm_io.specs.declared.key_pass.KeyPass.{Ghosts}
 use Rattle.cm_spec.specs.Rule.{Rule}
 use Rattle.cm_spec.specs.Built.{first_seed, AllCored}
-use Rattle.cm_witness.specs.Cores.{edges_left, pairs_left}
+use Rattle.cm_witness_gather.specs.Cores.{edges_left, pairs_left}
 use Rattle.cm_io.specs.PassFaults.{HasPassed, IsOtherCount}
-use Rattle.cm_witness.specs.Gathers.{has_third}
-use Rattle.cm_witness.specs.declared.certificate.Certificate.{Certificate}
+use Rattle.cm_witness_gather.specs.Gathers.{has_third}
+use Rattle.cm_witness_gather.specs.declared.certificate.Certificate.{Certificate}
 use Rattle.cm_io.specs.declared.pass_fault.PassFault.{PassFault}
 use Rattle.cm_io.specs.declared.pass_fault.PassFault.TheVariants as pass_fault
 use Rattle.cm_algo_seeds.specs.declared.fault.BuildFault.{BuildFault}

@@ -4,7 +4,7 @@ ghost use Rattle.cm_algo_seeds.specs.declared.fault.BuildFault.TheVariants as bu
 ghost use Rattle.cm_algo_seeds.specs.Fails.{build_fault_of};
 
 use cm_io::{KeyFault, PassFault};
-use cm_witness::Certificate;
+use cm_witness_gather::Certificate;
 
 /// Why there is no function.
 #[derive(Drop)]

@@ -5,7 +5,7 @@ ghost use Rattle.cm_spec.specs.Built.{graph_of};
 ghost use Rattle.cm_spec.specs.Cells.{is_busy};
 ghost use Rattle.cm_spec.specs.Rounds.{rest_of};
 ghost use Rattle.cm_spec.specs.Rule.{IsCount, IsRatio};
-ghost use Rattle.cm_witness.specs.Cores.{EqualKeysMeet};
+ghost use Rattle.cm_witness_gather.specs.Cores.{EqualKeysMeet};
 ghost use Rattle.cm_io.specs.PassFaults.{FailsPass, HasOtherCount, HasPassCause, HasPassFailure, HasPassed, ReadsKeys};
 ghost use Rattle.cm_algo_seeds.specs.Builds.{IsGiven, IsBuilt, IsLeft, IsMade, IsSolution};
 ghost use Rattle.cm_algo_seeds.specs.Fails.{FailsBuild, HasBuildCause, HasForm, IsFailure, ShowsCore};
@@ -19,7 +19,7 @@ use cm_algo_scheme::{Built, Scheme};
 use cm_graph_edges::{Edges, Incidence, Steps};
 use cm_io::{KeyBuf, KeyPass, PassFault};
 use cm_peel::{Peeled, peel_without_levels};
-use cm_witness::{Certificate, gather_with};
+use cm_witness_gather::{Certificate, gather_with};
 use std::alloc::{AllocError, Global};
 use std::sync::ledger::Ledger;
 

@@ -19,10 +19,10 @@ use Rattle.cm_spec.specs.declared.limits.TheConstants.{MAX_BUCKET}
 use Rattle.cm_peel.specs.CoreLaws.{left_after-zero}
 use Rattle.cm_spec.specs.Bdz.{bdz_rule}
 use Rattle.cm_spec.specs.Built.{first_seed, is_peeled}
-use Rattle.cm_witness.specs.Pairs.{pairs}
-use Rattle.cm_witness.specs.Reports.{report_text}
-use Rattle.cm_witness.specs.declared.certificate.Certificate.{Certificate}
-use Rattle.cm_witness.specs.declared.certificate.Pair.{Pair}
+use Rattle.cm_witness_gather.specs.Pairs.{pairs}
+use Rattle.cm_witness_gather.specs.Reports.{report_text}
+use Rattle.cm_witness_gather.specs.declared.certificate.Certificate.{Certificate}
+use Rattle.cm_witness_gather.specs.declared.certificate.Pair.{Pair}
 
 -- the number at a place of the numbers below k
 number_at : (k i : ℕ) → i < k → get_or (range_with_len 0 k) i 0 ≡ i

@@ -18,9 +18,9 @@ use Rattle.cm_algo_seeds.specs.Fails.{FailsBuild, HasForm}
 use Rattle.cm_algo_seeds.specs.declared.fault.BuildFault.TheVariants as build_fault
 use Rattle.cm_spec.specs.Bdz.{bdz_rule}
 use Rattle.cm_spec.specs.Built.{IsFirst, cells_under}
-use Rattle.cm_witness.specs.declared.certificate.Certificate.{Certificate}
-use Rattle.cm_witness.specs.declared.certificate.CoreEdge.{CoreEdge}
-use Rattle.cm_witness.specs.declared.certificate.InBucket.{InBucket}
+use Rattle.cm_witness_gather.specs.declared.certificate.Certificate.{Certificate}
+use Rattle.cm_witness_gather.specs.declared.certificate.CoreEdge.{CoreEdge}
+use Rattle.cm_witness_gather.specs.declared.certificate.InBucket.{InBucket}
 
 pub bucket_made : (keys : List (ℕ × List ℕ)) (c : ℕ) (seeds : List ℕ) (m seed : ℕ) (cells : List ℕ) (k before after : ℕ) → 0 < length keys → IsBuilt bdz_rule keys c seeds m seed cells k before after → bucket_from keys c seeds ≡ Some (record { size = m; seed = seed; cells = cells })
 bucket_made [] c seeds m seed cells k before after some h = absurd (omega arith)

@@ -18,9 +18,9 @@ use Rattle.cm_io.specs.declared.key_pass.KeyFault.{KeyFault}
 use Rattle.cm_spill.specs.declared.fault.SpillError.{SpillError}
 use Rattle.cm_spec.specs.Bdz.{bdz_rule}
 use Rattle.cm_spec.specs.Built.{IsFirst}
-use Rattle.cm_witness.specs.Pairs.{pairs}
-use Rattle.cm_witness.specs.declared.certificate.Pair.{Pair}
-use Rattle.cm_witness.specs.declared.certificate.InBucket.{InBucket}
+use Rattle.cm_witness_gather.specs.Pairs.{pairs}
+use Rattle.cm_witness_gather.specs.declared.certificate.Pair.{Pair}
+use Rattle.cm_witness_gather.specs.declared.certificate.InBucket.{InBucket}
 use Rattle.cm_brz_split.specs.PutsLaws.{keys_of_records}
 
 -- the records of a bucket are its keys

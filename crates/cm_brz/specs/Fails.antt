@@ -13,10 +13,10 @@ use Rattle.cm_io.specs.Passes.{Told}
 use Rattle.cm_algo_seeds.specs.Fails.{ShowsCore}
 use Rattle.cm_spec.specs.Bdz.{bdz_rule}
 use Rattle.cm_spec.specs.Built.{AllCored, first_seed}
-use Rattle.cm_witness.specs.Pairs.{pairs}
-use Rattle.cm_witness.specs.declared.certificate.Certificate.{Certificate}
-use Rattle.cm_witness.specs.declared.certificate.InBucket.{InBucket}
-use Rattle.cm_witness.specs.declared.certificate.Pair.{Pair}
+use Rattle.cm_witness_gather.specs.Pairs.{pairs}
+use Rattle.cm_witness_gather.specs.declared.certificate.Certificate.{Certificate}
+use Rattle.cm_witness_gather.specs.declared.certificate.InBucket.{InBucket}
+use Rattle.cm_witness_gather.specs.declared.certificate.Pair.{Pair}
 
 -- every seed of the list leaves a bucket with more keys than one may have; under the first seed this is the lowest such bucket, with
 -- its number of keys and the equal ones among them

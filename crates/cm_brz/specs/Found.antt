@@ -9,9 +9,9 @@ use Rattle.cm_brz_split.specs.Split.{size_of_bucket}
 use Rattle.cm_brz_func.specs.Functions.{Brz, Bucket, bucket_count, no_bucket}
 use Rattle.cm_spec.specs.declared.limits.TheConstants.{MAX_BUCKET}
 use Rattle.cm_spec.specs.Bdz.{bdz_rule}
-use Rattle.cm_witness.specs.Cores.{edges_left, pairs_left}
-use Rattle.cm_witness.specs.Pairs.{pairs}
-use Rattle.cm_witness.specs.Reports.{report_text}
+use Rattle.cm_witness_gather.specs.Cores.{edges_left, pairs_left}
+use Rattle.cm_witness_gather.specs.Pairs.{pairs}
+use Rattle.cm_witness_gather.specs.Reports.{report_text}
 
 -- the lowest bucket, of k, that has more keys under a seed than one may have
 abbrev pub first_overfull : List (ℕ × List ℕ) → ℕ → ℕ → Option ℕ

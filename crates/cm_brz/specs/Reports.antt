@@ -1,8 +1,8 @@
 -- The text of a report on an overfull bucket.
 use Rattle.std.specs.Prelude.{ℕ, List, [], ◌∷◌, ◌++◌, map, codes, decimal}
 use Rattle.cm_io.specs.Writing.{joined}
-use Rattle.cm_witness.specs.Reports.{pair_line}
-use Rattle.cm_witness.specs.declared.certificate.Pair.{Pair}
+use Rattle.cm_witness_gather.specs.Reports.{pair_line}
+use Rattle.cm_witness_gather.specs.declared.certificate.Pair.{Pair}
 
 -- the first line: the seed of the split, the bucket and its number of keys
 abbrev pub overfull_head : ℕ → ℕ → ℕ → List ℕ

@@ -27,7 +27,7 @@ use cm_brz_split::{BrzFault, BucketKeys, Store};
 use cm_graph::{Steps, Xored};
 use cm_io::KeyBuf;
 use cm_spill::SpillError;
-use cm_witness::{Certificate, InBucket};
+use cm_witness_gather::{Certificate, InBucket};
 use std::alloc::Global;
 use std::sync::ledger::Ledger;
 

@@ -9,9 +9,9 @@ ghost use Rattle.cm_brz.specs.Found.{AllOverfull, brz_under, bucket_report, firs
 ghost use Rattle.cm_brz.specs.Reports.{overfull_text};
 ghost use Rattle.cm_brz_split.specs.Split.{split_of};
 ghost use Rattle.cm_spec.specs.Rule.{IsRatio};
-ghost use Rattle.cm_witness.specs.Reports.{report_text};
-ghost use Rattle.cm_witness.specs.declared.certificate.Certificate.{Certificate};
-ghost use Rattle.cm_witness.specs.declared.certificate.Pair.{Pair};
+ghost use Rattle.cm_witness_gather.specs.Reports.{report_text};
+ghost use Rattle.cm_witness_gather.specs.declared.certificate.Certificate.{Certificate};
+ghost use Rattle.cm_witness_gather.specs.declared.certificate.Pair.{Pair};
 ghost use Rattle.cm_spec.specs.declared.limits.TheConstants.{MAX_EDGES};
 
 use cm_algo_cells::cells_solve;

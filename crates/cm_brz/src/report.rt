@@ -5,7 +5,7 @@ ghost use Rattle.cm_brz.specs.Reports.{overfull_head, overfull_text};
 
 use arrayvec::ArrayVec;
 use cm_io::{Failed, Sink};
-use cm_witness::{Pair, append, append_number, write_pairs};
+use cm_witness_gather::{Pair, append, append_number, write_pairs};
 use itoa::Buffer;
 
 /// Room for any first line.

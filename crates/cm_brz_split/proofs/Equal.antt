@@ -5,9 +5,9 @@ use Rattle.std.specs.Prelude.{filter}
 use Rattle.std.proofs.lemmas.List.{append-nil}
 use Rattle.std.proofs.lemmas.List.Elements.{filter-append}
 use Rattle.cm_brz_func.specs.Functions.{bucket_of}
-use Rattle.cm_witness.specs.Noted.{AreNoted}
-use Rattle.cm_witness.specs.Pairs.{pairs}
-use Rattle.cm_witness.specs.declared.certificate.Pair.{Pair}
+use Rattle.cm_witness_gather.specs.Noted.{AreNoted}
+use Rattle.cm_witness_gather.specs.Pairs.{pairs}
+use Rattle.cm_witness_gather.specs.declared.certificate.Pair.{Pair}
 use Rattle.cm_brz_split.specs.Given.{GaveCount, GaveEqual}
 use Rattle.cm_brz_split.specs.Passes.{NotesNext}
 use Rattle.cm_brz_func.specs.Splitting.{keys_of_bucket}

@@ -9,7 +9,7 @@ use Rattle.cm_brz_split.specs.declared.fault.PutFault.{PutFault}
 use Rattle.cm_brz_split.specs.declared.fault.PutFault.TheVariants as put_fault
 use Rattle.cm_spill.specs.declared.fault.SpillError.{SpillError}
 use Rattle.cm_spill.specs.declared.fault.SpillError.TheVariants as spill_error
-use Rattle.cm_witness.specs.declared.certificate.Pair.{Pair}
+use Rattle.cm_witness_gather.specs.declared.certificate.Pair.{Pair}
 use Rattle.cm_io.specs.declared.pass_fault.PassFault.{PassFault}
 use Rattle.cm_io.specs.declared.pass_fault.PassFault.TheVariants as pass_fault
 

@@ -3,8 +3,8 @@ use Rattle.std.specs.Prelude.{◌≡◌, ◌≢◌, ℕ, ◌+◌, ◌<◌, List,
 use Rattle.cm_brz_func.specs.Functions.{bucket_of}
 use Rattle.cm_brz_func.specs.Splitting.{keys_of_bucket}
 use Rattle.cm_brz_split.specs.Split.{AreSizes, IsLowestOver, size_of_bucket}
-use Rattle.cm_witness.specs.Pairs.{pairs}
-use Rattle.cm_witness.specs.declared.certificate.Pair.{Pair}
+use Rattle.cm_witness_gather.specs.Pairs.{pairs}
+use Rattle.cm_witness_gather.specs.declared.certificate.Pair.{Pair}
 
 -- after some keys a pass gave one more, which is of this bucket, of k
 pub record GaveNext (Gave : List (ℕ × List ℕ) → Type 0) (before : List (ℕ × List ℕ)) (k split bucket : ℕ) : Type 0 where

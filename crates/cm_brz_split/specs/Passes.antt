@@ -3,10 +3,10 @@ use Rattle.std.specs.Prelude.{◌≡◌, ℕ, ◌==◌, Bool, List, [], ◌∷�
 use Rattle.cm_io.specs.Passes.{IsToldFault}
 use Rattle.cm_brz_func.specs.Functions.{bucket_of}
 use Rattle.cm_io.specs.Passes.{Told}
-use Rattle.cm_witness.specs.Noted.{AreNoted}
+use Rattle.cm_witness_gather.specs.Noted.{AreNoted}
 use Rattle.cm_io.specs.declared.pass_fault.PassFault.{PassFault}
 use Rattle.cm_io.specs.declared.pass_fault.PassFault.TheVariants.{Memory, Key, Changed}
-use Rattle.cm_witness.specs.declared.certificate.Pair.{Pair}
+use Rattle.cm_witness_gather.specs.declared.certificate.Pair.{Pair}
 
 -- there are m keys, with no fault at their end
 pub record AreCounted (m : ℕ) (told : Told) : Type 0 where

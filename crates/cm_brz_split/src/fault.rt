@@ -6,7 +6,7 @@ ghost use Rattle.cm_brz_split.specs.Faults.{brz_fault_of, put_fault_of, store_fa
 
 use cm_io::{KeyFault, PassFault};
 use cm_spill::SpillError;
-use cm_witness::{Certificate, Pair};
+use cm_witness_gather::{Certificate, Pair};
 use std::alloc::AllocError;
 
 /// Why a build by BRZ failed.

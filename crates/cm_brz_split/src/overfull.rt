@@ -4,7 +4,7 @@ ghost use Rattle.std.specs.Option.{ForSome};
 ghost use Rattle.cm_io.specs.Passes.{Ends};
 ghost use Rattle.cm_spec.specs.declared.limits.TheConstants.{MAX_KEYS};
 ghost use Rattle.cm_io.specs.PassFaults.{HasPassCause, HasPassFailure, IfChanged, IsOtherCount};
-ghost use Rattle.cm_witness.specs.Pairs.{pairs};
+ghost use Rattle.cm_witness_gather.specs.Pairs.{pairs};
 ghost use Rattle.cm_brz_split.specs.Given.{GaveCount, GaveEqual};
 ghost use Rattle.cm_brz_split.specs.Passes.{AreCounted, FailsAgain, NotesNext};
 ghost use Rattle.cm_brz_func.specs.Splitting.{keys_of_bucket};
@@ -12,7 +12,7 @@ ghost use Rattle.cm_brz_split.specs.Split.{size_of_bucket};
 
 use crate::split::{Overfull, Split};
 use cm_io::{KeyBuf, KeyPass, PassFault, expect_end};
-use cm_witness::{EqualKeys, Pair};
+use cm_witness_gather::{EqualKeys, Pair};
 use std::alloc::Global;
 
 /// Passes the next key, and notes it with its line if it is of this bucket. Returns whether it is, or none at the end. The buffer is

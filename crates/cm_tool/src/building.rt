@@ -27,7 +27,7 @@ use cm_keys::Keys;
 use cm_tool_builds::{FuncFault, func_of};
 use cm_tool_files::store;
 use cm_tool_stops::{Stop, Summary, report, say_built, send_text, sum_up};
-use cm_witness::{Certificate, Pair};
+use cm_witness_gather::{Certificate, Pair};
 use cm_words::BuildJob;
 use std::alloc::Global;
 

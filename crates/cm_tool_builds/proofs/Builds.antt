@@ -36,9 +36,9 @@ use Rattle.cm_tool_builds.specs.Seeds.{IsCoredUnder, IsMadeBy, NoneWorks, TakesF
 use Rattle.cm_tool_builds.specs.Results as results
 use Rattle.cm_tool_builds.specs.Results.{FailureReport, filled, seeded, split_into, result_by}
 use Rattle.cm_tool_builds.specs.declared.fault.FuncFault.{FuncFault}
-use Rattle.cm_witness.specs.Reports.{report_text}
-use Rattle.cm_witness.specs.declared.certificate.Certificate.{Certificate}
-use Rattle.cm_witness.specs.declared.certificate.Pair.{Pair}
+use Rattle.cm_witness_gather.specs.Reports.{report_text}
+use Rattle.cm_witness_gather.specs.declared.certificate.Certificate.{Certificate}
+use Rattle.cm_witness_gather.specs.declared.certificate.Pair.{Pair}
 
 -- a function is known by its parts
 chm_by_parts : (f : Chm) (keys : List (ℕ × List ℕ)) (c seed : ℕ) → f.keys ≡ length keys → f.ratio ≡ c → f.seed ≡ seed → f.cells ≡ cells_under chm_rule keys c seed → f ≡ chm_under keys c seed

@@ -16,10 +16,10 @@ use Rattle.cm_tool_builds.specs.Seeds.{NoneWorks}
 use Rattle.cm_tool_builds.specs.Results.{FailureReport, result_by}
 use Rattle.cm_tool_builds.specs.declared.fault.FuncFault.{FuncFault}
 use Rattle.cm_tool_builds.specs.declared.fault.FuncFault.TheVariants.{Memory, NoKeys, Cored, Overfull, Key, Changed, Spill, SpillDamaged}
-use Rattle.cm_witness.specs.Reports.{report_text}
-use Rattle.cm_witness.specs.declared.certificate.Certificate.{Certificate}
-use Rattle.cm_witness.specs.declared.certificate.InBucket.{InBucket}
-use Rattle.cm_witness.specs.declared.certificate.Pair.{Pair}
+use Rattle.cm_witness_gather.specs.Reports.{report_text}
+use Rattle.cm_witness_gather.specs.declared.certificate.Certificate.{Certificate}
+use Rattle.cm_witness_gather.specs.declared.certificate.InBucket.{InBucket}
+use Rattle.cm_witness_gather.specs.declared.certificate.Pair.{Pair}
 
 -- the fault for a failed build by one seed
 abbrev pub fault_from_build : BuildFault → FuncFault

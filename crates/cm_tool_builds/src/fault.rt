@@ -5,7 +5,7 @@ ghost use Rattle.cm_tool_builds.specs.Faults.{fault_from_build, fault_from_brz};
 use cm_algo::BuildFault;
 use cm_brz::BrzFault;
 use cm_io::KeyFault;
-use cm_witness::{Certificate, Pair};
+use cm_witness_gather::{Certificate, Pair};
 
 /// Why there is no function of the keys of a pass.
 #[derive(Drop)]

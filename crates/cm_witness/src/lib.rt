@@ -1,18 +1,7 @@
-//! Why no seed works: the edges of a 2-core, and which of its keys are equal.
+//! Certificates of builds that are refused: what a pass over the keys gathers of a 2-core, with its equal keys, and the text of it.
 #![tactic(auto)]
 
-mod candidates;
-mod certificate;
-mod firsts;
-mod gathering;
-mod laws;
-mod report;
-mod table;
-
-pub use candidates::count_candidates;
-pub use certificate::{Certificate, CoreEdge, GatherFault, InBucket, Pair};
-pub use cm_algo_names::Algorithm;
-pub use firsts::{EqualKeys, equal_pairs};
-pub use gathering::{gather, gather_with};
-pub use laws::{each_paired, reports};
-pub use report::{append, append_number, write_pairs};
+pub use cm_witness_gather::{
+    Algorithm, Certificate, CoreEdge, EqualKeys, GatherFault, InBucket, Pair, count_candidates,
+    each_paired, equal_pairs, gather, gather_with, reports,
+};

@@ -2,8 +2,8 @@ use Rattle.std.proofs.Common.{arith, rules, ◌≡◌, ◌≢◌, ◌<◌, ◌�
 use Rattle.cm_spec.specs.Built.{graph_of}
 use Rattle.cm_spec.specs.Rounds.{rest_of}
 use Rattle.cm_io.specs.PassFaults.{HasPassed}
-use Rattle.cm_witness.specs.Cores.{EqualKeysMeet, keys_at}
-use Rattle.cm_witness.specs.Pairs.{pairs}
+use Rattle.cm_witness_gather.specs.Cores.{EqualKeysMeet, keys_at}
+use Rattle.cm_witness_gather.specs.Pairs.{pairs}
 use Rattle.cm_algo_seeds.specs.Fails.{HasBuildCause, ShowsCore, build_fault_of}
 use Rattle.cm_algo_seeds.specs.CoredLaws.{cause_on, fails_pass, handed_on, none_found, pass_fails, refused}
 use Rattle.cm_algo_seeds.specs.EqualKeysLaws.{equal_keys_meet, none_works}

@@ -1,6 +1,6 @@
 use Rattle.std.proofs.Common.{arith, ◌≡◌, ◌≤◌, ◌∙◌, ℕ, ◌+◌, ◌*◌, length, refl, subst, sym, get_or}
 use Rattle.cm_io.specs.PassFaults.{HasPassed}
-use Rattle.cm_witness.specs.Cores.{EqualKeysMeet}
+use Rattle.cm_witness_gather.specs.Cores.{EqualKeysMeet}
 use Rattle.cm_algo_seeds.specs.Fails.{HasBuildCause, build_fault_of}
 use Rattle.cm_algo_seeds.specs.CoredLaws.{cause_on, fails_pass, handed_on, pass_fails, refused}
 use Rattle.cm_algo_seeds.specs.EqualKeysLaws.{equal_keys_meet}

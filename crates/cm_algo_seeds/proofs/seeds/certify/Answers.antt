@@ -5,7 +5,7 @@ use Rattle.cm_peel.specs.CoreLaws.{rest_are_places}
 use Rattle.cm_algo_scheme.specs.Kinds.{HasEnds}
 use Rattle.cm_spec.specs.Graph.{ArePlaces}
 use Rattle.cm_spec.specs.Rounds.{rest_of}
-use Rattle.cm_witness.specs.Gathers.{has_third}
+use Rattle.cm_witness_gather.specs.Gathers.{has_third}
 use Rattle.cm_algo_seeds.specs.CoredLaws.{ended, ends_met, shows}
 use Rattle.cm_algo_seeds.proofs.seeds.certify.Goals as goal
 

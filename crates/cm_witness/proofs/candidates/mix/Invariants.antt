@@ -1,6 +1,0 @@
-use Rattle.std.proofs.Common.{◌≡◌, take}
-use Rattle.cm_witness.specs.Candidates.{mixed}
-use Rattle.cm_witness.proofs.candidates.mix.Given as goal
-
-abbrev pub invariant-loop-v : goal.invariant-loop-v
-invariant-loop-v g l = l.number ≡ mixed (take l.v-index l.v-items)

@@ -1,5 +1,0 @@
-use Rattle.cm_witness.proofs.NotedLemmas.{later_paired}
-use Rattle.cm_witness.proofs.laws.each_paired.Goals as goal
-
-pub returns : goal.returns
-returns c = later_paired

@@ -1,6 +1,0 @@
-use Rattle.std.proofs.Common.{◌≡◌, take}
-use Rattle.cm_witness.specs.Candidates.{mixed}
-use Rattle.cm_witness.proofs.table.mix_bytes.Given as goal
-
-abbrev pub invariant-loop-b : goal.invariant-loop-b
-invariant-loop-b l = l.number ≡ mixed (take l.b-index l.key)

@@ -1,0 +1,18 @@
+//! Why no seed works: the edges of a 2-core, and which of its keys are equal.
+#![tactic(auto)]
+
+mod candidates;
+mod certificate;
+mod firsts;
+mod gathering;
+mod laws;
+mod report;
+mod table;
+
+pub use candidates::count_candidates;
+pub use certificate::{Certificate, CoreEdge, GatherFault, InBucket, Pair};
+pub use cm_algo_names::Algorithm;
+pub use firsts::{EqualKeys, equal_pairs};
+pub use gathering::{gather, gather_with};
+pub use laws::{each_paired, reports};
+pub use report::{append, append_number, write_pairs};
