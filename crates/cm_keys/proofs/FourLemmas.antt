@@ -10,24 +10,24 @@ use Rattle.cm_keys.proofs.LeaveLemmas.{open_within}
 use Rattle.cm_keys.proofs.PieceLemmas.{lines_after}
 
 -- These lines are buffered, each with its end, and may be keys.
-pub record AreNext (max longest end : ℕ) (pass : LinePass) (lines : List (List ℕ)) : Type 0 where
+pub record AreNext (max longest : ℕ) (pass : LinePass) (lines : List (List ℕ)) : Type 0 where
   pub within : IsWithin pass.first (pass.given + length lines)
   pub few : pass.given + length lines ≤ max
-  pub begin : BeginsWith (line_rule longest end) pass.waiting lines
+  pub begin : BeginsWith (line_rule longest pass.end) pass.waiting lines
 
 -- The first of them is the next key.
-pub first_at_hand : (max longest end : ℕ) (pass : LinePass) (line : List ℕ) (lines : List (List ℕ)) → AreNext max longest end pass (line ∷ lines) → IsAtHand max longest end pass line
-first_at_hand max longest end pass line lines are = (open_within pass.first pass.given (length lines) are.within, omega (arith, are.few), are.begin.0, are.begin.1)
+pub first_at_hand : (max longest : ℕ) (pass : LinePass) (line : List ℕ) (lines : List (List ℕ)) → AreNext max longest pass (line ∷ lines) → IsAtHand max longest pass line
+first_at_hand max longest pass line lines are = (open_within pass.first pass.given (length lines) are.within, omega (arith, are.few), are.begin.0, are.begin.1)
 
 -- After it the others are next.
-pub others_next : (max longest end : ℕ) (old new : LinePass) (line : List ℕ) (lines : List (List ℕ)) → AreNext max longest end old (line ∷ lines)
-    → new.given ≡ old.given + 1 → new.first ≡ old.first → new.waiting ≡ drop (length line + 1) old.waiting → AreNext max longest end new lines
-others_next max longest end old new line lines are one same passed =
+pub others_next : (max longest : ℕ) (old new : LinePass) (line : List ℕ) (lines : List (List ℕ)) → AreNext max longest old (line ∷ lines)
+    → new.given ≡ old.given + 1 → new.first ≡ old.first → new.end ≡ old.end → new.waiting ≡ drop (length line + 1) old.waiting → AreNext max longest new lines
+others_next max longest old new line lines are one same ends passed =
     let e : old.given + length (line ∷ lines) ≡ new.given + length lines = omega (arith, one) in
     record {
       within = rw same (subst (IsWithin old.first) e are.within);
       few = omega (arith, are.few, e);
-      begin = lines_after longest end (length line) old.waiting new.waiting line lines are.begin refl passed;
+      begin = rw ends (lines_after longest old.end (length line) old.waiting new.waiting line lines are.begin refl passed);
     }
 
 -- Four keys, one after another.

@@ -145,7 +145,7 @@ not_open given None full looked = full
 not_open given (Some n) full looked = omega (arith, full, looked)
 
 -- If no key is buffered, none of these bytes is one.
-pub none_at_hand : (max longest end : ℕ) (pass : LinePass) (key : List ℕ) → NoneAtHand max end pass → IsAtHand max longest end pass key → ⊥
-none_at_hand max longest end pass key (inl full) (looked, few, left, takes) = not_open pass.given pass.first full looked
-none_at_hand max longest end pass key (inr (inl many)) (looked, few, left, takes) = omega (arith, many, few)
-none_at_hand max longest end pass key (inr (inr none)) (looked, few, left, takes) = no_line longest end pass.waiting left key none takes
+pub none_at_hand : (max longest : ℕ) (pass : LinePass) (key : List ℕ) → NoneAtHand max pass → IsAtHand max longest pass key → ⊥
+none_at_hand max longest pass key (inl full) (looked, few, left, takes) = not_open pass.given pass.first full looked
+none_at_hand max longest pass key (inr (inl many)) (looked, few, left, takes) = omega (arith, many, few)
+none_at_hand max longest pass key (inr (inr none)) (looked, few, left, takes) = no_line longest pass.end pass.waiting left key none takes

@@ -30,3 +30,7 @@ ManyLines = lines_of 2 2 10 None (10 ∷ 10 ∷ 97 ∷ 97 ∷ 97 ∷ []) ≡ rec
 -- With the number of lines given, no later one is read.
 abbrev pub FirstLines : Type 0
 FirstLines = lines_of 2 2 10 (Some 2) (10 ∷ 10 ∷ 97 ∷ 97 ∷ 97 ∷ []) ≡ record { keys = (1, []) ∷ (2, []) ∷ []; fault = None }
+
+-- If byte 0 ends a line, a line feed is part of its key. An empty line is the empty key, and a last line without its end counts.
+abbrev pub ZeroEnds : Type 0
+ZeroEnds = lines_of 9 9 0 None (97 ∷ 10 ∷ 98 ∷ 0 ∷ 0 ∷ 10 ∷ []) ≡ record { keys = (1, 97 ∷ 10 ∷ 98 ∷ []) ∷ (2, []) ∷ (3, 10 ∷ []) ∷ []; fault = None }

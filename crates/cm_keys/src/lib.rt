@@ -3,7 +3,7 @@
 
 ghost use Rattle.std.specs.Prelude.{◌≡◌, ℕ, List, Option};
 ghost use Rattle.cm_keys.specs.Lines.{lines_of, pieces};
-ghost use Rattle.cm_keys.specs.LinesLaws.{CarriageReturn, EmptyKeys, NoLines, LongestKeys, LongLine, ManyLines, FirstLines};
+ghost use Rattle.cm_keys.specs.LinesLaws.{CarriageReturn, EmptyKeys, NoLines, LongestKeys, LongLine, ManyLines, FirstLines, ZeroEnds};
 ghost use Rattle.cm_keys.specs.NumberingLaws.{AreNumbered};
 ghost use Rattle.cm_keys.specs.SplittingLaws.{AreLines};
 
@@ -27,6 +27,7 @@ pub fn worked_rows()
     ensures long_line { LongLine }
     ensures many_lines { ManyLines }
     ensures first_lines { FirstLines }
+    ensures zero_ends { ZeroEnds }
 {}
 
 /// The pieces of every text are its lines.

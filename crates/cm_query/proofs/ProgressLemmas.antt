@@ -25,15 +25,15 @@ use Rattle.cm_query.specs.declared.fault.QueryFault.TheVariants.{Key, Write}
 use Rattle.cm_query.specs.declared.tally.Tally.{Tally}
 
 -- the keys given so far are answered: their text on out, their notes on err, their marks and their tally
-pub record SoFar (f : List ℕ → Option ℕ) (given : List (ℕ × List ℕ)) (marks : List ℕ) (tally : Tally) (out_old out_new : Option (List ℕ)) (had failed : Bool) (err_old err_new : SinkState) : Type 0 where
-  pub out : out_new ≡ then_bytes out_old (text_of 10 f given)
+pub record SoFar (end : ℕ) (f : List ℕ → Option ℕ) (given : List (ℕ × List ℕ)) (marks : List ℕ) (tally : Tally) (out_old out_new : Option (List ℕ)) (had failed : Bool) (err_old err_new : SinkState) : Type 0 where
+  pub out : out_new ≡ then_bytes out_old (text_of end f given)
   pub notes : Noted had failed err_old err_new (notes_of f given)
   pub marks_are : AreMarks f given marks
   pub tally_is : tally ≡ tally_of f given
 
-pub so_far_none : (f : List ℕ → Option ℕ) (marks : List ℕ) (n : ℕ) (tally : Tally) (out : Option (List ℕ)) (failed : Bool) (err : SinkState)
-    → marks ≡ replicate n 0 → tally ≡ tally_of f [] → SoFar f [] marks tally out out failed failed err err
-so_far_none f marks n tally out failed err is zero = record {
+pub so_far_none : (end : ℕ) (f : List ℕ → Option ℕ) (marks : List ℕ) (n : ℕ) (tally : Tally) (out : Option (List ℕ)) (failed : Bool) (err : SinkState)
+    → marks ≡ replicate n 0 → tally ≡ tally_of f [] → SoFar end f [] marks tally out out failed failed err err
+so_far_none end f marks n tally out failed err is zero = record {
   out = then_nothing out;
   notes = noted_nothing failed err;
   marks_are = none_marked f marks n is;
@@ -50,19 +50,19 @@ next_within keys place k is =
     omega (arith, length-drop place keys)
 
 -- one key more, with its answer
-pub so_far_next : (f : List ℕ → Option ℕ) (keys : List (ℕ × List ℕ)) (place : ℕ) (k : ℕ × List ℕ) (a : Option ℕ) (repeated : Bool) (marks marks' : List ℕ) (tally tally' : Tally) (out_old out_mid out_new : Option (List ℕ))
+pub so_far_next : (end : ℕ) (f : List ℕ → Option ℕ) (keys : List (ℕ × List ℕ)) (place : ℕ) (k : ℕ × List ℕ) (a : Option ℕ) (repeated : Bool) (marks marks' : List ℕ) (tally tally' : Tally) (out_old out_mid out_new : Option (List ℕ))
     (had failed failed' : Bool) (err_old err_mid err_new : SinkState)
-    → drop place keys ≡ k ∷ drop (place + 1) keys → f k.1 ≡ a → IfSome a (λ v. v < length marks) → SoFar f (take place keys) marks tally out_old out_mid had failed err_old err_mid
-    → out_new ≡ then_bytes out_mid (line_of 10 k.1 a) → repeated ≡ is_marked marks a → marks' ≡ marked marks a
+    → drop place keys ≡ k ∷ drop (place + 1) keys → f k.1 ≡ a → IfSome a (λ v. v < length marks) → SoFar end f (take place keys) marks tally out_old out_mid had failed err_old err_mid
+    → out_new ≡ then_bytes out_mid (line_of end k.1 a) → repeated ≡ is_marked marks a → marks' ≡ marked marks a
     → Noted failed failed' err_mid err_new (note_of k.0 a repeated) → tally' ≡ counted tally a repeated
-    → SoFar f (take (place + 1) keys) marks' tally' out_old out_new had failed' err_old err_new
-so_far_next f keys place k a repeated marks marks' tally tally' out_old out_mid out_new had failed failed' err_old err_mid err_new next is inside so_far wrote seen set noted more =
+    → SoFar end f (take (place + 1) keys) marks' tally' out_old out_new had failed' err_old err_new
+so_far_next end f keys place k a repeated marks marks' tally tally' out_old out_mid out_new had failed failed' err_old err_mid err_new next is inside so_far wrote seen set noted more =
     let old = take place keys in
     let given = take_next keys place k next in
     let again : repeated ≡ is_repeated f old a = seen ∙ is_marked-same f old marks a so_far.marks_are inside in
-    let text : out_new ≡ then_bytes out_old (text_of 10 f (old ++ k ∷ [])) =
-    wrote ∙ ap (λ (o : Option (List ℕ)). then_bytes o (line_of 10 k.1 a)) so_far.out ∙ then_twice out_old (text_of 10 f old) (line_of 10 k.1 a)
-    ∙ ap (λ (o : Option ℕ). then_bytes out_old (text_of 10 f old ++ line_of 10 k.1 o)) (sym is) ∙ ap (then_bytes out_old) (sym (text_of-more 10 f old k)) in
+    let text : out_new ≡ then_bytes out_old (text_of end f (old ++ k ∷ [])) =
+    wrote ∙ ap (λ (o : Option (List ℕ)). then_bytes o (line_of end k.1 a)) so_far.out ∙ then_twice out_old (text_of end f old) (line_of end k.1 a)
+    ∙ ap (λ (o : Option ℕ). then_bytes out_old (text_of end f old ++ line_of end k.1 o)) (sym is) ∙ ap (then_bytes out_old) (sym (text_of-more end f old k)) in
     let note : note_of k.0 a repeated ≡ note_of k.0 (f k.1) (is_repeated f old (f k.1)) =
     ap (note_of k.0 a) again ∙ ap (λ (o : Option ℕ). note_of k.0 o (is_repeated f old o)) (sym is) in
     let notes : Noted had failed' err_old err_new (notes_of f (old ++ k ∷ [])) =
@@ -70,14 +70,14 @@ so_far_next f keys place k a repeated marks marks' tally tally' out_old out_mid 
     let tallied : tally' ≡ tally_of f (old ++ k ∷ []) =
     more ∙ ap (λ (t : Tally). counted t a repeated) so_far.tally_is ∙ ap (counted (tally_of f old) a) again ∙ tally_of-more f old k a is in
     let are : AreMarks f (old ++ k ∷ []) marks' = subst (AreMarks f (old ++ k ∷ [])) (sym set) (marks_more f old marks k a is so_far.marks_are inside) in
-    subst (λ (ks : List (ℕ × List ℕ)). SoFar f ks marks' tally' out_old out_new had failed' err_old err_new) (sym given)
+    subst (λ (ks : List (ℕ × List ℕ)). SoFar end f ks marks' tally' out_old out_new had failed' err_old err_new) (sym given)
     (record { out = text; notes = notes; marks_are = are; tally_is = tallied })
 
 -- at the end of the keys
-pub so_far_all : (f : List ℕ → Option ℕ) (told : Told) (place : ℕ) (marks : List ℕ) (tally : Tally) (out_old out_new : Option (List ℕ)) (had failed : Bool) (err_old err_new : SinkState)
-    → Ends told place None → SoFar f (take place told.keys) marks tally out_old out_new had failed err_old err_new → SoFar f told.keys marks tally out_old out_new had failed err_old err_new
-so_far_all f told place marks tally out_old out_new had failed err_old err_new ends so_far =
-    subst (λ (ks : List (ℕ × List ℕ)). SoFar f ks marks tally out_old out_new had failed err_old err_new) (take_all place told.keys (omega (arith, ends.all))) so_far
+pub so_far_all : (end : ℕ) (f : List ℕ → Option ℕ) (told : Told) (place : ℕ) (marks : List ℕ) (tally : Tally) (out_old out_new : Option (List ℕ)) (had failed : Bool) (err_old err_new : SinkState)
+    → Ends told place None → SoFar end f (take place told.keys) marks tally out_old out_new had failed err_old err_new → SoFar end f told.keys marks tally out_old out_new had failed err_old err_new
+so_far_all end f told place marks tally out_old out_new had failed err_old err_new ends so_far =
+    subst (λ (ks : List (ℕ × List ℕ)). SoFar end f ks marks tally out_old out_new had failed err_old err_new) (take_all place told.keys (omega (arith, ends.all))) so_far
 
 -- where the pass refused
 pub stops_at_key : (told : Told) (place now line : ℕ) (key : List ℕ) (fault : KeyFault) → place ≤ length told.keys → GivesKey told place now line key (Err fault) → StopsAt told place (Key fault)
@@ -86,13 +86,13 @@ stops_at_key told place now line key (TooLong at) within gives = gives
 stops_at_key told place now line key TooMany within gives = gives
 
 -- where a write failed, at the key after some
-pub text_at_write : (f : List ℕ → Option ℕ) (keys : List (ℕ × List ℕ)) (place : ℕ) (k : ℕ × List ℕ) (a : Option ℕ) (out_old out_mid out_new : Option (List ℕ))
-    → drop place keys ≡ k ∷ drop (place + 1) keys → f k.1 ≡ a → out_mid ≡ then_bytes out_old (text_of 10 f (take place keys)) → ((n : ℕ) × (out_new ≡ then_bytes out_mid (take n (line_of 10 k.1 a))))
-    → TextAfter 10 f keys (place + 1) out_old out_new Write
-text_at_write f keys place k a out_old out_mid out_new next is so_far wrote =
+pub text_at_write : (end : ℕ) (f : List ℕ → Option ℕ) (keys : List (ℕ × List ℕ)) (place : ℕ) (k : ℕ × List ℕ) (a : Option ℕ) (out_old out_mid out_new : Option (List ℕ))
+    → drop place keys ≡ k ∷ drop (place + 1) keys → f k.1 ≡ a → out_mid ≡ then_bytes out_old (text_of end f (take place keys)) → ((n : ℕ) × (out_new ≡ then_bytes out_mid (take n (line_of end k.1 a))))
+    → TextAfter end f keys (place + 1) out_old out_new Write
+text_at_write end f keys place k a out_old out_mid out_new next is so_far wrote =
     let less : place + 1 - 1 ≡ place = omega arith in
-    let old = text_of 10 f (take place keys) in
-    let line : line_of 10 k.1 a ≡ text_of 10 f (take 1 (drop place keys)) =
-    ap (line_of 10 k.1) (sym is) ∙ sym (text_of-one 10 f k) ∙ ap (λ (l : List (ℕ × List ℕ)). text_of 10 f (take 1 l)) (sym next) in
-    subst (λ (p : ℕ). (n : ℕ) × (out_new ≡ then_bytes out_old (text_of 10 f (take p keys) ++ take n (text_of 10 f (take 1 (drop p keys)))))) (sym less)
-    (wrote.0, wrote.1 ∙ ap (λ (o : Option (List ℕ)). then_bytes o (take wrote.0 (line_of 10 k.1 a))) so_far ∙ then_twice out_old old (take wrote.0 (line_of 10 k.1 a)) ∙ ap (λ (l : List ℕ). then_bytes out_old (old ++ take wrote.0 l)) line)
+    let old = text_of end f (take place keys) in
+    let line : line_of end k.1 a ≡ text_of end f (take 1 (drop place keys)) =
+    ap (line_of end k.1) (sym is) ∙ sym (text_of-one end f k) ∙ ap (λ (l : List (ℕ × List ℕ)). text_of end f (take 1 l)) (sym next) in
+    subst (λ (p : ℕ). (n : ℕ) × (out_new ≡ then_bytes out_old (text_of end f (take p keys) ++ take n (text_of end f (take 1 (drop p keys)))))) (sym less)
+    (wrote.0, wrote.1 ∙ ap (λ (o : Option (List ℕ)). then_bytes o (take wrote.0 (line_of end k.1 a))) so_far ∙ then_twice out_old old (take wrote.0 (line_of end k.1 a)) ∙ ap (λ (l : List ℕ). then_bytes out_old (old ++ take wrote.0 l)) line)

@@ -11,7 +11,7 @@ ghost use Rattle.cm_query.specs.Texts.{text_of, notes_of};
 use crate::fault::QueryFault;
 use crate::marks::mark;
 use crate::tally::Tally;
-use crate::writing::{LINE_END, note_key, write_line};
+use crate::writing::{note_key, write_line};
 use cm_algo_scheme::Answers;
 use cm_bits::{Bits, Cells};
 use cm_io::{Failed, KeyBuf, KeyPass, Notes, Sink};
@@ -20,19 +20,22 @@ use itoa::Buffer;
 use std::alloc::Global;
 
 /// Looks up each key of a pass that stands at its start. If it has an answer, its line goes to out; if it has none, or one that an earlier
-/// key has, a note goes to err. One bit for each number of the span is allocated first, and no other memory. Buffered keys are taken
-/// several at a time, after all lines of earlier keys were written. Out is flushed before a key is read that is not buffered, so no line
-/// is left in its buffer at the end or if a read fails.
+/// key has, a note goes to err. A line on out ends with the byte `end`, which is a line feed or 0, and a note with a line feed. One bit
+/// for each number of the span is allocated first, and no other memory. Buffered keys are taken several at a time, after all lines of
+/// earlier keys were written. Out is flushed before a key is read that is not buffered, so no line is left in its buffer at the end or if
+/// a read fails.
 pub fn query<A: Answers, P: KeyPass, O: Sink, E: Sink>(
     alloc: Global,
     function: &A,
     keys: &mut P,
+    end: u8,
     out: &mut O,
     err: &mut E,
     notes: &mut Notes,
 ) -> Result<Tally, QueryFault>
     requires usable { IsTrue (P.usable keys.old) }
     requires start { P.place keys.old ≡ 0 }
+    requires end { (end ≡ 10) ⊎ (end ≡ 0) }
 
     // Whether or not the keys are known.
     ensures told { P.told keys.new ≡ P.told keys.old }
@@ -54,14 +57,14 @@ pub fn query<A: Answers, P: KeyPass, O: Sink, E: Sink>(
     // The end of known keys.
     ensures end { OnOk result (ForSome (P.told keys.old) (λ told. told.fault ≡ None)) }
     ensures tally { IfOk result (λ tally. ForSome (P.told keys.old) (λ told. tally ≡ tally_of (A.answer_of function.now) told.keys)) }
-    ensures text { OnOk result (ForSome (P.told keys.old) (λ told. (O.state out.new).written ≡ then_bytes (O.state out.old).written (text_of LINE_END (A.answer_of function.now) told.keys))) }
+    ensures text { OnOk result (ForSome (P.told keys.old) (λ told. (O.state out.new).written ≡ then_bytes (O.state out.old).written (text_of end (A.answer_of function.now) told.keys))) }
     ensures notes { OnOk result (ForSome (P.told keys.old) (λ told.
         Noted notes.old notes.new (E.state err.old) (E.state err.new) (notes_of (A.answer_of function.now) told.keys))) }
 
     // A failure over known keys. After `Write` the pass may have yielded more keys than were reached.
     ensures stops { IfErr result (λ fault. ForSome (P.told keys.old) (λ told. StopsAt told (P.place keys.new) fault)) }
     ensures after { IfErr result (λ fault. ForSome (P.told keys.old) (λ told. (reached : ℕ) × IsReached (P.place keys.new) reached fault
-        × TextAfter LINE_END (A.answer_of function.now) told.keys reached (O.state out.old).written (O.state out.new).written fault
+        × TextAfter end (A.answer_of function.now) told.keys reached (O.state out.old).written (O.state out.new).written fault
         × Noted notes.old notes.new (E.state err.old) (E.state err.new) (notes_of (A.answer_of function.now) (noted_keys told.keys reached fault)))) }
 {
     let Ok(mut marks) = Bits::zeroed(alloc, function.span(), 2) else {
@@ -83,7 +86,7 @@ pub fn query<A: Answers, P: KeyPass, O: Sink, E: Sink>(
         }
         let answer = batch.answer();
         let sends = reads_next(&batch, keys);
-        match write_line(out, batch.key(), answer, sends, &mut buffer) {
+        match write_line(out, batch.key(), answer, end, sends, &mut buffer) {
             Ok(()) => {}
             Err(Failed) => return Err(QueryFault::Write),
         }

@@ -14,4 +14,3 @@ pub use crate::fault::QueryFault;
 pub use crate::laws::{front_of_text, noted_exactly, worked_rows};
 pub use crate::summing::sum_answers;
 pub use crate::tally::Tally;
-pub use crate::writing::LINE_END;

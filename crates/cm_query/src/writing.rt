@@ -4,14 +4,11 @@ ghost use Rattle.cm_io.specs.Causes.{HasCause};
 ghost use Rattle.cm_io.specs.Noting.{Noted};
 ghost use Rattle.cm_io.specs.Writing.{Writes, joined};
 ghost use Rattle.cm_query.specs.Texts.{line_of, note_of, repeated_note, unknown_note};
-ghost use Rattle.cm_query.specs.declared.writing.TheConstants.{LINE_END, SHORT_KEY};
+ghost use Rattle.cm_query.specs.declared.writing.TheConstants.{SHORT_KEY};
 
 use arrayvec::ArrayVec;
 use cm_io::{Failed, Notes, Sink, write_pieces};
 use itoa::Buffer;
-
-/// The byte that ends a line of the text on out.
-pub const LINE_END: u8 = 10;
 
 /// The length of the longest line that is written as one piece.
 const SHORT_LINE: usize = 256;
@@ -30,14 +27,19 @@ fn append<const N: usize>(line: &mut ArrayVec<u8, N>, part: &[u8])
 }
 
 /// Appends what follows a key in its line: an arrow, the number in decimal, and the byte that ends the line.
-fn append_tail<const N: usize>(line: &mut ArrayVec<u8, N>, number: u32, buffer: &mut Buffer)
+fn append_tail<const N: usize>(
+    line: &mut ArrayVec<u8, N>,
+    number: u32,
+    end: u8,
+    buffer: &mut Buffer,
+)
     requires room { length line.old.items + 15 ≤ N }
-    ensures tail { line.new.items ≡ line.old.items ++ joined (codes " -> " ∷ decimal number ∷ (LINE_END ∷ []) ∷ []) }
+    ensures tail { line.new.items ≡ line.old.items ++ joined (codes " -> " ∷ decimal number ∷ (end ∷ []) ∷ []) }
 {
     let digits = buffer.format(number).as_bytes();
     append(line, b" -> ");
     append(line, digits);
-    line.push(LINE_END);
+    line.push(end);
 }
 
 /// Writes the line of a short key and its number as one piece.
@@ -45,15 +47,16 @@ fn write_short<O: Sink>(
     out: &mut O,
     key: &[u8],
     number: u32,
+    end: u8,
     buffer: &mut Buffer,
 ) -> Result<(), Failed>
     requires short { length key.now ≤ SHORT_KEY }
-    ensures line { Writes (O.state out.old).written (O.state out.new).written (line_of LINE_END key.now (Some number)) result }
+    ensures line { Writes (O.state out.old).written (O.state out.new).written (line_of end key.now (Some number)) result }
     ensures cause { HasCause (O.state out.old).faults (O.state out.new).faults result }
 {
     let mut line = ArrayVec::<u8, SHORT_LINE>::new();
     append(&mut line, key);
-    append_tail(&mut line, number, buffer);
+    append_tail(&mut line, number, end, buffer);
     out.write(line.as_slice())
 }
 
@@ -63,14 +66,15 @@ pub(crate) fn write_line<O: Sink>(
     out: &mut O,
     key: &[u8],
     answer: Option<u32>,
+    end: u8,
     sends: bool,
     buffer: &mut Buffer,
 ) -> Result<(), Failed>
-    ensures line { Writes (O.state out.old).written (O.state out.new).written (line_of LINE_END key.now answer) result }
+    ensures line { Writes (O.state out.old).written (O.state out.new).written (line_of end key.now answer) result }
     ensures sent { OnOk result (sends ≡ true → (O.state out.new).waits ≡ 0) }
     ensures cause { HasCause (O.state out.old).faults (O.state out.new).faults result }
 {
-    put_line(out, key, answer, buffer)?;
+    put_line(out, key, answer, end, buffer)?;
     if sends {
         return out.write(&[]);
     }
@@ -82,19 +86,20 @@ fn put_line<O: Sink>(
     out: &mut O,
     key: &[u8],
     answer: Option<u32>,
+    end: u8,
     buffer: &mut Buffer,
 ) -> Result<(), Failed>
-    ensures line { Writes (O.state out.old).written (O.state out.new).written (line_of LINE_END key.now answer) result }
+    ensures line { Writes (O.state out.old).written (O.state out.new).written (line_of end key.now answer) result }
     ensures cause { HasCause (O.state out.old).faults (O.state out.new).faults result }
 {
     let Some(number) = answer else {
         return Ok(());
     };
     if key.len() <= SHORT_KEY {
-        return write_short(out, key, number, buffer);
+        return write_short(out, key, number, end, buffer);
     }
     let mut tail = ArrayVec::<u8, 15>::new();
-    append_tail(&mut tail, number, buffer);
+    append_tail(&mut tail, number, end, buffer);
     write_pieces(out, &[key, tail.as_slice()])
 }
 

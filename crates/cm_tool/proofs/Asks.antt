@@ -12,6 +12,7 @@ use Rattle.cm_io.specs.Writing.{then_bytes}
 use Rattle.cm_io.specs.declared.key_pass.KeyFault.{KeyFault}
 use Rattle.cm_io.specs.declared.key_pass.KeyFault.TheVariants as key_fault
 use Rattle.cm_io.specs.WritingLaws.{then_nothing}
+use Rattle.cm_keys.specs.declared.keys.TheConstants.{LINE_END}
 use Rattle.cm_query.specs.Tallies.{tally_of}
 use Rattle.cm_query.specs.Texts.{notes_of, text_of}
 use Rattle.cm_query.specs.declared.tally.Tally.{Tally}
@@ -106,7 +107,7 @@ unread : (job : QueryJob) (files : Files) (f : Func) (file : Option (List ℕ)) 
 unread job files f None old new notes given spells is asked none =
     let here : keys_at files job ≡ [] = ap (keys_or_none job.first) is in
     let part = subst (λ (keys : List (ℕ × List ℕ)). AskedPart (answer_by f) keys old new notes given 0) here asked in
-    part.out ∙ ap (λ (keys : List (ℕ × List ℕ)). then_bytes old (text_of 10 (answer_by f) keys ++ [])) (take-nil given) ∙ sym (then_nothing old)
+    part.out ∙ ap (λ (keys : List (ℕ × List ℕ)). then_bytes old (text_of LINE_END (answer_by f) keys ++ [])) (take-nil given) ∙ sym (then_nothing old)
 unread job files f (Some bytes) old new notes given spells is asked none = absurd (none_some (sym none ∙ asked_outcome job files f bytes _ _ spells is refl refl))
 
 -- a query that stopped over files by which there is no outcome

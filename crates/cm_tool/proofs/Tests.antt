@@ -6,6 +6,7 @@ use Rattle.cm_dump.specs.Dumps.{dump_of}
 use Rattle.cm_func.specs.Functions.{answer_by}
 use Rattle.cm_func.specs.declared.function.Func.{Func}
 use Rattle.cm_keys.specs.Lines.{lines_of}
+use Rattle.cm_keys.specs.declared.keys.TheConstants.{LINE_END}
 use Rattle.cm_keys_made.specs.Numbered.{AreMade}
 use Rattle.cm_keys_made.specs.Texts.{made_text}
 use Rattle.cm_words_values.specs.Options.{algorithms, usual_ratio}
@@ -400,7 +401,7 @@ pub fault_from : (job : TestJob) (algorithm : Algorithm) (plan : Plan) (seeds : 
 fault_from job algorithm plan seeds fault plan_is seeds_are fails = rw (plan_is, seeds_are) at fails
 
 -- the law of generated keys, said of a pass over them
-pub made_by : (n : ℕ) → AreMade n (lines_of MAX_KEYS MAX_KEY_LEN 10 None (made_text n)) → AreMade n (tested.generated n)
+pub made_by : (n : ℕ) → AreMade n (lines_of MAX_KEYS MAX_KEY_LEN LINE_END None (made_text n)) → AreMade n (tested.generated n)
 unfolding tested.generated
 made_by n made = made
 

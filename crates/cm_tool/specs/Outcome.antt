@@ -10,6 +10,7 @@ use Rattle.cm_dump_items.specs.declared.fault.LoadFault.{LoadFault}
 use Rattle.cm_io.specs.Files.{Files, file_at}
 use Rattle.cm_io.specs.declared.key_pass.KeyFault.{KeyFault}
 use Rattle.cm_io.specs.declared.key_pass.KeyFault.TheVariants.{Read, TooLong, TooMany}
+use Rattle.cm_keys.specs.declared.keys.TheConstants.{LINE_END}
 use Rattle.cm_query.specs.Texts.{notes_of, text_of}
 pub use Rattle.cm_tool_files.specs.Asked.{keys_in}
 use Rattle.cm_tool_stops.specs.Messages.{bad_dump, built_message, cannot_read, line_too_long, no_keys, too_many_keys, usage_message}
@@ -57,8 +58,8 @@ noted_status (b ∷ notes) = 1
 
 -- a query over keys that end with a fault, or with none, under a function from the bytes of a key to its answer
 abbrev pub query_over : QueryJob → Files → (List ℕ → Option ℕ) → List (ℕ × List ℕ) → Option KeyFault → Outcome
-query_over job files f keys (Some fault) = record { status = 8; out = text_of 10 f keys; err = notes_of f keys ++ fault_message job.keys fault; files = files }
-query_over job files f keys None = record { status = noted_status (notes_of f keys); out = text_of 10 f keys; err = notes_of f keys; files = files }
+query_over job files f keys (Some fault) = record { status = 8; out = text_of LINE_END f keys; err = notes_of f keys ++ fault_message job.keys fault; files = files }
+query_over job files f keys None = record { status = noted_status (notes_of f keys); out = text_of LINE_END f keys; err = notes_of f keys; files = files }
 
 -- a query over the bytes of the keys file, under a function
 unfoldable pub query_outcome : QueryJob → Files → Func → List ℕ → Outcome

@@ -23,7 +23,7 @@ use arrayvec::ArrayVec;
 use cm_brz::write_overfull;
 use cm_func::{Func, SeedFailure};
 use cm_io::{Disk, DiskFault, Failed, KeyFault, Sink};
-use cm_keys::Keys;
+use cm_keys::{Keys, LINE_END};
 use cm_tool_builds::{FuncFault, func_of};
 use cm_tool_files::store;
 use cm_tool_stops::{Stop, Summary, report, say_built, send_text, sum_up};
@@ -157,7 +157,7 @@ fn function_of<D: Disk, O: Sink>(
         Err(DiskFault::Memory) => return Err(Stop::Memory),
         Err(DiskFault::Failed) => return Err(Stop::Read),
     };
-    let mut keys = Keys::new(reader, job.first);
+    let mut keys = Keys::new(reader, job.first, LINE_END);
     let tried = seeds(job.seed, job.count);
     let outcome = func_of(
         alloc,

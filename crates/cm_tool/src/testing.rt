@@ -28,7 +28,7 @@ use cm_algo_names::Algorithm;
 use cm_dump::saved_len;
 use cm_func::Func;
 use cm_io::{Disk, Failed, KeyPass, Sink, write_pieces};
-use cm_keys::Keys;
+use cm_keys::{Keys, LINE_END};
 use cm_keys_made::MadeKeys;
 use cm_query::sum_answers;
 use cm_tool_builds::{FuncFault, Plan, func_of};
@@ -47,7 +47,7 @@ fn generated_pass(n: u32) -> Keys<MadeKeys>
     ensures usable { ⟦<Keys<MadeKeys> as KeyPass>⟧.usable result ≡ true }
     ensures faults { ⟦<Keys<MadeKeys> as KeyPass>⟧.faults result ≡ 0 }
 {
-    Keys::new(MadeKeys::new(n), None)
+    Keys::new(MadeKeys::new(n), None, LINE_END)
 }
 
 /// The default ratio of vertices to keys, in millionths.

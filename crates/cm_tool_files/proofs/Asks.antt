@@ -12,6 +12,7 @@ use Rattle.cm_io.specs.Files.{Files, file_at}
 use Rattle.cm_io.specs.Writing.{then_bytes}
 use Rattle.cm_io.specs.declared.key_pass.KeyFault.TheVariants as key_fault
 use Rattle.cm_io.specs.WritingLaws.{then_nothing}
+use Rattle.cm_keys.specs.declared.keys.TheConstants.{LINE_END}
 use Rattle.cm_query.specs.Stops.{StopsAt, TextAfter, noted_keys}
 use Rattle.cm_query.specs.Texts.{notes_of, text_of}
 use Rattle.cm_query.specs.declared.fault.QueryFault.{QueryFault}
@@ -29,17 +30,17 @@ take_keys keys given all = take_all given keys (omega (arith, all))
 
 -- the keys that were asked for until a refusal
 pub asked_until : (f : List ℕ → Option ℕ) (files : Files) (job : QueryJob) (bytes : List ℕ) (old new : Option (List ℕ)) (given : ℕ) (fault : QueryFault) → file_at files job.keys ≡ Some bytes
-    → StopsAt (keys_in job.first bytes) given fault → TextAfter 10 f (keys_in job.first bytes).keys given old new fault → EndsKeys f files job old new (notes_of f (noted_keys (keys_in job.first bytes).keys given fault)) (Err (stop_from_query fault))
+    → StopsAt (keys_in job.first bytes) given fault → TextAfter LINE_END f (keys_in job.first bytes).keys given old new fault → EndsKeys f files job old new (notes_of f (noted_keys (keys_in job.first bytes).keys given fault)) (Err (stop_from_query fault))
 asked_until f files job bytes old new given query_fault.Memory there stops text = (text, refl)
 asked_until f files job bytes old new given (query_fault.Key key_fault.Read) there stops text =
     let here : keys_at files job ≡ (keys_in job.first bytes).keys = ap (keys_or_none job.first) there in
     (given, rw here (record { out = text ∙ ap (then_bytes old) (sym (append-nil _)); notes_are = refl }))
 asked_until f files job bytes old new given (query_fault.Key (key_fault.TooLong line)) there stops text =
     let all = take_keys (keys_in job.first bytes).keys given stops.all in
-    record { bytes = bytes; there = there; fault_is = stops.fault_is; out = text ∙ ap (λ (ks : List (ℕ × List ℕ)). then_bytes old (text_of 10 f ks)) all; notes_are = ap (notes_of f) all }
+    record { bytes = bytes; there = there; fault_is = stops.fault_is; out = text ∙ ap (λ (ks : List (ℕ × List ℕ)). then_bytes old (text_of LINE_END f ks)) all; notes_are = ap (notes_of f) all }
 asked_until f files job bytes old new given (query_fault.Key key_fault.TooMany) there stops text =
     let all = take_keys (keys_in job.first bytes).keys given stops.all in
-    record { bytes = bytes; there = there; fault_is = stops.fault_is; out = text ∙ ap (λ (ks : List (ℕ × List ℕ)). then_bytes old (text_of 10 f ks)) all; notes_are = ap (notes_of f) all }
+    record { bytes = bytes; there = there; fault_is = stops.fault_is; out = text ∙ ap (λ (ks : List (ℕ × List ℕ)). then_bytes old (text_of LINE_END f ks)) all; notes_are = ap (notes_of f) all }
 asked_until f files job bytes old new given query_fault.Write there stops text =
     let here : keys_at files job ≡ (keys_in job.first bytes).keys = ap (keys_or_none job.first) there in
     (bytes, given - 1, text.0, there, rw here (record { out = text.1; notes_are = refl }))

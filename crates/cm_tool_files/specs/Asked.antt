@@ -14,6 +14,7 @@ use Rattle.cm_io.specs.declared.key_pass.KeyFault.TheVariants as key_fault
 use Rattle.cm_io.specs.declared.key_pass.TheConstants.{MAX_KEY_LEN}
 use Rattle.cm_spec.specs.declared.limits.TheConstants.{MAX_KEYS}
 use Rattle.cm_keys.specs.Lines.{lines_of}
+use Rattle.cm_keys.specs.declared.keys.TheConstants.{LINE_END}
 use Rattle.cm_query.specs.Tallies.{tally_of}
 use Rattle.cm_query.specs.Texts.{notes_of, text_of}
 use Rattle.cm_query.specs.declared.fault.QueryFault.{QueryFault}
@@ -72,7 +73,7 @@ RefusesDump files path TooMany = ⊥
 
 -- the keys of a file: its lines without their ends, the first ones or all, at most 16,777,216 of them, of at most 65,535 bytes each
 abbrev pub keys_in : Option ℕ → List ℕ → Told
-keys_in first bytes = lines_of MAX_KEYS MAX_KEY_LEN 10 first bytes
+keys_in first bytes = lines_of MAX_KEYS MAX_KEY_LEN LINE_END first bytes
 
 -- the keys of a query's keys file, and none if there is no file
 abbrev pub keys_or_none : Option ℕ → Option (List ℕ) → List (ℕ × List ℕ)
@@ -84,7 +85,7 @@ keys_at files job = keys_or_none job.first (file_at files job.keys)
 
 -- The first `given` keys were answered, with their notes. Of the text of the next one, out got a prefix.
 pub record AskedPart (f : List ℕ → Option ℕ) (keys : List (ℕ × List ℕ)) (old new : Option (List ℕ)) (notes : List ℕ) (given rest : ℕ) : Type 0 where
-  pub out : new ≡ then_bytes old (text_of 10 f (take given keys) ++ take rest (text_of 10 f (take 1 (drop given keys))))
+  pub out : new ≡ then_bytes old (text_of LINE_END f (take given keys) ++ take rest (text_of LINE_END f (take 1 (drop given keys))))
   pub notes_are : notes ≡ notes_of f (take given keys)
 
 -- All keys of the keys file were answered, with their notes, up to this fault or none.
@@ -92,7 +93,7 @@ pub record AskedAll (f : List ℕ → Option ℕ) (files : Files) (job : QueryJo
   pub bytes : List ℕ
   pub there : file_at files job.keys ≡ Some bytes
   pub fault_is : (keys_in job.first bytes).fault ≡ fault
-  pub out : new ≡ then_bytes old (text_of 10 f (keys_in job.first bytes).keys)
+  pub out : new ≡ then_bytes old (text_of LINE_END f (keys_in job.first bytes).keys)
   pub notes_are : notes ≡ notes_of f (keys_in job.first bytes).keys
 
 -- neither out nor err got anything before the message

@@ -10,7 +10,7 @@ ghost use Rattle.cm_words.specs.declared.jobs.QueryJob.{QueryJob};
 
 use cm_dump::Func;
 use cm_io::{Disk, DiskFault, KeyFault, Notes, Sink};
-use cm_keys::Keys;
+use cm_keys::{Keys, LINE_END};
 use cm_query::{QueryFault, Tally, query};
 use cm_tool_stops::QueryStop;
 use cm_words::QueryJob;
@@ -55,8 +55,8 @@ pub(crate) fn ask_keys<D: Disk, O: Sink, E: Sink>(
         Err(DiskFault::Memory) => return Err(QueryStop::Memory),
         Err(DiskFault::Failed) => return Err(QueryStop::Read),
     };
-    let mut pass = Keys::new(reader, job.first);
-    let asked = query(alloc, function, &mut pass, out, err, notes);
+    let mut pass = Keys::new(reader, job.first, LINE_END);
+    let asked = query(alloc, function, &mut pass, LINE_END, out, err, notes);
     disk.shut(pass.into_source());
     match asked {
         Ok(tally) => Ok(tally),

@@ -5,7 +5,7 @@ use cm_algo::{BuildFault, build};
 use cm_bdz::BdzScheme;
 use cm_graph::{Steps, Xored};
 use cm_io::{KeyBuf, KeyFault, KeyPass};
-use cm_keys::Keys;
+use cm_keys::{Keys, LINE_END};
 use cm_outer::MemSource;
 use std::alloc::{AllocError, Global};
 use std::marker::Brand;
@@ -99,7 +99,7 @@ fn copied_by<L: Ledger>(alloc: Global, count: u32, blank: Blank) -> Result<(u32,
     };
     let source = MemSource::new(bytes, Vec::new(alloc), Vec::new(alloc));
     let mut keys = Counting {
-        pass: Keys::new(source, None),
+        pass: Keys::new(source, None, LINE_END),
         copied: 0,
     };
     let mut steps = Steps::<L>::new(blank);

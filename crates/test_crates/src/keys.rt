@@ -1,7 +1,9 @@
 //! Passes over the lines of a file, by public calls alone.
+ghost use Rattle.std.specs.Prelude.{◌≡◌, ◌⊎◌};
+
 use crate::equal::{expect_equal_at, expect_text};
 use cm_io::{KeyBuf, KeyPass, MAX_KEY_LEN, MAX_KEYS};
-use cm_keys::Keys;
+use cm_keys::{Keys, LINE_END};
 use cm_outer::MemSource;
 use std::alloc::{AllocError, Global};
 use std::test::Fail;
@@ -126,17 +128,25 @@ fn shown<P: KeyPass>(alloc: Global, keys: &mut P, calls: &str) -> Result<String,
     Ok(text)
 }
 
-/// What the calls show of a file whose listed reads and rewinds fail.
+/// The reads and the rewinds that fail, counted from 0.
+type Failing<'a> = (&'a [u64], &'a [u64]);
+
+const NONE_FAIL: Failing<'static> = (&[], &[]);
+
+/// What the calls show of a file. The byte `end` ends a line.
 fn shown_of(
     alloc: Global,
     bytes: Vec<u8>,
-    reads: &[u64],
-    rewinds: &[u64],
+    failing: Failing,
     first: Option<u32>,
+    end: u8,
     calls: &str,
-) -> Result<String, AllocError> {
+) -> Result<String, AllocError>
+    requires end { (end ≡ LINE_END) ⊎ (end ≡ 0) }
+{
+    let (reads, rewinds) = failing;
     let source = MemSource::new(bytes, reads.to_vec(alloc)?, rewinds.to_vec(alloc)?);
-    let mut keys = Keys::new(source, first);
+    let mut keys = Keys::new(source, first, end);
     let text = shown(alloc, &mut keys, calls);
     let _source = keys.into_source();
     text
@@ -176,7 +186,37 @@ fn lines_of_small_files(rt: HostRuntime) -> Result<(), Fail> {
     let alloc = rt.alloc();
     for (file, first, calls, text) in &FILES {
         let bytes = file.as_bytes().to_vec(alloc)?;
-        let shown = shown_of(alloc, bytes, &[], &[], *first, *calls)?;
+        let shown = shown_of(alloc, bytes, NONE_FAIL, *first, LINE_END, *calls)?;
+        expect_equal_at(&rt, calls, &shown.as_str(), text);
+    }
+    Ok(())
+}
+
+/// The same of files whose lines end with byte 0.
+const ZERO_ENDED: [(&str, Option<u32>, &str, &str); 3] = [
+    // A line feed belongs to its key, a key may be empty, and a last line needs no end.
+    (
+        "a\nb\0\0c\n",
+        None,
+        "nnnnn",
+        "1=a\nb; 2=; 3=c\n; end; end; ",
+    ),
+    ("a\n\0\nb\0", Some(1), "nnrn", "1=a\n; end; start; 1=a\n; "),
+    // A line that ends with a line feed alone isn't whole: it is neither buffered nor skipped.
+    (
+        "a\nb\0\0c\n",
+        None,
+        "narnsanp",
+        "1=a\nb; ; start; 1=a\nb; 1 skipped; none; 3=c\n; 0 keys; ",
+    ),
+];
+
+#[test]
+fn lines_that_end_with_byte_0(rt: HostRuntime) -> Result<(), Fail> {
+    let alloc = rt.alloc();
+    for (file, first, calls, text) in &ZERO_ENDED {
+        let bytes = file.as_bytes().to_vec(alloc)?;
+        let shown = shown_of(alloc, bytes, NONE_FAIL, *first, 0, *calls)?;
         expect_equal_at(&rt, calls, &shown.as_str(), text);
     }
     Ok(())
@@ -187,12 +227,12 @@ fn the_longest_key(rt: HostRuntime) -> Result<(), Fail> {
     let alloc = rt.alloc();
     let mut bytes = vec![in alloc; b'a'; MAX_KEY_LEN + 2]?;
     bytes[1] = b'\n';
-    let shown = shown_of(alloc, bytes, &[], &[], None, "nnn")?;
+    let shown = shown_of(alloc, bytes, NONE_FAIL, None, LINE_END, "nnn")?;
     expect_text(&rt, shown.as_str(), "1=a; 2=65535 bytes; end; ");
     let mut bytes = vec![in alloc; b'a'; MAX_KEY_LEN + 4]?;
     bytes[1] = b'\n';
     bytes[MAX_KEY_LEN + 3] = b'\n';
-    let shown = shown_of(alloc, bytes, &[], &[], None, "nnnrp")?;
+    let shown = shown_of(alloc, bytes, NONE_FAIL, None, LINE_END, "nnnrp")?;
     expect_text(
         &rt,
         shown.as_str(),
@@ -205,7 +245,7 @@ fn the_longest_key(rt: HostRuntime) -> Result<(), Fail> {
 fn the_most_keys(rt: HostRuntime) -> Result<(), Fail> {
     let alloc = rt.alloc();
     let bytes = vec![in alloc; b'\n'; MAX_KEYS as usize + 1]?;
-    let shown = shown_of(alloc, bytes, &[], &[], None, "pn")?;
+    let shown = shown_of(alloc, bytes, NONE_FAIL, None, LINE_END, "pn")?;
     expect_text(
         &rt,
         shown.as_str(),
@@ -226,7 +266,7 @@ fn a_fault_in_mid_stream(rt: HostRuntime) -> Result<(), Fail> {
         ),
     ] {
         let bytes = vec![in alloc; b'\n'; 65_537]?;
-        let shown = shown_of(alloc, bytes, &[1], &[0], None, calls)?;
+        let shown = shown_of(alloc, bytes, (&[1], &[0]), None, LINE_END, calls)?;
         expect_text(&rt, shown.as_str(), text);
     }
     Ok(())

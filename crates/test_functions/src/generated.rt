@@ -8,7 +8,7 @@ use cm_brz::build::brz;
 use cm_dump::{Func, save};
 use cm_graph::Steps;
 use cm_io::Spill;
-use cm_keys::Keys;
+use cm_keys::{Keys, LINE_END};
 use cm_keys_made::MadeKeys;
 use cm_outer::{MemSink, MemSpill};
 use std::alloc::{AllocError, Global};
@@ -40,7 +40,7 @@ fn build_by<L: Ledger>(alloc: Global, buffer: u32, spill: MemSpill, blank: Blank
     requires empty { spill.appended.bytes ≡ [] }
 {
     let mut steps = Steps::<L>::new(blank);
-    let mut keys = Keys::new(MadeKeys::new(KEYS), None);
+    let mut keys = Keys::new(MadeKeys::new(KEYS), None, LINE_END);
     let made = brz(
         alloc, &mut keys, 1_230_000, 128, &SEEDS, buffer, spill, &mut steps,
     );

@@ -1,8 +1,11 @@
 //! Queries over the keys of a list: what they return and write, and sinks that fail.
+ghost use Rattle.std.specs.Prelude.{◌≡◌, ◌⊎◌};
+
 use crate::equal::expect_equal;
 use crate::listed::Listed;
 use cm_algo_scheme::{Answers, Place};
 use cm_io::{KeyFault, MAX_KEY_LEN, Notes};
+use cm_keys::LINE_END;
 use cm_outer::MemSink;
 use cm_query::{QueryFault, front_of_text, noted_exactly, query, worked_rows};
 use std::alloc::{AllocError, Global};
@@ -52,8 +55,15 @@ struct Case<'a> {
 
 /// Checks a case with none, some and all of the next keys buffered.
 fn check(rt: &impl Abort, alloc: Global, case: &Case) -> Result<(), AllocError> {
+    check_ended(rt, alloc, case, LINE_END)
+}
+
+/// The same, with the byte that ends a line of out.
+fn check_ended(rt: &impl Abort, alloc: Global, case: &Case, end: u8) -> Result<(), AllocError>
+    requires end { (end ≡ LINE_END) ⊎ (end ≡ 0) }
+{
     for at_hand in [0, 1, 2, 1000] {
-        check_at_hand(rt, alloc, case, at_hand)?;
+        check_at_hand(rt, alloc, case, end, at_hand)?;
     }
     Ok(())
 }
@@ -62,8 +72,11 @@ fn check_at_hand(
     rt: &impl Abort,
     alloc: Global,
     case: &Case,
+    end: u8,
     at_hand: usize,
-) -> Result<(), AllocError> {
+) -> Result<(), AllocError>
+    requires end { (end ≡ LINE_END) ⊎ (end ≡ 0) }
+{
     let mut pass = Listed::new(case.keys, case.fault, at_hand);
     let mut out = MemSink::new(alloc, case.rooms.0, Vec::new(alloc))?;
     let mut err = MemSink::new(alloc, case.rooms.1, Vec::new(alloc))?;
@@ -72,6 +85,7 @@ fn check_at_hand(
         alloc,
         &Lengths {},
         &mut pass,
+        end,
         &mut out,
         &mut err,
         &mut notes,
@@ -167,6 +181,20 @@ fn worked_queries(rt: HostRuntime) -> Result<(), Fail> {
     for case in &CASES {
         check(&rt, rt.alloc(), case)?;
     }
+    Ok(())
+}
+
+#[test]
+fn lines_that_end_with_byte_0(rt: HostRuntime) -> Result<(), Fail> {
+    let case = Case {
+        keys: &[b"a\nb", b"", b"\n", b"none"],
+        fault: None,
+        rooms: AMPLE,
+        answer: Ok((4, 0, 1)),
+        out: b"a\nb -> 3\0 -> 0\0\n -> 1\0",
+        err: b"cmph: line 4: key is unknown\n",
+    };
+    check_ended(&rt, rt.alloc(), &case, 0)?;
     Ok(())
 }
 

@@ -37,7 +37,7 @@ keys-init g c =
       says = ([], noted_nothing _ _);
       answered = none_waits _ _ _ batch.none batch.answers;
       ahead = λ told is. rw (batch.none, c.requires.start) refl;
-      so_far = λ told is. (omega arith, so_far_none _ _ span _ _ _ (g.E.Sink.state c.args.err.now) zeros refl);
+      so_far = λ told is. (omega arith, so_far_none _ _ _ span _ _ _ (g.E.Sink.state c.args.err.now) zeros refl);
     }
 
 pub returns-in-Ok-false-clause-tally : goal.returns-in-Ok-false-clause-tally
@@ -46,7 +46,7 @@ returns-in-Ok-false-clause-tally g c = λ told is.
     let n = c.in-Ok-false.ensures in
     let counts = rw c.in-Ok-false.field-0-test at n.counts in
     let ends = (rw c.in-Ok-false.field-0-test at n.refills) told (inv.same ∙ is) in
-    (so_far_all _ told c.keys.tally.lines _ _ _ _ _ _ (g.E.Sink.state c.args.err.now) (g.E.Sink.state c.keys.err) (record { none_left = ap (λ (p : ℕ). drop p told.keys) (omega (arith, inv.at, counts.0)) ∙ ends.none_left; all = omega (arith, inv.at, counts.0, ends.all); fault_is = ends.fault_is }) (inv.so_far told is).1).tally_is
+    (so_far_all _ _ told c.keys.tally.lines _ _ _ _ _ _ (g.E.Sink.state c.args.err.now) (g.E.Sink.state c.keys.err) (record { none_left = ap (λ (p : ℕ). drop p told.keys) (omega (arith, inv.at, counts.0)) ∙ ends.none_left; all = omega (arith, inv.at, counts.0, ends.all); fault_is = ends.fault_is }) (inv.so_far told is).1).tally_is
 
 pub returns-in-Ok-false-clause-text : goal.returns-in-Ok-false-clause-text
 returns-in-Ok-false-clause-text g c = λ told is.
@@ -54,7 +54,7 @@ returns-in-Ok-false-clause-text g c = λ told is.
     let n = c.in-Ok-false.ensures in
     let counts = rw c.in-Ok-false.field-0-test at n.counts in
     let ends = (rw c.in-Ok-false.field-0-test at n.refills) told (inv.same ∙ is) in
-    (so_far_all _ told c.keys.tally.lines _ _ _ _ _ _ (g.E.Sink.state c.args.err.now) (g.E.Sink.state c.keys.err) (record { none_left = ap (λ (p : ℕ). drop p told.keys) (omega (arith, inv.at, counts.0)) ∙ ends.none_left; all = omega (arith, inv.at, counts.0, ends.all); fault_is = ends.fault_is }) (inv.so_far told is).1).out
+    (so_far_all _ _ told c.keys.tally.lines _ _ _ _ _ _ (g.E.Sink.state c.args.err.now) (g.E.Sink.state c.keys.err) (record { none_left = ap (λ (p : ℕ). drop p told.keys) (omega (arith, inv.at, counts.0)) ∙ ends.none_left; all = omega (arith, inv.at, counts.0, ends.all); fault_is = ends.fault_is }) (inv.so_far told is).1).out
 
 pub returns-in-Err-clause-after : goal.returns-in-Err-clause-after
 returns-in-Err-clause-after g c = λ told is.
@@ -67,7 +67,7 @@ pub returns-in-Err-write_line-clause-appends : goal.returns-in-Err-write_line-cl
 returns-in-Err-write_line-clause-appends g c =
     let before = c.keys.invariant.text in
     let wrote = c.in-Err-write_line.ensures.line in
-    let line = take wrote.0 (line_of 10 c.key.result.now c.answer-answer.result) in
+    let line = take wrote.0 (line_of c.args.end c.key.result.now c.answer-answer.result) in
     (before.0 ++ line, wrote.1 ∙ ap (λ (o : Option (List ℕ)). then_bytes o line) before.1 ∙ then_twice (g.O.Sink.state c.args.out.now).written before.0 line)
 
 pub returns-in-Err-write_line-clause-after : goal.returns-in-Err-write_line-clause-after
@@ -89,7 +89,7 @@ returns-in-Err-write_line-clause-after g c = λ told is.
     let wrote = c.in-Err-write_line.ensures.line in (
       lines + 1,
       (omega arith, less),
-      text_at_write f told.keys lines (line, key) c.answer-answer.result _ (g.O.Sink.state c.keys.out).written _ next first.answer so_far.out wrote,
+      text_at_write c.args.end f told.keys lines (line, key) c.answer-answer.result _ (g.O.Sink.state c.keys.out).written _ next first.answer so_far.out wrote,
       subst (λ (p : ℕ). Noted c.args.notes.now c.keys.notes (g.E.Sink.state c.args.err.now) (g.E.Sink.state c.keys.err) (notes_of f (take p told.keys))) (let same : lines ≡ lines + 1 - 1 = omega arith in same) so_far.notes,
     )
 
@@ -136,8 +136,8 @@ keys-preserved g c =
       sent = λ none. sent_next _ _ _ _ _ one_less c.in-Ok-write_line.ensures.sent c.reads_next-sends.ensures.waits;
       notes_sent = λ none. c.note_key.ensures.sent (inv.notes_sent none);
       text = (
-        inv.text.0 ++ line_of 10 key a,
-        c.in-Ok-write_line.ensures.line ∙ ap (λ (o : Option (List ℕ)). then_bytes o (line_of 10 key a)) inv.text.1 ∙ then_twice (g.O.Sink.state c.args.out.now).written inv.text.0 (line_of 10 key a),
+        inv.text.0 ++ line_of c.args.end key a,
+        c.in-Ok-write_line.ensures.line ∙ ap (λ (o : Option (List ℕ)). then_bytes o (line_of c.args.end key a)) inv.text.1 ∙ then_twice (g.O.Sink.state c.args.out.now).written inv.text.0 (line_of c.args.end key a),
       );
       says = (_, noted_more inv.says.1 c.note_key.ensures.noted);
       answered = first.rest;
@@ -148,8 +148,8 @@ keys-preserved g c =
           let next = (ahead_of told.keys c.keys.tally.lines _ _ c.keys.batch.keys waiting.keys c.pass.new.self.keys (line, key) (inv.ahead told is) ((rw c.in-Ok-true.field-0-test at n.refills) told (inv.same ∙ is)) first.keys).0 in
           let within : c.keys.tally.lines + 1 ≤ length told.keys = next_within told.keys c.keys.tally.lines (line, key) next in (
             omega (arith, lines, within),
-            subst (λ (p : ℕ). SoFar f (take p told.keys) (packed_cells 2 8 c.mark-repeated.new.marks.n c.mark-repeated.new.marks.bytes.items) c.count.new.self (g.O.Sink.state c.args.out.now).written (g.O.Sink.state c.write_line.new.out).written c.args.notes.now c.note_key.new.notes (g.E.Sink.state c.args.err.now) (g.E.Sink.state c.note_key.new.err)) (sym lines)
-                (so_far_next f told.keys c.keys.tally.lines (line, key) a c.mark-repeated.result old _ c.keys.tally c.count.new.self _ (g.O.Sink.state c.keys.out).written _ _ _ _ (g.E.Sink.state c.args.err.now) (g.E.Sink.state c.keys.err) (g.E.Sink.state c.note_key.new.err)
+            subst (λ (p : ℕ). SoFar c.args.end f (take p told.keys) (packed_cells 2 8 c.mark-repeated.new.marks.n c.mark-repeated.new.marks.bytes.items) c.count.new.self (g.O.Sink.state c.args.out.now).written (g.O.Sink.state c.write_line.new.out).written c.args.notes.now c.note_key.new.notes (g.E.Sink.state c.args.err.now) (g.E.Sink.state c.note_key.new.err)) (sym lines)
+                (so_far_next c.args.end f told.keys c.keys.tally.lines (line, key) a c.mark-repeated.result old _ c.keys.tally c.count.new.self _ (g.O.Sink.state c.keys.out).written _ _ _ _ (g.E.Sink.state c.args.err.now) (g.E.Sink.state c.keys.err) (g.E.Sink.state c.note_key.new.err)
                 next first.answer inside (inv.so_far told is).1 c.in-Ok-write_line.ensures.line c.mark-repeated.ensures.repeated c.mark-repeated.ensures.marked c.note_key.ensures.noted c.count.ensures.counted),
           );
     }

@@ -30,7 +30,7 @@ invariant-keys g l =
       answered : AreAnswers (A.answer_of l.function) (A.span_of l.function) l.batch;
       ahead : ForSome (P.told l.fn.keys) (λ told. drop l.tally.lines told.keys ≡ l.batch.keys ++ drop (P.place l.keys) told.keys);
       so_far : ForSome (P.told l.fn.keys) (λ told. (l.tally.lines ≤ length told.keys)
-          × SoFar (A.answer_of l.function) (take l.tally.lines told.keys) (packed_cells 2 8 l.marks.n l.marks.bytes.items) l.tally (O.state l.fn.out).written (O.state l.out).written l.fn.notes l.notes (E.state l.fn.err) (E.state l.err));
+          × SoFar l.end (A.answer_of l.function) (take l.tally.lines told.keys) (packed_cells 2 8 l.marks.n l.marks.bytes.items) l.tally (O.state l.fn.out).written (O.state l.out).written l.fn.notes l.notes (E.state l.fn.err) (E.state l.err));
     }
 
 abbrev pub decreases-keys : goal.decreases-keys

@@ -3,7 +3,6 @@ use Rattle.std.specs.Option.{option_map}
 use Rattle.cm_io.specs.declared.key_pass.TheConstants.{MAX_KEY_LEN}
 use Rattle.cm_spec.specs.declared.limits.TheConstants.{MAX_KEYS}
 use Rattle.cm_keys.specs.Lines.{lines_of}
-use Rattle.cm_keys.specs.declared.keys.TheConstants.{LINE_END}
 use Rattle.cm_keys.proofs.GivenLemmas.{key_is_given}
 use Rattle.cm_keys.proofs.NextLemmas.{key_leaves, key_gives, long_gives, many_gives, none_gives, ready_some}
 use Rattle.cm_keys.proofs.keys.KeysKeyPass.next.Goals as goal
@@ -48,5 +47,5 @@ returns-in-Ok-Key-clause-gave g c =
     let self = c.self.inside in
     let line = rw c.in-Ok-Key.field-0-is at c.in-Ok-Key.ensures.line in
     let few : self.given < MAX_KEYS = omega (arith, c.if-self-eq-MAX_KEYS.false, c.self.invariant.few) in
-    rw (← c.self.view_is) (λ keys gave. key_is_given _ _ _ _ _ _ keys (ap (option_map (lines_of MAX_KEYS MAX_KEY_LEN LINE_END c.self.inside.first)) c.in-Ok-Key.ensures.told) refl
+    rw (← c.self.view_is) (λ keys gave. key_is_given _ _ _ _ _ _ keys (ap (option_map (lines_of MAX_KEYS MAX_KEY_LEN c.self.inside.end c.self.inside.first)) c.in-Ok-Key.ensures.told) refl
     (key_gives _ _ _ _ _ _ _ _ _ _ _ _ (c.self.invariant.left (ap (λ pass. pass.usable) c.self.view_is ∙ c.requires.usable)) line.0 c.in-Ok-Key.ensures.told (c.is_open.ensures.open c.if-not-is_open.false) few line.1) gave)

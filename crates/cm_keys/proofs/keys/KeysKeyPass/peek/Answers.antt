@@ -2,7 +2,6 @@ use Rattle.std.proofs.Common.{[], ◌<◌, ◌∙◌, ap, refl, rules}
 use Rattle.cm_io.specs.declared.key_pass.TheConstants.{MAX_KEY_LEN}
 use Rattle.cm_spec.specs.declared.limits.TheConstants.{MAX_KEYS}
 use Rattle.cm_keys.specs.Buffering.{left_bytes, ready_in}
-use Rattle.cm_keys.specs.declared.keys.TheConstants.{LINE_END}
 use Rattle.cm_keys.proofs.PieceLemmas.{read_whole}
 use Rattle.cm_keys.proofs.NextLemmas.{key_gives, none_at_hand}
 use Rattle.cm_keys.proofs.keys.KeysKeyPass.peek.Goals as goal
@@ -14,11 +13,11 @@ returns-in-Some-clause-gives g c =
     let takes = c.in-Some.ensures.line.1 in
     let old = left_bytes (g.S.Source.told self.bytes.source) (g.S.Source.place self.bytes.source) (ready_in self.bytes.buf self.bytes.start self.bytes.until) in
     rw (← c.self.view_is) (key_gives _ _ _ _ _ _ _ _ _ _ _ _ (c.self.invariant.left (ap (λ pass. pass.usable) c.self.view_is ∙ c.requires.usable))
-    (read_whole MAX_KEY_LEN LINE_END [] _ old old _ _ _ _ _ _ refl refl refl refl takes)
+    (read_whole MAX_KEY_LEN c.self.inside.end [] _ old old _ _ _ _ _ _ refl refl refl refl takes)
     refl (c.may_give.ensures.open c.if-not-may_give.false) few takes.4)
 
 pub returns-then-not-may_give-clause-none_stands : goal.returns-then-not-may_give-clause-none_stands
-returns-then-not-may_give-clause-none_stands g c = λ key. none_at_hand MAX_KEYS MAX_KEY_LEN LINE_END c.args.self.now key (search rules)
+returns-then-not-may_give-clause-none_stands g c = λ key. none_at_hand MAX_KEYS MAX_KEY_LEN c.args.self.now key (search rules)
 
 pub returns-in-None-clause-none_stands : goal.returns-in-None-clause-none_stands
-returns-in-None-clause-none_stands g c = λ key. none_at_hand MAX_KEYS MAX_KEY_LEN LINE_END c.args.self.now key (search rules)
+returns-in-None-clause-none_stands g c = λ key. none_at_hand MAX_KEYS MAX_KEY_LEN c.args.self.now key (search rules)
