@@ -1,7 +1,6 @@
 //! What a function from keys to numbers is.
 ghost use Rattle.std.specs.Prelude.{◌≡◌, ◌<◌, ◌≤◌, ◌∷◌, [], ℕ, List, Option, IfSome};
-
-use cm_bits::MAX_CELLS;
+ghost use Rattle.cm_spec.specs.declared.limits.TheConstants.{MAX_VERTICES};
 
 /// Where a function looks up the number of a key: the two or three vertices of the key's edge, counted from 0, and 0 in each further
 /// number.
@@ -19,10 +18,10 @@ pub trait Answers {
     /// The number for the bytes of a key. A key that the function was not built over gets any number, or none.
     ghost answer_of: { Self → List ℕ → Option ℕ };
 
-    /// The span: all numbers are below it. It is at most `MAX_CELLS`.
+    /// The span: all numbers are below it. It is at most `MAX_VERTICES` of `cm_spec`.
     fn span(&self) -> u32
         ensures span { result ≡ span_of self.now }
-        ensures few { result ≤ MAX_CELLS };
+        ensures few { result ≤ MAX_VERTICES };
 
     /// The place of a key.
     fn place(&self, key: &[u8]) -> Place

@@ -79,7 +79,7 @@ fn fault_without_ranks(built: &Built<Crumbs>) -> PartsFault
 }
 
 impl Bdz {
-    /// The function of a build's result: from 1 to 16,777,216 keys, a ratio from 1,000,000 to 10,000,000 millionths, and as many cells
+    /// The function of a build's result: from 1 to `MAX_KEYS` keys, a ratio from 1,000,000 to 10,000,000 millionths, and as many cells
     /// as the graph has vertices, with ranks of every `2^b`-th cell, with b from 3 to 10. Returns `BadCount` exactly if the number of
     /// cells that are not 3 differs from the number of keys.
     pub fn from_built(alloc: Global, built: Built<Crumbs>, b: u8) -> Result<Bdz, PartsFault>

@@ -1,10 +1,9 @@
 //! Functions by BDZ_PH.
 ghost use Rattle.std.specs.Prelude.{◌≡◌, ◌*◌, ◌^◌, ◌<◌, ◌≤◌, length};
 ghost use Rattle.cm_bdz.specs.Functions.{IsThirds};
-ghost use Rattle.cm_bits.specs.declared.TheConstants.{MAX_CELLS};
 ghost use Rattle.cm_spec.specs.Bdz.{bdz_size};
 ghost use Rattle.cm_spec.specs.Rule.{IsRatio};
-ghost use Rattle.cm_spec.specs.declared.limits.TheConstants.{MAX_KEYS};
+ghost use Rattle.cm_spec.specs.declared.limits.TheConstants.{MAX_KEYS, MAX_VERTICES};
 
 use cm_algo_scheme::{Built, Divisor};
 use cm_bits::{Cells, Trits};
@@ -38,7 +37,7 @@ impl Model for BdzPh {
 }
 
 impl BdzPh {
-    /// The function of a build's result: from 1 to 16,777,216 keys, a ratio from 1,000,000 to 10,000,000 millionths, and as many cells
+    /// The function of a build's result: from 1 to `MAX_KEYS` keys, a ratio from 1,000,000 to 10,000,000 millionths, and as many cells
     /// as the graph has vertices.
     pub fn from_built(built: Built<Trits>) -> BdzPh
         requires keys { (1 ≤ built.m) × (built.m ≤ MAX_KEYS) }
@@ -82,7 +81,7 @@ impl BdzPh {
         ensures cells { ⟦<Trits as Cells>⟧.cells result.now ≡ self.now.cells }
         ensures size { length self.now.cells ≡ bdz_size self.now.keys self.now.ratio }
         ensures thirds { IsThirds (length self.now.cells) }
-        ensures few { length self.now.cells ≤ MAX_CELLS }
+        ensures few { length self.now.cells ≤ MAX_VERTICES }
     {
         &self.built.cells
     }

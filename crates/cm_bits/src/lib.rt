@@ -27,7 +27,7 @@ pub use packings::{Bits, Crumbs, Trits};
 pub use plain::Plain;
 
 /// The most cells that a table may have.
-pub const MAX_CELLS: u32 = 671_088_645;
+pub const MAX_CELLS: u32 = 1_073_741_824;
 
 /// The highest bound of `Fields`: its cells have at most 26 bits.
 pub const MAX_FIELD_BOUND: u32 = 67_108_864;

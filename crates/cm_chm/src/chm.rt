@@ -38,7 +38,7 @@ impl Model for Chm {
 }
 
 impl Chm {
-    /// The function of a build's result: from 1 to 16,777,216 keys, a ratio from 1,000,000 to 10,000,000 millionths, and as many cells
+    /// The function of a build's result: from 1 to `MAX_KEYS` keys, a ratio from 1,000,000 to 10,000,000 millionths, and as many cells
     /// below the number of keys as the graph has vertices.
     pub fn from_built(built: Built<Fields>) -> Chm
         requires keys { (1 ≤ built.m) × (built.m ≤ MAX_KEYS) }

@@ -3,7 +3,7 @@ ghost use Rattle.std.specs.Prelude.{◌≡◌, ◌^◌};
 ghost use Rattle.cm_spec.specs.Bdz.{bdz_size};
 
 /// The most keys of a pass, and of a function.
-pub const MAX_KEYS: u32 = 16_777_216;
+pub const MAX_KEYS: u32 = 67_108_864;
 
 /// The most edges of a graph.
 pub const MAX_EDGES: u32 = 67_108_864;
@@ -12,13 +12,13 @@ pub const MAX_EDGES: u32 = 67_108_864;
 pub const MAX_VERTICES: u32 = 671_088_645;
 
 /// The most keys of a bucket.
-pub const MAX_BUCKET: u32 = 255;
+pub const MAX_BUCKET: u32 = 1_023;
 
 /// The least number of keys that a bucket has on average.
-pub const MIN_WIDTH: u8 = 64;
+pub const MIN_WIDTH: u16 = 64;
 
 /// The greatest number of keys that a bucket has on average.
-pub const MAX_WIDTH: u8 = 175;
+pub const MAX_WIDTH: u16 = 700;
 
 /// A number below `MAX_EDGES` has 26 bits, and a graph by BDZ with as many edges and the greatest ratio has `MAX_VERTICES` vertices.
 pub fn of_graphs()
