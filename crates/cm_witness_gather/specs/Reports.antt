@@ -1,4 +1,4 @@
--- The text of a certificate.
+-- The text of a certificate, and that of a report on an overfull bucket.
 use Rattle.std.specs.Prelude.{ℕ, List, [], ◌∷◌, ◌++◌, length, map, Option, None, Some, codes, decimal}
 use Rattle.cm_algo_names.specs.Names.{name_of}
 use Rattle.cm_algo_names.specs.declared.algorithm.Algorithm.{Algorithm}
@@ -38,3 +38,11 @@ report_text algorithm place seed edges equal = head_line algorithm place seed (l
 -- the report of the residual graph of keys under a seed
 abbrev pub core_report : Algorithm → Rule → List (ℕ × List ℕ) → ℕ → ℕ → List ℕ
 core_report algorithm r keys c seed = report_text algorithm None seed (edges_left r keys c seed) (pairs_left r keys c seed)
+
+-- the first line of a report on an overfull bucket: the seed of the split, the bucket and its number of keys
+abbrev pub overfull_head : ℕ → ℕ → ℕ → List ℕ
+overfull_head seed bucket count = joined (codes "overfull brz seed " ∷ decimal seed ∷ codes " bucket " ∷ decimal bucket ∷ codes " keys " ∷ decimal count ∷ codes "\n" ∷ [])
+
+-- the whole text: the first line, and those of the equal keys
+abbrev pub overfull_text : ℕ → ℕ → ℕ → List Pair → List ℕ
+overfull_text seed bucket count equal = overfull_head seed bucket count ++ joined (map pair_line equal)

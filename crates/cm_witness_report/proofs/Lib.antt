@@ -1,0 +1,11 @@
+pub mod Tests
+pub mod FieldLemmas
+pub mod PartLemmas
+pub mod HeadLemmas
+pub mod LineLemmas
+pub mod ReadLemmas
+pub mod SpelledLemmas
+pub mod BadLemmas
+pub mod LocalLemmas
+pub mod WindowLemmas
+pub mod LoopLemmas
