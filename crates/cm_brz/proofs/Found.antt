@@ -10,7 +10,6 @@ use Rattle.cm_brz.specs.BrzOf.{IsBrzOf, bucket_from, bucket_under}
 use Rattle.cm_brz.specs.Fails.{IsCoredBucket, IsOverfull}
 use Rattle.cm_brz.specs.Found as found
 use Rattle.cm_brz.specs.Found.{AllOverfull, bucket_at, brz_under, first_cored, first_overfull}
-use Rattle.cm_brz.specs.Reports.{overfull_text}
 use Rattle.cm_brz_func.specs.Splitting.{keys_of_bucket}
 use Rattle.cm_brz_split.specs.Split.{is_split, size_of_bucket, split_of}
 use Rattle.cm_brz_split.specs.SizesLaws.{find_first, find_none}
@@ -20,7 +19,7 @@ use Rattle.cm_peel.specs.CoreLaws.{left_after-zero}
 use Rattle.cm_spec.specs.Bdz.{bdz_rule}
 use Rattle.cm_spec.specs.Built.{first_seed, is_peeled}
 use Rattle.cm_witness_gather.specs.Pairs.{pairs}
-use Rattle.cm_witness_gather.specs.Reports.{report_text}
+use Rattle.cm_witness_gather.specs.Reports.{overfull_text, report_text}
 use Rattle.cm_witness_gather.specs.declared.certificate.Certificate.{Certificate}
 use Rattle.cm_witness_gather.specs.declared.certificate.Pair.{Pair}
 

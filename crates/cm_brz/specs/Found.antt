@@ -3,7 +3,6 @@ use Rattle.std.specs.Prelude.{ℕ, ◌<◌, nat_lt, List, find, is_none, length,
 use Rattle.std.specs.List.{range_with_len}
 use Rattle.cm_algo_names.specs.declared.algorithm.Algorithm.TheVariants as algorithm
 use Rattle.cm_brz.specs.BrzOf.{bucket_from}
-use Rattle.cm_brz.specs.Reports.{overfull_text}
 use Rattle.cm_brz_func.specs.Splitting.{keys_of_bucket}
 use Rattle.cm_brz_split.specs.Split.{size_of_bucket}
 use Rattle.cm_brz_func.specs.Functions.{Brz, Bucket, bucket_count, no_bucket}
@@ -11,7 +10,7 @@ use Rattle.cm_spec.specs.declared.limits.TheConstants.{MAX_BUCKET}
 use Rattle.cm_spec.specs.Bdz.{bdz_rule}
 use Rattle.cm_witness_gather.specs.Cores.{edges_left, pairs_left}
 use Rattle.cm_witness_gather.specs.Pairs.{pairs}
-use Rattle.cm_witness_gather.specs.Reports.{report_text}
+use Rattle.cm_witness_gather.specs.Reports.{overfull_text, report_text}
 
 -- the lowest bucket, of k, that has more keys under a seed than one may have
 abbrev pub first_overfull : List (ℕ × List ℕ) → ℕ → ℕ → Option ℕ

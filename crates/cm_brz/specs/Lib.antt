@@ -2,4 +2,3 @@ pub mod AnyKeys
 pub mod BrzOf
 pub mod Fails
 pub mod Found
-pub mod Reports

@@ -1,5 +1,5 @@
 //! From the store to the functions of the buckets.
-ghost use Rattle.std.specs.Prelude.{◌≡◌, ◌⊎◌, ℕ, ◌+◌, ◌*◌, ◌<◌, ◌≤◌, List, [], Some, length, sum, count_by, IfOk, IfErr, IsTrue, OnOk, true};
+ghost use Rattle.std.specs.Prelude.{◌≡◌, ◌⊎◌, ℕ, ◌+◌, ◌*◌, ◌<◌, ◌≤◌, List, [], Some, length, sum, count_by, IfOk, IfErr, IsTrue, OnOk, slice_index, true};
 ghost use Rattle.cm_algo_names.specs.declared.algorithm.Algorithm.TheVariants as algorithm;
 ghost use Rattle.cm_brz.specs.AnyKeys.{IsDamageIn};
 ghost use Rattle.cm_brz.specs.BrzOf.{AreBuilt, PushesBucket, bucket_from};
@@ -162,7 +162,7 @@ fn push_bucket(parts: &mut BrzParts, size: u32, seed: u32, cells: Crumbs) -> Res
     ensures pushed { OnOk result (parts.new ≡ with_bucket parts.old (record { size = size; seed = seed; cells = ⟦<Crumbs as Cells>⟧.cells cells })) }
     ensures memory { IfErr result (λ e. e ≡ brz_fault.Memory) }
 {
-    match parts.push(size as u8, seed, cells) {
+    match parts.push(size as u16, seed, cells) {
         Ok(()) => Ok(()),
         Err(PartsFault::Memory) => Err(BrzFault::Memory),
         // It has as many cells that are not idle as keys, and the buckets have all keys that were counted.
@@ -217,7 +217,7 @@ pub(crate) fn build_buckets<B: Store, L: Ledger>(
     alloc: Global,
     store: &mut B,
     key: &mut KeyBuf,
-    sizes: &[u8],
+    sizes: &[u16],
     seeds: &[u32],
     parts: &mut BrzParts,
     steps: &mut Steps<L>,
@@ -229,6 +229,7 @@ pub(crate) fn build_buckets<B: Store, L: Ledger>(
     requires none { (j : ℕ) → (B.given store.old j ≡ 0) × (B.given_last store.old j ≡ 0) }
     requires new { parts.old.buckets ≡ [] }
     requires few { length sizes.now ≤ MAX_KEYS }
+    requires small { (j : ℕ) → j < length sizes.now → slice_index sizes.now j ≤ MAX_BUCKET }
     requires count { length sizes.now ≡ bucket_count parts.old.keys parts.old.width }
     requires all { sum sizes.now ≡ parts.old.keys }
     ensures same { OnOk result (parts.new ≡ record parts.old { buckets = parts.new.buckets }) }

@@ -37,7 +37,7 @@ pub fn brz<P: KeyPass, S: Spill, L: Ledger>(
     alloc: Global,
     keys: &mut P,
     c: u32,
-    b: u8,
+    b: u16,
     seeds: &[u32],
     buffer: u32,
     spill: S,

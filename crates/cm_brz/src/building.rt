@@ -19,7 +19,7 @@ use cm_algo_scheme::Divisor;
 use cm_algo_seeds::count_all;
 use cm_brz_func::{Brz, BrzParts, MAX_BUCKET};
 use cm_brz_split::{
-    BrzFault, Overfull, Split, Splitting, Store, choose_split, gather_equal, in_bytes, put_all,
+    BrzFault, Overfull, Split, Splitting, Store, choose_split, gather_equal, narrowed, put_all,
 };
 use cm_graph::Steps;
 use cm_io::{KeyBuf, KeyPass};
@@ -63,7 +63,7 @@ fn refuse_overfull<P: KeyPass>(
 }
 
 /// How many buckets `m` keys are split into, with `b` keys a bucket on average.
-fn bucket_total(m: u32, b: u8) -> u32
+fn bucket_total(m: u32, b: u16) -> u32
     requires many { (1 ≤ m) × (m ≤ MAX_KEYS) }
     requires some { 0 < b }
     ensures count { result ≡ bucket_count m b }
@@ -79,7 +79,7 @@ fn split_keys<P: KeyPass>(
     keys: &mut P,
     key: &mut KeyBuf,
     m: u32,
-    b: u8,
+    b: u16,
     seeds: &[u32],
 ) -> Result<Splitting, BrzFault>
     requires many { (1 ≤ m) × (m ≤ MAX_KEYS) }
@@ -91,6 +91,7 @@ fn split_keys<P: KeyPass>(
     ensures buckets { IfOk result (λ s. (s.split.buckets ≡ bucket_count m b) × (length s.sizes.items ≡ bucket_count m b)) }
     ensures seed { IfOk result (λ s. Contains seeds.now s.split.seed) }
     ensures all { IfOk result (λ s. sum s.sizes.items ≡ m) }
+    ensures small { IfOk result (λ s. (j : ℕ) → j < length s.sizes.items → slice_index s.sizes.items j ≤ MAX_BUCKET) }
     ensures sizes { IfOk result (λ s. ForSome (P.told keys.old) (λ told. AreSizes s.sizes.items told.keys s.split.buckets s.split.seed)) }
     ensures first { IfOk result (λ s. ForSome (P.told keys.old) (λ told. split_of told.keys (bucket_count (length told.keys) b) seeds.now ≡ Some s.split.seed)) }
     ensures fault { IfErr result (λ e. ForSome (P.told keys.old) (λ told. (c : ℕ) → FailsBrz told c b seeds.now e)) }
@@ -112,7 +113,7 @@ fn split_keys<P: KeyPass>(
     match choose_split(keys, key, m, buckets, seeds, &mut sizes)? {
         Ok(split) => Ok(Splitting {
             split,
-            sizes: in_bytes(alloc, &sizes)?,
+            sizes: narrowed(alloc, &sizes)?,
         }),
         Err(over) => {
             let split = Split {
@@ -133,7 +134,7 @@ pub(crate) fn brz_over<P: KeyPass, B: Store, L: Ledger>(
     keys: &mut P,
     store: &mut B,
     c: u32,
-    b: u8,
+    b: u16,
     seeds: &[u32],
     steps: &mut Steps<L>,
 ) -> Result<Brz, BrzFault>
@@ -180,7 +181,7 @@ pub(crate) fn brz_over<P: KeyPass, B: Store, L: Ledger>(
     put_all(alloc, keys, &mut key, m, &splitting, store)?;
     let mut parts = BrzParts::new(alloc, m, c, b, splitting.split.seed);
     parts.expect_all();
-    let sizes: &[u8] = &splitting.sizes;
+    let sizes: &[u16] = &splitting.sizes;
     build_buckets(alloc, store, &mut key, sizes, seeds, &mut parts, steps)?;
     Ok(parts.finish())
 }

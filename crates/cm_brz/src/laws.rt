@@ -6,10 +6,9 @@ ghost use Rattle.cm_brz_func.specs.Functions.{Brz, brz_answer, bucket_count, key
 ghost use Rattle.cm_brz.specs.BrzOf.{IsBrzOf};
 ghost use Rattle.cm_brz.specs.Fails.{IsCoredBucket, IsOverfull};
 ghost use Rattle.cm_brz.specs.Found.{AllOverfull, brz_under, bucket_report, first_cored, first_overfull, overfull_report};
-ghost use Rattle.cm_brz.specs.Reports.{overfull_text};
 ghost use Rattle.cm_brz_split.specs.Split.{split_of};
 ghost use Rattle.cm_spec.specs.Rule.{IsRatio};
-ghost use Rattle.cm_witness_gather.specs.Reports.{report_text};
+ghost use Rattle.cm_witness_gather.specs.Reports.{overfull_text, report_text};
 ghost use Rattle.cm_witness_gather.specs.declared.certificate.Certificate.{Certificate};
 ghost use Rattle.cm_witness_gather.specs.declared.certificate.Pair.{Pair};
 ghost use Rattle.cm_spec.specs.declared.limits.TheConstants.{MAX_EDGES};

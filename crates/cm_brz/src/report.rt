@@ -1,7 +1,7 @@
 //! The report on an overfull bucket as text.
 ghost use Rattle.cm_io.specs.Causes.{HasCause};
 ghost use Rattle.cm_io.specs.Writing.{Writes};
-ghost use Rattle.cm_brz.specs.Reports.{overfull_head, overfull_text};
+ghost use Rattle.cm_witness_gather.specs.Reports.{overfull_head, overfull_text};
 
 use arrayvec::ArrayVec;
 use cm_io::{Failed, Sink};

@@ -1,10 +1,13 @@
 -- How many cells a bucket has.
 use Rattle.std.proofs.Common.{◌≡◌, ◌≢◌, ◌⊎◌, ℕ, ◌+◌, ◌*◌, ◌/◌, ◌%◌, ◌<◌, ◌≤◌, List, length, inl, inr, ap, arith, cond, eqb, eq-eqb, Bool, false, true}
-use Rattle.std.proofs.Math.Nat.{div-mul-le_self, mul-le-mul_right}
+use Rattle.std.proofs.Math.Nat.{div-le_of_le-mul, div-mul-le_self, mul-le-mul_right}
 use Rattle.std.proofs.lemmas.Bool.{cases_eq, ne_eqb}
+use Rattle.cm_bits.specs.declared.TheConstants.{MAX_CELLS}
 use Rattle.cm_spec.specs.Bdz.{bdz_size, made_odd, third_of}
+use Rattle.cm_spec.specs.Image.{packed_len}
 use Rattle.cm_spec.specs.Rule.{IsRatio}
-use Rattle.cm_brz_func.specs.Functions.{bucket_cells}
+use Rattle.cm_spec.specs.declared.limits.TheConstants.{MAX_KEYS, MIN_WIDTH}
+use Rattle.cm_brz_func.specs.Functions.{bucket_cells, bucket_count}
 
 -- a number made odd is the number or one more
 odd_near : (q : ℕ) → (q ≤ made_odd q) × (made_odd q ≤ q + 1)
@@ -32,8 +35,8 @@ third_most q = go (eqb (made_odd q) 1) where
   go true = omega arith
   go false = omega (arith, odd_near q)
 
-few_bucket_cells : (size c : ℕ) → IsRatio c → bucket_cells size c ≤ 10 * size + 11
-few_bucket_cells size c ratio = go (eqb size 0) where
+pub few_bdz_cells : (size c : ℕ) → IsRatio c → bdz_size size c ≤ 10 * size + 11
+few_bdz_cells size c ratio = omega (arith, share, whole, third_most q) where
   q : ℕ
   q = (c * size + 2999999) / 3000000
 
@@ -43,9 +46,11 @@ few_bucket_cells size c ratio = go (eqb size 0) where
   whole : q * 3000000 ≤ c * size + 2999999
   whole = div-mul-le_self (c * size + 2999999) 3000000
 
+few_bucket_cells : (size c : ℕ) → IsRatio c → bucket_cells size c ≤ 10 * size + 11
+few_bucket_cells size c ratio = go (eqb size 0) where
   go : (t : Bool) → cond {A = ℕ} t 0 (bdz_size size c) ≤ 10 * size + 11
   go true = omega arith
-  go false = omega (arith, share, whole, third_most q)
+  go false = few_bdz_cells size c ratio
 
 -- with the cells that fill up the last byte
 pub few_cells : (size c : ℕ) (cells : List ℕ) → IsRatio c → length cells ≡ bucket_cells size c → length cells + 3 ≤ 10 * size + 14
@@ -62,3 +67,13 @@ by_thirds size c = go (eqb size 0) where
   go : (t : Bool) → 3 * (cond {A = ℕ} t 0 (bdz_size size c) / 3) ≡ cond {A = ℕ} t 0 (bdz_size size c)
   go true = omega arith
   go false = omega arith
+
+-- ---- all buckets
+
+most_buckets : (m b : ℕ) → m ≤ MAX_KEYS → MIN_WIDTH ≤ b → bucket_count m b ≤ 1048577
+most_buckets m b few wide = div-le_of_le-mul b (omega (arith, few, wide))
+
+-- so a table has room for the cells of all of them, and may have no more cells than `MAX_CELLS`
+pub room_for : (m b held size count table next : ℕ) → m ≤ MAX_KEYS → MIN_WIDTH ≤ b → count < bucket_count m b → held + size ≤ m → table ≤ 10 * held + 14 * count → next + 3 ≤ 10 * size + 14
+    → 4 * packed_len 4 table + next ≤ MAX_CELLS
+room_for m b held size count table next few wide room within short cells = omega (arith, most_buckets m b few wide, few, room, within, short, cells)

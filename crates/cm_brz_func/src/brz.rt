@@ -56,7 +56,7 @@ impl Brz {
     }
 
     /// How many keys a bucket has on average.
-    pub fn b(&self) -> u8
+    pub fn b(&self) -> u16
         ensures width { result ≡ self.now.width }
         ensures within { (MIN_WIDTH ≤ result) × (result ≤ MAX_WIDTH) }
     {
@@ -80,7 +80,7 @@ impl Brz {
     }
 
     /// How many keys bucket `j` has, counted from 0.
-    pub fn size_of(&self, j: u32) -> u8
+    pub fn size_of(&self, j: u32) -> u16
         requires inside { j < length self.now.buckets }
         ensures size { result ≡ (slice_index_or self.now.buckets j no_bucket).size }
     {

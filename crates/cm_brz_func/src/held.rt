@@ -6,6 +6,7 @@ ghost use Rattle.cm_brz_func.specs.Kept.{IsSized, LiesIn, all_held, bucket_in, c
 ghost use Rattle.cm_brz_func.specs.Places.{ends_in};
 ghost use Rattle.cm_spec.specs.Bdz.{bdz_edge};
 ghost use Rattle.cm_spec.specs.Cells.{is_busy};
+ghost use Rattle.cm_spec.specs.declared.limits.TheConstants.{MAX_BUCKET};
 ghost use Rattle.cm_spec.specs.Lookup2.{words};
 ghost use Rattle.cm_spec.specs.Rule.{IsRatio};
 ghost use Rattle.cm_rank.specs.Ranks.{rank_of};
@@ -41,7 +42,7 @@ pub(crate) struct Held {
     /// A third of the number of its cells.
     pub(crate) third: u16,
     /// How many keys it has.
-    pub(crate) size: u8,
+    pub(crate) size: u16,
 }
 
 /// How many cells are not 3.
@@ -64,7 +65,8 @@ fn next_offset(kept: &[Kept], held: u32, j: usize) -> u32
 
 /// A third of the number of cells of a bucket of `size` keys.
 #[inline(always)]
-fn third_of(size: u8, c: u32) -> u16
+fn third_of(size: u16, c: u32) -> u16
+    requires small { size ≤ MAX_BUCKET }
     requires ratio { IsRatio c }
     ensures third { result ≡ bucket_cells size c / 3 }
 {
@@ -83,7 +85,7 @@ pub(crate) fn held_at(kept: &[Kept], held: u32, c: u32, j: u32) -> Held
     ensures held { result ≡ slice_index_or (all_held c held kept.now) j none_held }
 {
     let bucket = &kept[j as usize];
-    let size = (next_offset(kept, held, j as usize + 1) - bucket.offset) as u8;
+    let size = (next_offset(kept, held, j as usize + 1) - bucket.offset) as u16;
     Held {
         start: bucket.start,
         offset: bucket.offset,

@@ -4,7 +4,7 @@ ghost use Rattle.cm_bdz.specs.declared.bdz.PartsFault.{PartsFault};
 ghost use Rattle.cm_brz_func.specs.Functions.{IsBrz, answer_of_bucket, bucket_cells, bucket_count, keys_in, no_bucket};
 ghost use Rattle.cm_brz_func.specs.Places.{ends_in};
 ghost use Rattle.cm_brz_func.specs.Pushing.{Counts, Miscounts, with_bucket};
-ghost use Rattle.cm_spec.specs.declared.limits.TheConstants.{MAX_KEYS, MAX_WIDTH, MIN_WIDTH};
+ghost use Rattle.cm_spec.specs.declared.limits.TheConstants.{MAX_BUCKET, MAX_KEYS, MAX_WIDTH, MIN_WIDTH};
 ghost use Rattle.cm_spec.specs.Image.{packed_byte, packed_len};
 ghost use Rattle.cm_spec.specs.Lists.{list_of};
 ghost use Rattle.cm_spec.specs.Lookup2.{words};
@@ -24,7 +24,7 @@ pub struct BrzParts {
     m: u32,
     c: u32,
     split: u32,
-    b: u8,
+    b: u16,
     // How many buckets there are to be, to take remainders by.
     count: Divisor,
     // Whether room for all buckets is made with the first one.
@@ -71,7 +71,7 @@ fn is_off(held: u32, m: u32, is_last: bool) -> bool
 }
 
 /// How many buckets `m` keys are split into.
-fn count_of(m: u32, b: u8) -> u32
+fn count_of(m: u32, b: u16) -> u32
     requires keys { (1 ≤ m) × (m ≤ MAX_KEYS) }
     requires some { 0 < b }
     ensures count { result ≡ bucket_count m b }
@@ -83,7 +83,7 @@ fn count_of(m: u32, b: u8) -> u32
 impl BrzParts {
     /// No bucket yet of a function of `m` keys, from 1 to `MAX_KEYS`, with the ratio `c` in millionths, `b` keys a bucket on average,
     /// from `MIN_WIDTH` to `MAX_WIDTH`, and the seed of its split. It takes no memory.
-    pub fn new(alloc: Global, m: u32, c: u32, b: u8, split: u32) -> BrzParts
+    pub fn new(alloc: Global, m: u32, c: u32, b: u16, split: u32) -> BrzParts
         requires keys { (1 ≤ m) × (m ≤ MAX_KEYS) }
         requires ratio { IsRatio c }
         requires width { (MIN_WIDTH ≤ b) × (b ≤ MAX_WIDTH) }
@@ -111,7 +111,7 @@ impl BrzParts {
 
     /// Whether this can't be the next bucket: the number of its cells that are not 3 differs from its number of keys, the buckets then
     /// have more keys than the function, or this is the last one and they have fewer.
-    fn miscounts(&self, size: u8, cells: &Crumbs) -> bool
+    fn miscounts(&self, size: u16, cells: &Crumbs) -> bool
         ensures { IsTrue result ↔ Miscounts self.now (record { size = size; seed = 0; cells = ⟦<Crumbs as Cells>⟧.cells cells.now }) }
     {
         let is_last = self.kept.len() + 1 == self.count.value() as usize;
@@ -135,8 +135,9 @@ impl BrzParts {
 
     /// Appends the cells of the next bucket to the table, and keeps it. Fails only if memory runs out, and then changes nothing.
     #[tactic(auto, using(std::proofs::lemmas::Grind::common_steps, crate::proofs::HeldLemmas::length_all_held))]
-    fn keep(&mut self, size: u8, seed: u32, cells: &Crumbs) -> Result<(), AllocError>
+    fn keep(&mut self, size: u16, seed: u32, cells: &Crumbs) -> Result<(), AllocError>
         requires room { length self.old.buckets < bucket_count self.old.keys self.old.width }
+        requires small { size ≤ MAX_BUCKET }
         requires cells { length (⟦<Crumbs as Cells>⟧.cells cells.now) ≡ bucket_cells size self.old.ratio }
         requires seed { size ≡ 0 → seed ≡ 0 }
         requires counts { Counts self.old (record { size = size; seed = seed; cells = ⟦<Crumbs as Cells>⟧.cells cells.now }) }
@@ -159,11 +160,12 @@ impl BrzParts {
         Ok(())
     }
 
-    /// Adds the next bucket: its number of keys, the seed of their hash and the cells of their function by BDZ; seed 0 and no cells if
-    /// it has no key. Returns `BadCount` exactly if the number of cells that are not idle differs from that of the keys, if the buckets
-    /// then have more keys than the function, or if this is the last bucket and they have fewer. A failure changes nothing.
-    pub fn push(&mut self, size: u8, seed: u32, cells: Crumbs) -> Result<(), PartsFault>
+    /// Adds the next bucket: its number of keys, at most `MAX_BUCKET`, the seed of their hash and the cells of their function by BDZ; seed 0
+    /// and no cells if it has no key. Returns `BadCount` exactly if the number of cells that are not idle differs from that of the keys, if
+    /// the buckets then have more keys than the function, or if this is the last bucket and they have fewer. A failure changes nothing.
+    pub fn push(&mut self, size: u16, seed: u32, cells: Crumbs) -> Result<(), PartsFault>
         requires room { length self.old.buckets < bucket_count self.old.keys self.old.width }
+        requires small { size ≤ MAX_BUCKET }
         requires cells { length (⟦<Crumbs as Cells>⟧.cells cells) ≡ bucket_cells size self.old.ratio }
         requires seed { size ≡ 0 → seed ≡ 0 }
         ensures pushed { OnOk result (self.new ≡ with_bucket self.old (record { size = size; seed = seed; cells = ⟦<Crumbs as Cells>⟧.cells cells })) }
@@ -222,7 +224,7 @@ impl BrzParts {
     }
 
     /// How many keys a bucket has on average.
-    pub fn b(&self) -> u8
+    pub fn b(&self) -> u16
         ensures width { result ≡ self.now.width }
         ensures within { (MIN_WIDTH ≤ result) × (result ≤ MAX_WIDTH) }
     {
@@ -244,7 +246,7 @@ impl BrzParts {
     }
 
     /// How many keys bucket `j` has, counted from 0.
-    pub(crate) fn size_of(&self, j: u32) -> u8
+    pub(crate) fn size_of(&self, j: u32) -> u16
         requires inside { j < length self.now.buckets }
         ensures size { result ≡ (slice_index_or self.now.buckets j no_bucket).size }
     {

@@ -2,7 +2,7 @@
 ghost use Rattle.std.specs.Prelude.{◌≡◌, ◌≢◌, ◌⊎◌, ℕ, ◌+◌, ◌*◌, ◌<◌, ◌≤◌, List, [], length, slice_index, IfOk, IfErr, IfSome, IfNone, IsTrue, OnOk, None, Some, Ok, Err, true, false};
 ghost use Rattle.std.specs.Option.{ForSome};
 ghost use Rattle.cm_io.specs.Passes.{Ends};
-ghost use Rattle.cm_spec.specs.declared.limits.TheConstants.{MAX_KEYS};
+ghost use Rattle.cm_spec.specs.declared.limits.TheConstants.{MAX_BUCKET, MAX_KEYS};
 ghost use Rattle.cm_io.specs.PassFaults.{IsOtherCount};
 ghost use Rattle.cm_brz_split.specs.Faults.{FailsPassing, HasFailure, HasKeysCause, HasPutFailure, HasSpillCause, IfChanged, IsOfPassing};
 ghost use Rattle.cm_brz_split.specs.Given.{GaveNext, GaveOther, GaveSizes};
@@ -69,7 +69,7 @@ fn put_next<P: KeyPass, B: Store>(
 }
 
 /// The first bucket whose number of keys put differs from the number counted.
-fn find_other(sizes: &[u8], put: &[u8]) -> Option<usize>
+fn find_other(sizes: &[u16], put: &[u16]) -> Option<usize>
     requires long { length put.now ≡ length sizes.now }
     ensures some { IfSome result (λ j. (j < length sizes.now) × (slice_index sizes.now j ≢ slice_index put.now j)) }
     ensures lowest { IfSome result (λ j. (i : ℕ) → i < j → slice_index put.now i ≡ slice_index sizes.now i) }
@@ -84,18 +84,19 @@ fn find_other(sizes: &[u8], put: &[u8]) -> Option<usize>
 }
 
 /// Puts all keys, which are to be `m`, into the store in one pass, each with its bucket and its line, and counts those of each bucket
-/// in a byte: none had more keys than a bucket may have when they were counted. The buffer is scratch space.
+/// in two bytes: none had more keys than a bucket may have when they were counted. The buffer is scratch space.
 fn put_each<P: KeyPass, B: Store>(
     keys: &mut P,
     key: &mut KeyBuf,
     m: u32,
     split: &Split,
-    sizes: &[u8],
-    put: &mut [u8],
+    sizes: &[u16],
+    put: &mut [u16],
     store: &mut B,
 ) -> Result<(), BrzFault>
     requires few { m ≤ MAX_KEYS }
     requires long { (length sizes.now ≡ split.now.buckets) × (length put.old ≡ split.now.buckets) }
+    requires small { (j : ℕ) → j < length sizes.now → slice_index sizes.now j ≤ MAX_BUCKET }
     requires store { IsTrue (B.usable store.old) }
     requires open { B.sealed store.old ≡ false }
     requires new { B.put_last store.old ≡ 0 }
@@ -124,10 +125,10 @@ fn put_each<P: KeyPass, B: Store>(
         match put_next(keys, key, split, store)? {
             Some(bucket) => {
                 let j = bucket as usize;
-                if put[j] as u32 == MAX_BUCKET {
+                if put[j] as u32 >= MAX_BUCKET {
                     return Err(BrzFault::Changed {
                         first: sizes[j] as u32,
-                        now: MAX_BUCKET + 1,
+                        now: put[j] as u32 + 1,
                     });
                 }
                 put[j] += 1;
@@ -156,6 +157,7 @@ pub fn put_all<P: KeyPass, B: Store>(
 ) -> Result<(), BrzFault>
     requires few { m ≤ MAX_KEYS }
     requires long { length splitting.now.sizes.items ≡ splitting.now.split.buckets }
+    requires small { (j : ℕ) → j < length splitting.now.sizes.items → slice_index splitting.now.sizes.items j ≤ MAX_BUCKET }
     requires store { IsTrue (B.usable store.old) }
     requires open { B.sealed store.old ≡ false }
     requires new { B.put_last store.old ≡ 0 }
@@ -179,9 +181,9 @@ pub fn put_all<P: KeyPass, B: Store>(
     ensures failed { IfErr result (HasFailure (P.failure keys.new)) }
     ensures form { IfErr result IsOfPassing }
 {
-    let sizes: &[u8] = &splitting.sizes;
+    let sizes: &[u16] = &splitting.sizes;
     let mut table = vec![in alloc; 0; sizes.len()]?;
-    let put: &mut [u8] = &mut table;
+    let put: &mut [u16] = &mut table;
     put_each(keys, key, m, &splitting.split, sizes, put, store)?;
     if let Some(j) = find_other(sizes, put) {
         return Err(BrzFault::Changed {

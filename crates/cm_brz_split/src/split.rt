@@ -34,11 +34,11 @@ impl Split {
     }
 }
 
-/// How keys are split: the buckets, and how many keys each has, which a byte holds.
+/// How keys are split: the buckets, and how many keys each has, which two bytes hold.
 #[derive(Drop)]
 pub struct Splitting {
     pub split: Split,
-    pub sizes: Vec<u8>,
+    pub sizes: Vec<u16>,
 }
 
 /// The bucket of the next key, or none at the end. A buffered key isn't copied. The buffer is scratch space.
@@ -273,14 +273,14 @@ pub fn choose_split<P: KeyPass>(
     Ok(Err(first))
 }
 
-/// These numbers of keys, in a byte each: none is more than a bucket may have. Fails only if memory runs out.
-pub fn in_bytes(alloc: Global, sizes: &[u32]) -> Result<Vec<u8>, AllocError>
+/// These numbers of keys, in two bytes each: none is more than a bucket may have. Fails only if memory runs out.
+pub fn narrowed(alloc: Global, sizes: &[u32]) -> Result<Vec<u16>, AllocError>
     requires small { (j : ℕ) → j < length sizes.now → slice_index sizes.now j ≤ MAX_BUCKET }
     ensures same { IfOk result (λ v. v.items ≡ sizes.now) }
 {
-    let mut bytes = Vec::with_capacity(alloc, sizes.len())?;
+    let mut narrow = Vec::with_capacity(alloc, sizes.len())?;
     for size in sizes {
-        bytes.push_reserved(*size as u8);
+        narrow.push_reserved(*size as u16);
     }
-    Ok(bytes)
+    Ok(narrow)
 }

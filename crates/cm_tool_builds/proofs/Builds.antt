@@ -10,7 +10,6 @@ use Rattle.cm_brz.specs.BrzOf.{IsBrzOf}
 use Rattle.cm_brz.specs.Fails.{FailsBrz, HasBrzForm, IsCoredBucket, IsDamage, IsOverfull}
 use Rattle.cm_brz_split.specs.Faults.{HasKeysCause, HasSpillCause}
 use Rattle.cm_brz.specs.Found.{AllOverfull, brz_under, bucket_report, first_cored, overfull_report}
-use Rattle.cm_brz.specs.Reports.{overfull_text}
 use Rattle.cm_brz_split.specs.Split.{split_of}
 use Rattle.cm_brz_split.specs.declared.fault.BrzFault.{BrzFault}
 use Rattle.cm_brz_split.specs.declared.fault.BrzFault.TheVariants as brz_fault
@@ -36,7 +35,7 @@ use Rattle.cm_tool_builds.specs.Seeds.{IsCoredUnder, IsMadeBy, NoneWorks, TakesF
 use Rattle.cm_tool_builds.specs.Results as results
 use Rattle.cm_tool_builds.specs.Results.{FailureReport, filled, seeded, split_into, result_by}
 use Rattle.cm_tool_builds.specs.declared.fault.FuncFault.{FuncFault}
-use Rattle.cm_witness_gather.specs.Reports.{report_text}
+use Rattle.cm_witness_gather.specs.Reports.{overfull_text, report_text}
 use Rattle.cm_witness_gather.specs.declared.certificate.Certificate.{Certificate}
 use Rattle.cm_witness_gather.specs.declared.certificate.Pair.{Pair}
 

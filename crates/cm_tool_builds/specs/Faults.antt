@@ -3,7 +3,6 @@ use Rattle.std.specs.Prelude.{◌≡◌, ◌≢◌, ◌<◌, ◌≤◌, ◌+◌,
 use Rattle.cm_io.specs.Passes.{IsToldFault}
 use Rattle.cm_algo_names.specs.declared.algorithm.Algorithm.{Algorithm}
 use Rattle.cm_algo_names.specs.declared.algorithm.Algorithm.TheVariants.{Brz}
-use Rattle.cm_brz.specs.Reports.{overfull_text}
 use Rattle.cm_brz_split.specs.declared.fault.BrzFault.{BrzFault}
 use Rattle.cm_brz_split.specs.declared.fault.BrzFault.TheVariants as brz_fault
 use Rattle.cm_io.specs.Causes.{Rose}
@@ -16,7 +15,7 @@ use Rattle.cm_tool_builds.specs.Seeds.{NoneWorks}
 use Rattle.cm_tool_builds.specs.Results.{FailureReport, result_by}
 use Rattle.cm_tool_builds.specs.declared.fault.FuncFault.{FuncFault}
 use Rattle.cm_tool_builds.specs.declared.fault.FuncFault.TheVariants.{Memory, NoKeys, Cored, Overfull, Key, Changed, Spill, SpillDamaged}
-use Rattle.cm_witness_gather.specs.Reports.{report_text}
+use Rattle.cm_witness_gather.specs.Reports.{overfull_text, report_text}
 use Rattle.cm_witness_gather.specs.declared.certificate.Certificate.{Certificate}
 use Rattle.cm_witness_gather.specs.declared.certificate.InBucket.{InBucket}
 use Rattle.cm_witness_gather.specs.declared.certificate.Pair.{Pair}

@@ -154,7 +154,7 @@ fn func_by<P: KeyPass, D: Disk, L: Ledger>(
         }
         Algorithm::Bdz => {
             let built = build_by::<_, P, 3, L>(alloc, &BdzScheme {}, keys, plan.c, seeds, blank)?;
-            match Bdz::from_built(alloc, built, plan.b) {
+            match Bdz::from_built(alloc, built, plan.b as u8) {
                 Ok(function) => Ok(Func::Bdz(function)),
                 Err(PartsFault::Memory) => Err(FuncFault::Memory),
                 // A build has as many cells that are not idle as there are keys.

@@ -11,7 +11,7 @@ pub struct Plan {
     pub c: u32,
     /// By BDZ the rank of every `2^b`-th cell is kept, with b from 3 to 10; by BRZ a bucket has b keys on average, from `MIN_WIDTH` to
     /// `MAX_WIDTH`. The other algorithms don't use it.
-    pub b: u8,
+    pub b: u16,
     /// By BRZ: how many bytes the buffer before the spill has, from `MIN_BYTES` to `MAX_BYTES`.
     pub buffer: u32,
 }

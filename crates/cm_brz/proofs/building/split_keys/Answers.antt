@@ -12,7 +12,7 @@ pub returns-in-Ok-clause-buckets : goal.returns-in-Ok-clause-buckets
 returns-in-Ok-clause-buckets g c =
     let split = rw c.in-Ok.is at c.in_ok-split.ensures.split in (
       split.0 ∙ (c.new-buckets.ensures.value ∙ c.bucket_total-total.ensures.count),
-      omega (arith, ap length c.in_ok-in_bytes-in-Ok.ensures.same, ap length c.deref.ensures.value, length-take {A = ℕ}, length-append {A = ℕ}, length-drop {A = ℕ}, c.deref_mut.ensures.len, c.choose_split.auto.sizes, c.in_ok-sizes.ensures.len, c.bucket_total-total.ensures.count),
+      omega (arith, ap length c.in_ok-narrowed-in-Ok.ensures.same, ap length c.deref.ensures.value, length-take {A = ℕ}, length-append {A = ℕ}, length-drop {A = ℕ}, c.deref_mut.ensures.len, c.choose_split.auto.sizes, c.in_ok-sizes.ensures.len, c.bucket_total-total.ensures.count),
     )
 
 pub returns-in-Ok-clause-first : goal.returns-in-Ok-clause-first

@@ -1,8 +1,7 @@
 use Rattle.std.proofs.Common.{map}
 use Rattle.cm_io.specs.Writing.{joined}
 use Rattle.cm_io.specs.WritingLaws.{front_of_first, writes_front, writes_then}
-use Rattle.cm_witness_gather.specs.Reports.{pair_line}
-use Rattle.cm_brz.specs.Reports.{overfull_head}
+use Rattle.cm_witness_gather.specs.Reports.{overfull_head, pair_line}
 use Rattle.cm_brz.proofs.report.write_overfull.Goals as goal
 
 pub returns-in_err-write_head-clause-text : goal.returns-in_err-write_head-clause-text

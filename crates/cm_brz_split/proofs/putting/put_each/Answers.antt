@@ -40,14 +40,14 @@ loop-count-preserved g c =
           (λ records held. rw c.in-Some.is at (c.in_ok-bucket.ensures.puts records held)) low refl;
     }
 
-pub returns-then-put-j-eq-MAX_BUCKET-clause-fault : goal.returns-then-put-j-eq-MAX_BUCKET-clause-fault
-returns-then-put-j-eq-MAX_BUCKET-clause-fault g c = λ told is.
+pub returns-then-put-j-ge-MAX_BUCKET-clause-fault : goal.returns-then-put-j-ge-MAX_BUCKET-clause-fault
+returns-then-put-j-ge-MAX_BUCKET-clause-fault g c = λ told is.
     let before = c.loop-count.invariant in
     let below = rw c.in-Some.is at c.in_ok-bucket.ensures.below in
     let gives = rw c.in-Some.is at c.in_ok-bucket.ensures.gives in
     let given = gives told (before.same ∙ is) in
     let less = counted_less c.loop-count.put given.0 _ _ told.keys c.args.split.now.buckets c.args.split.now.seed c.in-Some.bucket (before.counts told is) given.1 given.2 below in
-    omega (arith, c.type_inv.sizes c.in-Some.bucket, c.requires.sizes told is c.in-Some.bucket below, less, c.if-put-j-eq-MAX_BUCKET.true)
+    omega (arith, c.requires.small c.in-Some.bucket (omega (arith, below, c.requires.long.0)), c.requires.sizes told is c.in-Some.bucket below, less, c.if-put-j-ge-MAX_BUCKET.true)
 
 pub returns-clause-sizes : goal.returns-clause-sizes
 returns-clause-sizes g c = λ told is.
