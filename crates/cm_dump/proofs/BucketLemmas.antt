@@ -8,30 +8,32 @@ use Rattle.std.proofs.lemmas.List.{take_more, take-append-drop}
 use Rattle.cm_brz_func.specs.Functions.{Bucket, no_bucket}
 use Rattle.cm_dump.specs.Dumps.{bucket_image, buckets_image, packed_image}
 use Rattle.cm_dump.specs.Spelling.{bucket_len}
-use Rattle.cm_dump.specs.Forms.{version_1}
+use Rattle.cm_dump.specs.Forms.{Form}
 use Rattle.cm_dump.proofs.DumpLemmas.{length-packed_image}
+use Rattle.cm_dump.proofs.FormLemmas.{IsForm}
 
-pub length-bucket_image : (b : Bucket) → length (bucket_image version_1 b) ≡ bucket_len version_1 b
+pub length-bucket_image : (v : Form) → IsForm v → (b : Bucket) → length (bucket_image v b) ≡ bucket_len v b
 unfolding bucket_image
-length-bucket_image b = omega (arith, length-append (to_le_bytes w32 b.seed) (packed_image 4 4 b.cells), length-packed_image 4 4 b.cells)
+length-bucket_image v known b =
+    omega (arith, length-append (to_le_bytes v.size b.size) (to_le_bytes w32 b.seed ++ packed_image 4 4 b.cells), known.size.long b.size, length-append (to_le_bytes w32 b.seed) (packed_image 4 4 b.cells), length-packed_image 4 4 b.cells)
 
 -- the first buckets and one more
-pub buckets_more : (bs : List Bucket) (j : ℕ) → j < length bs → buckets_image version_1 (take j bs) ++ bucket_image version_1 (slice_index_or bs j no_bucket) ≡ buckets_image version_1 (take (j + 1) bs)
+pub buckets_more : (v : Form) (bs : List Bucket) (j : ℕ) → j < length bs → buckets_image v (take j bs) ++ bucket_image v (slice_index_or bs j no_bucket) ≡ buckets_image v (take (j + 1) bs)
 unfolding buckets_image
-buckets_more bs j inside =
+buckets_more v bs j inside =
     let b : Bucket = slice_index_or bs j no_bucket in
-    ap (λ (l : List ℕ). flat_map (bucket_image version_1) (take j bs) ++ l) (sym (append-nil (bucket_image version_1 b))) ∙ (sym (flat_map-append (bucket_image version_1) (take j bs) (b ∷ [])) ∙ ap (flat_map (bucket_image version_1)) (sym (take_more bs j no_bucket inside)))
+    ap (λ (l : List ℕ). flat_map (bucket_image v) (take j bs) ++ l) (sym (append-nil (bucket_image v b))) ∙ (sym (flat_map-append (bucket_image v) (take j bs) (b ∷ [])) ∙ ap (flat_map (bucket_image v)) (sym (take_more bs j no_bucket inside)))
 
 -- the first buckets, one more and the rest
-pub buckets_whole : (bs : List Bucket) (j : ℕ) → j < length bs → buckets_image version_1 (take j bs) ++ (bucket_image version_1 (slice_index_or bs j no_bucket) ++ buckets_image version_1 (drop (j + 1) bs)) ≡ buckets_image version_1 bs
+pub buckets_whole : (v : Form) (bs : List Bucket) (j : ℕ) → j < length bs → buckets_image v (take j bs) ++ (bucket_image v (slice_index_or bs j no_bucket) ++ buckets_image v (drop (j + 1) bs)) ≡ buckets_image v bs
 unfolding buckets_image
-buckets_whole bs j inside =
-    let f : List Bucket → List ℕ = flat_map (bucket_image version_1) in
+buckets_whole v bs j inside =
+    let f : List Bucket → List ℕ = flat_map (bucket_image v) in
     let b : Bucket = slice_index_or bs j no_bucket in
-    sym (append_assoc (f (take j bs)) (bucket_image version_1 b) (f (drop (j + 1) bs)))
-    ∙ (ap (λ (l : List ℕ). l ++ f (drop (j + 1) bs)) (buckets_more bs j inside)
-    ∙ (sym (flat_map-append (bucket_image version_1) (take (j + 1) bs) (drop (j + 1) bs)) ∙ ap f (take-append-drop (j + 1) bs)))
+    sym (append_assoc (f (take j bs)) (bucket_image v b) (f (drop (j + 1) bs)))
+    ∙ (ap (λ (l : List ℕ). l ++ f (drop (j + 1) bs)) (buckets_more v bs j inside)
+    ∙ (sym (flat_map-append (bucket_image v) (take (j + 1) bs) (drop (j + 1) bs)) ∙ ap f (take-append-drop (j + 1) bs)))
 
-pub length-buckets_more : (bs : List Bucket) (j : ℕ) → j < length bs → length (buckets_image version_1 (take (j + 1) bs)) ≡ length (buckets_image version_1 (take j bs)) + bucket_len version_1 (slice_index_or bs j no_bucket)
-length-buckets_more bs j inside =
-    ap length (sym (buckets_more bs j inside)) ∙ (length-append (buckets_image version_1 (take j bs)) (bucket_image version_1 (slice_index_or bs j no_bucket)) ∙ ap (λ (n : ℕ). length (buckets_image version_1 (take j bs)) + n) (length-bucket_image (slice_index_or bs j no_bucket)))
+pub length-buckets_more : (v : Form) → IsForm v → (bs : List Bucket) (j : ℕ) → j < length bs → length (buckets_image v (take (j + 1) bs)) ≡ length (buckets_image v (take j bs)) + bucket_len v (slice_index_or bs j no_bucket)
+length-buckets_more v known bs j inside =
+    ap length (sym (buckets_more v bs j inside)) ∙ (length-append (buckets_image v (take j bs)) (bucket_image v (slice_index_or bs j no_bucket)) ∙ ap (λ (n : ℕ). length (buckets_image v (take j bs)) + n) (length-bucket_image v known (slice_index_or bs j no_bucket)))

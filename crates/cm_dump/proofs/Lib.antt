@@ -1,4 +1,5 @@
 pub mod FormLemmas
+pub mod VersionLemmas
 pub mod CellLemmas
 pub mod RankLemmas
 pub mod BodyLemmas

@@ -1,7 +1,7 @@
 -- The buckets of bytes that spell a function by BRZ.
-use Rattle.std.proofs.Common.{◌≡◌, ◌∙◌, ℕ, zero, eqb, ◌-◌, ◌+◌, ◌/◌, ◌%◌, ◌<◌, ◌≤◌, ◌^◌, ◌⊎◌, suc, List, [], ◌∷◌, ◌++◌, append_assoc, length, drop, ap, sym, subst, arith, refl, nat_lt, Bool, true, false, if◌then◌else◌, Result, Ok, Err, w32, inl, inr, append-nil, lit<}
+use Rattle.std.proofs.Common.{◌≡◌, ◌∙◌, ℕ, zero, eqb, ◌-◌, ◌+◌, ◌/◌, ◌<◌, ◌≤◌, ◌^◌, ◌⊎◌, suc, List, [], ◌∷◌, ◌++◌, append_assoc, length, drop, ap, sym, subst, arith, refl, nat_lt, Bool, true, false, if◌then◌else◌, Result, Ok, Err, w32, inl, inr, append-nil, lit<}
 use Rattle.std.specs.Prelude.{count_by}
-use Rattle.std.specs.Int.{to_le_bytes, w8}
+use Rattle.std.specs.Int.{byte_len, to_le_bytes}
 use Rattle.std.specs.List.{All}
 use Rattle.std.proofs.lemmas.List.Elements.{All-cons, All-nil}
 use Rattle.std.proofs.Math.ListN.{drop_of_length-le}
@@ -27,27 +27,28 @@ use Rattle.cm_dump.specs.declared.front.Algorithm.TheVariants as algorithm
 use Rattle.cm_dump.specs.declared.front.Header.{Header}
 use Rattle.cm_func.specs.declared.function.Func.TheVariants as func
 use Rattle.cm_dump.specs.Spelling.{is_off, most_seed, size_at, crumbs_at, bucket_at, bucket_len, rest_at, brz_at, no_buckets}
-use Rattle.cm_dump.specs.Forms.{version_1}
-use Rattle.cm_dump.proofs.ReadBackItems.{ReadsFunction, ReadsHeader, Small, Stands, byte_read, end_read, image_back, number_read, packed_read}
+use Rattle.cm_dump.specs.Forms.{Form}
+use Rattle.cm_dump.proofs.FormLemmas.{IsForm, of_four}
+use Rattle.cm_dump.proofs.ReadBackItems.{ReadsFunction, ReadsHeader, Small, Stands, end_read, field_read, image_back, packed_read}
 
-record ReadsSize (bytes : List ℕ) (at : ℕ) (f : Brz) (left size : ℕ) : Type 0 where
-  pub there : Stands bytes at 1 (size ∷ [])
-  pub few : size ≤ MAX_BUCKET
+record ReadsSize (v : Form) (bytes : List ℕ) (at : ℕ) (f : Brz) (left size : ℕ) : Type 0 where
+  pub there : Stands bytes at (byte_len v.size) (to_le_bytes v.size size)
+  pub few : size ≤ v.most_size
   pub fits : is_off f.keys (keys_in f.buckets + size) left ≡ false
 
 unless_off : (t : Bool) (e : LoadFault) (x y : ℕ) → (if t then (let r : Result ℕ LoadFault = Err e in r) else Ok x) ≡ Ok y → (t ≡ false) × (x ≡ y)
 unless_off true e x y is = absurd (ok_err y e (sym is))
 unless_off false e x y is = (refl, ok_same is)
 
-size_read : (bytes : List ℕ) (at : ℕ) (f : Brz) (left size : ℕ) → size_at version_1 bytes at f left ≡ Ok size → ReadsSize bytes at f left size
+size_read : (v : Form) → IsForm v → (bytes : List ℕ) (at : ℕ) (f : Brz) (left size : ℕ) → Small bytes → size_at v bytes at f left ≡ Ok size → ReadsSize v bytes at f left size
 unfolding size_at
-size_read bytes at f left size is =
-    let s = step (field_at w8 bytes at 0 MAX_BUCKET) _ size is in
-    let read = byte_read bytes at 0 MAX_BUCKET s.value s.was in
+size_read v known bytes at f left size small is =
+    let s = step (field_at v.size bytes at 0 v.most_size) _ size is in
+    let read = field_read v.size known.size bytes at 0 v.most_size s.value small s.was in
     let test = unless_off (is_off f.keys (keys_in f.buckets + s.value) left) (faults.BadCount at) s.value size s.next in
     record {
-      there = subst (λ (x : ℕ). Stands bytes at 1 (x ∷ [])) test.1 read.there;
-      few = subst (λ (x : ℕ). x ≤ MAX_BUCKET) test.1 read.below;
+      there = subst (λ (x : ℕ). Stands bytes at (byte_len v.size) (to_le_bytes v.size x)) test.1 read.there;
+      few = subst (λ (x : ℕ). x ≤ v.most_size) test.1 read.below;
       fits = subst (λ (x : ℕ). is_off f.keys (keys_in f.buckets + x) left ≡ false) test.1 test.0;
     }
 
@@ -78,9 +79,10 @@ none_seeded size seed within none =
     let e : seed ≤ most_seed 0 = subst (λ (k : ℕ). seed ≤ most_seed k) none within in
     omega (arith, e)
 
-record ReadsBucket (bytes : List ℕ) (at : ℕ) (f : Brz) (left : ℕ) (b : Bucket) : Type 0 where
+record ReadsBucket (v : Form) (bytes : List ℕ) (at : ℕ) (f : Brz) (left : ℕ) (b : Bucket) : Type 0 where
   pub valid : IsBucket f.ratio b
-  pub cut : drop at bytes ≡ bucket_image version_1 b ++ drop (at + bucket_len version_1 b) bytes
+  pub few : b.size ≤ v.most_size
+  pub cut : drop at bytes ≡ bucket_image v b ++ drop (at + bucket_len v b) bytes
   pub fits : is_off f.keys (keys_in f.buckets + b.size) left ≡ false
 
 most_fits : (size seed : ℕ) → seed ≤ most_seed size → seed < 2 ^ 32
@@ -89,38 +91,41 @@ most_fits size seed within = go (eqb size 0) within where
   go true le = omega (arith, le)
   go false le = omega (arith, le)
 
-bucket_read : (bytes : List ℕ) (at : ℕ) (f : Brz) (left : ℕ) (b : Bucket) → Small bytes → bucket_at version_1 bytes at f left ≡ Ok b → ReadsBucket bytes at f left b
+bucket_read : (v : Form) → IsForm v → (bytes : List ℕ) (at : ℕ) (f : Brz) (left : ℕ) (b : Bucket) → Small bytes → bucket_at v bytes at f left ≡ Ok b → ReadsBucket v bytes at f left b
 unfolding bucket_at bucket_image
-bucket_read bytes at f left b small is =
-    let s = step (size_at version_1 bytes at f left) _ b is in
-    let t = step (field_at w32 bytes (at + 1) 0 (most_seed s.value)) _ b s.next in
-    let u = step (crumbs_at bytes (at + 5) s.value (bucket_cells s.value f.ratio)) _ b t.next in
+bucket_read v known bytes at f left b small is =
+    let s = step (size_at v bytes at f left) _ b is in
+    let t = step (field_at w32 bytes (at + byte_len v.size) 0 (most_seed s.value)) _ b s.next in
+    let u = step (crumbs_at bytes (at + (byte_len v.size + 4)) s.value (bucket_cells s.value f.ratio)) _ b t.next in
     let n : ℕ = bucket_cells s.value f.ratio in
-    let size = size_read bytes at f left s.value s.was in
-    let seed = number_read bytes (at + 1) 0 (most_seed s.value) t.value small t.was in
-    let crumbs = crumbs_read bytes (at + 5) s.value n u.value u.was in
-    let next : at + 1 + 4 ≡ at + 5 = omega arith in
-    let seed_cut : drop (at + 1) bytes ≡ to_le_bytes w32 t.value ++ drop (at + 5) bytes = seed.there.cut ∙ ap (λ (k : ℕ). to_le_bytes w32 t.value ++ drop k bytes) next in
+    let front : ℕ = byte_len v.size + 4 in
+    let size = size_read v known bytes at f left s.value small s.was in
+    let seed = field_read w32 of_four bytes (at + byte_len v.size) 0 (most_seed s.value) t.value small t.was in
+    let crumbs = crumbs_read bytes (at + front) s.value n u.value u.was in
+    let first : List ℕ = to_le_bytes v.size s.value in
+    let next : at + byte_len v.size + 4 ≡ at + front = omega arith in
+    let seed_cut : drop (at + byte_len v.size) bytes ≡ to_le_bytes w32 t.value ++ drop (at + front) bytes = seed.there.cut ∙ ap (λ (k : ℕ). to_le_bytes w32 t.value ++ drop k bytes) next in
     let image : List ℕ = packed_image 4 4 u.value in
-    let place : at + 5 + packed_len 4 n ≡ at + (5 + packed_len 4 (length u.value)) = omega (arith, ap (λ (k : ℕ). packed_len 4 k) crumbs.long) in
-    let image_cut : drop (at + 5) bytes ≡ image ++ drop (at + (5 + packed_len 4 (length u.value))) bytes = crumbs.there.cut ∙ ap (λ (k : ℕ). image ++ drop k bytes) place in
-    let whole : drop at bytes ≡ s.value ∷ (to_le_bytes w32 t.value ++ (image ++ drop (at + (5 + packed_len 4 (length u.value))) bytes)) =
-    size.there.cut ∙ ap (λ (l : List ℕ). s.value ∷ l) (seed_cut ∙ ap (λ (l : List ℕ). to_le_bytes w32 t.value ++ l) image_cut) in
-    let last : List ℕ = drop (at + (5 + packed_len 4 (length u.value))) bytes in
-    let same : s.value ≡ s.value % 256 = omega (arith, size.few) in
-    let made : ReadsBucket bytes at f left (record { size = s.value; seed = t.value; cells = u.value }) = record {
-      valid = record { few = size.few; seed = most_fits s.value t.value seed.below; unseeded = none_seeded s.value t.value seed.below; cells = crumbs.long; below = crumbs.below; busy = crumbs.busy };
-      cut = whole ∙ ap (λ (l : List ℕ). s.value ∷ l) (sym (append_assoc (to_le_bytes w32 t.value) image last)) ∙ ap (λ (x : ℕ). x ∷ ((to_le_bytes w32 t.value ++ image) ++ last)) same;
+    let place : at + front + packed_len 4 n ≡ at + (front + packed_len 4 (length u.value)) = omega (arith, ap (λ (k : ℕ). packed_len 4 k) crumbs.long) in
+    let last : List ℕ = drop (at + (front + packed_len 4 (length u.value))) bytes in
+    let image_cut : drop (at + front) bytes ≡ image ++ last = crumbs.there.cut ∙ ap (λ (k : ℕ). image ++ drop k bytes) place in
+    let whole : drop at bytes ≡ first ++ (to_le_bytes w32 t.value ++ (image ++ last)) = size.there.cut ∙ ap (λ (l : List ℕ). first ++ l) (seed_cut ∙ ap (λ (l : List ℕ). to_le_bytes w32 t.value ++ l) image_cut) in
+    let few : s.value ≤ MAX_BUCKET = omega (arith, size.few, known.few) in
+    let made : ReadsBucket v bytes at f left (record { size = s.value; seed = t.value; cells = u.value }) = record {
+      valid = record { few = few; seed = most_fits s.value t.value seed.below; unseeded = none_seeded s.value t.value seed.below; cells = crumbs.long; below = crumbs.below; busy = crumbs.busy };
+      few = size.few;
+      cut = whole ∙ ap (λ (l : List ℕ). first ++ l) (sym (append_assoc (to_le_bytes w32 t.value) image last)) ∙ sym (append_assoc first (to_le_bytes w32 t.value ++ image) last);
       fits = size.fits;
     } in
-    subst (λ (x : Bucket). ReadsBucket bytes at f left x) (ok_same u.next) made
+    subst (λ (x : Bucket). ReadsBucket v bytes at f left x) (ok_same u.next) made
 
-record ReadsRest (bytes : List ℕ) (at left : ℕ) (f g : Brz) : Type 0 where
+record ReadsRest (v : Form) (bytes : List ℕ) (at left : ℕ) (f g : Brz) : Type 0 where
   pub later : List Bucket
   pub is : (let h : Brz = record f { buckets = f.buckets ++ later } in h) ≡ g
-  pub cut : drop at bytes ≡ buckets_image version_1 later
+  pub cut : drop at bytes ≡ buckets_image v later
   pub many : length later ≡ left
   pub each : All (IsBucket f.ratio) later
+  pub few : All (λ bucket. bucket.size ≤ v.most_size) later
   pub all : 0 < left → keys_in f.buckets + keys_in later ≡ f.keys
 
 -- with the last bucket there are as many keys as the function has
@@ -145,9 +150,9 @@ all_keys f b (x ∷ later) left fits many rest =
     let pushed : keys_in (f.buckets ++ b ∷ []) ≡ keys_in f.buckets + b.size = sum_by_push (λ (k : Bucket). k.size) f.buckets b in
     omega (arith, rest (omega (arith, many)), size, pushed)
 
-rest_read : (bytes : List ℕ) (at left : ℕ) (f g : Brz) → Small bytes → rest_at version_1 bytes at left f ≡ Ok g → ReadsRest bytes at left f g
+rest_read : (v : Form) → IsForm v → (bytes : List ℕ) (at left : ℕ) (f g : Brz) → Small bytes → rest_at v bytes at left f ≡ Ok g → ReadsRest v bytes at left f g
 unfolding rest_at buckets_image
-rest_read bytes at zero f g small is =
+rest_read v known bytes at zero f g small is =
     let s = step (end_at bytes at) _ g is in
     record {
       later = [];
@@ -155,31 +160,35 @@ rest_read bytes at zero f g small is =
       cut = drop_of_length-le bytes (end_read bytes at s.value s.was);
       many = refl;
       each = All-nil (IsBucket f.ratio);
+      few = All-nil (λ (x : Bucket). x.size ≤ v.most_size);
       all = λ some. absurd (omega (arith, some));
     }
-rest_read bytes at (suc left) f g small is =
-    let s = step (bucket_at version_1 bytes at f left) _ g is in
+rest_read v known bytes at (suc left) f g small is =
+    let s = step (bucket_at v bytes at f left) _ g is in
     let b : Bucket = s.value in
-    let read = bucket_read bytes at f left b small s.was in
-    let rest = rest_read bytes (at + bucket_len version_1 b) left (with_bucket f b) g small s.next in
+    let read = bucket_read v known bytes at f left b small s.was in
+    let rest = rest_read v known bytes (at + bucket_len v b) left (with_bucket f b) g small s.next in
     record {
       later = b ∷ rest.later;
       is = ap (λ (bs : List Bucket). let h : Brz = record f { buckets = bs } in h) (sym (append_assoc f.buckets (b ∷ []) rest.later)) ∙ rest.is;
-      cut = read.cut ∙ ap (λ (l : List ℕ). bucket_image version_1 b ++ l) rest.cut;
+      cut = read.cut ∙ ap (λ (l : List ℕ). bucket_image v b ++ l) rest.cut;
       many = omega (arith, rest.many);
       each = All-cons (IsBucket f.ratio) b rest.later read.valid rest.each;
+      few = All-cons (λ (x : Bucket). x.size ≤ v.most_size) b rest.later read.few rest.few;
       all = λ some. all_keys f b rest.later left read.fits rest.many rest.all;
     }
 
-pub brz_read : (bytes : List ℕ) (h : Header) (f : Brz) → Small bytes → ReadsHeader bytes h → h.algorithm ≡ algorithm.Brz → brz_at version_1 bytes h ≡ Ok f → ReadsFunction bytes (func.Brz f)
+pub brz_read : (v : Form) → IsForm v → (bytes : List ℕ) (h : Header) (f : Brz) → Small bytes → ReadsHeader v bytes h → h.algorithm ≡ algorithm.Brz → brz_at v bytes h ≡ Ok f → ReadsFunction v bytes (func.Brz f)
 unfolding brz_at brz_dump
-brz_read bytes h f small heading kind is =
-    let rest = rest_read bytes 24 (bucket_count h.keys h.b) (no_buckets h) f small is in
-    let width : (MIN_WIDTH ≤ h.b) × (h.b ≤ MAX_WIDTH) = rw kind at heading.parameter in
+brz_read v known bytes h f small heading kind is =
+    let rest = rest_read v known bytes 24 (bucket_count h.keys h.b) (no_buckets h) f small is in
+    let range : (v.least_width ≤ h.b) × (h.b ≤ v.most_width) = rw kind at heading.parameter in
+    let width : (MIN_WIDTH ≤ h.b) × (h.b ≤ MAX_WIDTH) = (omega (arith, range.0, known.least), omega (arith, range.1, known.most)) in
     let some : 1 ≤ bucket_count h.keys h.b = (le-div_iff_mul-le {k = h.b} {x = 1} {y = h.keys + (h.b - 1)} (omega (arith, width.0))).1 (omega (arith, heading.keys.0, width.0)) in
-    let front : bytes ≡ header version_1 4 h.b h.keys h.ratio h.seed ++ drop 24 bytes = rw kind at heading.front in
-    let made : ReadsFunction bytes (func.Brz (record { keys = h.keys; ratio = h.ratio; width = h.b; split = h.seed; buckets = rest.later })) = record {
-      dump = sym (front ∙ ap (λ (l : List ℕ). header version_1 4 h.b h.keys h.ratio h.seed ++ l) rest.cut);
-      valid = record { keys = heading.keys; ratio = heading.ratio; width = width; split = heading.seed; count = rest.many; each = rest.each; all = omega (arith, rest.all (omega (arith, some))) };
+    let front : bytes ≡ header v 4 h.b h.keys h.ratio h.seed ++ drop 24 bytes = rw kind at heading.front in
+    let made : ReadsFunction v bytes (func.Brz (record { keys = h.keys; ratio = h.ratio; width = h.b; split = h.seed; buckets = rest.later })) = record {
+      dump = sym (front ∙ ap (λ (l : List ℕ). header v 4 h.b h.keys h.ratio h.seed ++ l) rest.cut);
+      valid = record { keys = (heading.keys.0, omega (arith, heading.keys.1, known.keys)); ratio = heading.ratio; width = width; split = heading.seed; count = rest.many; each = rest.each; all = omega (arith, rest.all (omega (arith, some))) };
+      within = (heading.keys.1, range.1, rest.few);
     } in
-    subst (λ (x : Brz). ReadsFunction bytes (func.Brz x)) rest.is made
+    subst (λ (x : Brz). ReadsFunction v bytes (func.Brz x)) rest.is made

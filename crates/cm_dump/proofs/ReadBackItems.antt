@@ -1,7 +1,7 @@
 -- The items of bytes that spell a function.
 use Rattle.std.proofs.Common.{◌≡◌, ◌∙◌, ℕ, ◌+◌, ◌*◌, ◌/◌, ◌%◌, ◌<◌, ◌≤◌, ◌^◌, ◌&&◌, ◌⊎◌, suc, List, [], ◌∷◌, ◌++◌, append_assoc, length, get_or, take, drop, ap, sym, subst, arith, refl, length-take, length-drop, nat_lt, nat_le, Bool, true, false, if◌then◌else◌, Option, Some, None, Result, Ok, Err, w32, inl, inr, append-nil, lit<}
 use Rattle.std.specs.Prelude.{nat_eq, slice_index}
-use Rattle.std.specs.Int.{to_le_bytes, from_le_bytes, w8}
+use Rattle.std.specs.Int.{Width, byte_len, to_le_bytes, from_le_bytes, w8, w16}
 use Rattle.std.specs.List.{flat_map, position_or_len}
 use Rattle.std.specs.Cmp.Lexicographic.{bytes_decides, pointwise}
 use Rattle.std.proofs.Math.ListN.{drop_of_length-le}
@@ -10,7 +10,7 @@ use Rattle.std.proofs.lemmas.Bool.{cases_eq, cases_lt, leb-true, leb-false, ne_e
 use Rattle.std.proofs.lemmas.List.{drop-drop, take-append-drop, get_or-take, get_or-drop, get_or_past, ext_get_or}
 use Rattle.std.proofs.lemmas.List.FromFn.{length-map-range_with_len, get_or-map-range_with_len}
 use Rattle.std.proofs.lemmas.List.Sums.{fails_before_first}
-use Rattle.std.proofs.lemmas.Nat.{le_bytes_4, pow_pos}
+use Rattle.std.proofs.lemmas.Nat.{pow_pos}
 use Rattle.cm_bits.specs.Bound.{AllBelow}
 use Rattle.cm_bits.specs.DigitsLaws.{pow_pow, digits_sum-same, digits_sum-digits, digit-digits_sum}
 use Rattle.cm_bits.specs.Fault.{bytes_number, field_cells, fields_fault, packed_fault}
@@ -24,21 +24,22 @@ use Rattle.cm_dump_items.specs.declared.fault.LoadFault.TheVariants as faults
 use Rattle.cm_dump_items.specs.Reading.{item_at, field_at, zeros_at, end_at}
 use Rattle.cm_dump_items.specs.ItemLaws.{whole_or, ge_of}
 use Rattle.cm_dump_items.specs.StepLaws.{if_next, if_ok, ok_err, ok_same, step}
-use Rattle.cm_spec.specs.declared.limits.TheConstants.{MAX_KEYS}
-use Rattle.cm_spec.specs.Dump.{magic, fields_image}
-use Rattle.cm_dump.specs.Dumps.{header, packed_image, ranks_image, dump_of}
+use Rattle.cm_spec.specs.Dump.{fields_image}
+use Rattle.cm_dump.specs.Dumps.{HasDump, dump_by, header, kind_bytes, packed_image, ranks_image}
 use Rattle.cm_spec.specs.Image.{digits_sum, width_of, fields_len, fields_byte, fields_number, packed_byte, packed_len}
 use Rattle.cm_spec.specs.Lists.{list_of}
 use Rattle.cm_dump.specs.declared.front.Algorithm.{Algorithm}
 use Rattle.cm_dump.specs.declared.front.Algorithm.TheVariants as algorithm
 use Rattle.cm_dump.specs.declared.front.Header.{Header}
-use Rattle.cm_dump.specs.declared.front.Kind.{Kind}
+use Rattle.cm_dump.specs.declared.versions.Version.{Version}
+use Rattle.cm_dump.specs.declared.versions.Version.TheVariants as version
 use Rattle.cm_func.specs.declared.function.Func.{Func}
 use Rattle.cm_func.specs.Functions.{IsFunction}
-use Rattle.cm_dump.specs.Headings.{IsParameter, magic_at, algorithm_of, algorithm_at, least_b, most_b, kind_at, heading_at}
+use Rattle.cm_dump.specs.Headings.{IsParameter, magic_at, algorithm_of, algorithm_at, least_b, most_b, parameter_at, header_at, heading_at}
 use Rattle.cm_dump.specs.Spelling.{ranks_at}
-use Rattle.cm_dump.proofs.FormLemmas.{parameter_fits}
-use Rattle.cm_dump.specs.Forms.{version_1}
+use Rattle.cm_dump.proofs.DumpLemmas.{header_parts}
+use Rattle.cm_dump.proofs.FormLemmas.{IsWidth, of_four, of_one, of_two}
+use Rattle.cm_dump.specs.Forms.{Form, form_of, version_1, version_2}
 
 pub both_of : (s t : Bool) → (s && t) ≡ true → (s ≡ true) × (t ≡ true)
 both_of true t is = (refl, is)
@@ -87,11 +88,11 @@ one_of [] b long is = absurd (omega (arith, long))
 one_of (x ∷ []) b long is = ap (λ (y : ℕ). y ∷ []) is
 one_of (x ∷ y ∷ ys) b long is = absurd (omega (arith, long))
 
-pub magic_read : (bytes : List ℕ) (x : Unit {0}) → magic_at version_1 bytes ≡ Ok x → Stands bytes 0 8 magic
+pub magic_read : (v : Form) (bytes : List ℕ) (x : Unit {0}) → magic_at v bytes ≡ Ok x → Stands bytes 0 8 v.magic
 unfolding magic_at
-magic_read bytes x is =
+magic_read v bytes x is =
     let s = step (item_at bytes 0 8) _ x is in
-    let same : s.value ≡ magic = (bytes_decides s.value magic).0 (if_ok _ _ _ _ s.next).0 in
+    let same : s.value ≡ v.magic = (bytes_decides s.value v.magic).0 (if_ok _ _ _ _ s.next).0 in
     subst (λ (xs : List ℕ). Stands bytes 0 8 xs) same (stands bytes 0 8 s.value s.was)
 
 -- the number of an algorithm
@@ -117,122 +118,104 @@ algorithm_read bytes a is =
     let there = stands bytes 8 1 s.value s.was in
     subst (λ (xs : List ℕ). Stands bytes 8 1 xs) (one_of s.value (number_of a) there.long (which_read (slice_index s.value 0) a s.next)) there
 
-pub record ReadsByte (bytes : List ℕ) (at low high b : ℕ) : Type 0 where
-  pub there : Stands bytes at 1 (b ∷ [])
-  pub above : low ≤ b
-  pub below : b ≤ high
-
-pub byte_read : (bytes : List ℕ) (at low high b : ℕ) → field_at w8 bytes at low high ≡ Ok b → ReadsByte bytes at low high b
-unfolding field_at
-byte_read bytes at low high b is =
-    let s = step (item_at bytes at 1) _ b is in
-    let there = stands bytes at 1 s.value s.was in
-    let item = slice_index s.value 0 in
-    let test = if_ok (nat_le low item && nat_le item high) _ item b s.next in
-    let range = both_of (nat_le low item) (nat_le item high) test.0 in
-    record {
-      there = subst (λ (xs : List ℕ). Stands bytes at 1 xs) (one_of s.value b there.long test.1) there;
-      above = omega (arith, leb-true low item range.0, test.1);
-      below = omega (arith, leb-true item high range.1, test.1);
-    }
-
-pub record ReadsNumber (bytes : List ℕ) (at low high x : ℕ) : Type 0 where
-  pub there : Stands bytes at 4 (to_le_bytes w32 x)
+pub record ReadsField (w : Width) (bytes : List ℕ) (at low high x : ℕ) : Type 0 where
+  pub there : Stands bytes at (byte_len w) (to_le_bytes w x)
   pub above : low ≤ x
   pub below : x ≤ high
 
-pub number_read : (bytes : List ℕ) (at low high x : ℕ) → Small bytes → field_at w32 bytes at low high ≡ Ok x → ReadsNumber bytes at low high x
+pub field_read : (w : Width) → IsWidth w → (bytes : List ℕ) (at low high x : ℕ) → Small bytes → field_at w bytes at low high ≡ Ok x → ReadsField w bytes at low high x
 unfolding field_at
-number_read bytes at low high x small is =
-    let s = step (item_at bytes at 4) _ x is in
-    let there = stands bytes at 4 s.value s.was in
-    let item = from_le_bytes w32 s.value in
+field_read w known bytes at low high x small is =
+    let s = step (item_at bytes at (byte_len w)) _ x is in
+    let there = stands bytes at (byte_len w) s.value s.was in
+    let item = from_le_bytes w s.value in
     let test = if_ok (nat_le low item && nat_le item high) _ item x s.next in
     let range = both_of (nat_le low item) (nat_le item high) test.0 in
-    let same : to_le_bytes w32 x ≡ s.value = le_bytes_4 s.value x there.long (small_item bytes at 4 s.value small there) (sym test.1) in
+    let same : to_le_bytes w x ≡ s.value = known.same s.value x there.long (small_item bytes at (byte_len w) s.value small there) (sym test.1) in
     record {
-      there = subst (λ (xs : List ℕ). Stands bytes at 4 xs) (sym same) there;
+      there = subst (λ (xs : List ℕ). Stands bytes at (byte_len w) xs) (sym same) there;
       above = subst (λ (y : ℕ). low ≤ y) test.1 (leb-true low item range.0);
       below = subst (λ (y : ℕ). y ≤ high) test.1 (leb-true item high range.1);
     }
 
 -- ---- the header
 
-pub record ReadsHeader (bytes : List ℕ) (h : Header) : Type 0 where
-  pub parameter : IsParameter version_1 h.algorithm h.b
-  pub keys : (1 ≤ h.keys) × (h.keys ≤ MAX_KEYS)
+pub record ReadsHeader (v : Form) (bytes : List ℕ) (h : Header) : Type 0 where
+  pub parameter : IsParameter v h.algorithm h.b
+  pub keys : (1 ≤ h.keys) × (h.keys ≤ v.most_keys)
   pub ratio : (1000000 ≤ h.ratio) × (h.ratio ≤ 10000000)
   pub seed : h.seed < 2 ^ 32
-  pub front : bytes ≡ header version_1 (number_of h.algorithm) h.b h.keys h.ratio h.seed ++ drop 24 bytes
+  pub front : bytes ≡ header v (number_of h.algorithm) h.b h.keys h.ratio h.seed ++ drop 24 bytes
 
-pub front_is : (bytes : List ℕ) (number b keys ratio seed : ℕ) → b < 2 ^ 8 → Stands bytes 0 8 magic → Stands bytes 8 1 (number ∷ []) → Stands bytes 9 1 (b ∷ []) → Stands bytes 10 1 (0 ∷ []) → Stands bytes 11 1 (0 ∷ [])
-    → Stands bytes 12 4 (to_le_bytes w32 keys) → Stands bytes 16 4 (to_le_bytes w32 ratio) → Stands bytes 20 4 (to_le_bytes w32 seed) → bytes ≡ header version_1 number b keys ratio seed ++ drop 24 bytes
-unfolding header
-front_is bytes number b keys ratio seed fits begun which parameter first second k r s =
+pub zero_read : (bytes : List ℕ) (at b : ℕ) → Small bytes → field_at w8 bytes at 0 0 ≡ Ok b → Stands bytes at 1 (0 ∷ [])
+zero_read bytes at b small is =
+    let r = field_read w8 of_one bytes at 0 0 b small is in
+    let none : b ≡ 0 = omega (arith, r.below) in
+    subst (λ (x : ℕ). Stands bytes at 1 (to_le_bytes w8 x)) none r.there
+
+-- the parameter between zeros, and the algorithm's number before them
+pub record ReadsParameter (v : Form) (bytes : List ℕ) (a : Algorithm) (b : ℕ) : Type 0 where
+  pub range : IsParameter v a b
+  pub cut : (number : ℕ) → number ∷ drop 9 bytes ≡ kind_bytes v number b ++ drop 12 bytes
+
+pub parameter_read : (w : Version) (bytes : List ℕ) (a : Algorithm) (b : ℕ) → Small bytes → parameter_at (form_of w) bytes a ≡ Ok b → ReadsParameter (form_of w) bytes a b
+unfolding parameter_at zeros_at
+parameter_read version.One bytes a b small is =
+    let s = step (field_at w8 bytes 9 (least_b version_1 a) (most_b version_1 a)) _ b is in
+    let after = step (zeros_at bytes 10 2) _ b s.next in
+    let first = step (field_at w8 bytes 10 0 0) _ after.value after.was in
+    let second = step (field_at w8 bytes 11 0 0) _ after.value first.next in
+    let read = field_read w8 of_one bytes 9 (least_b version_1 a) (most_b version_1 a) s.value small s.was in
+    let zeros : drop 10 bytes ≡ 0 ∷ 0 ∷ drop 12 bytes = (zero_read bytes 10 first.value small first.was).cut ∙ ap (λ (l : List ℕ). 0 ∷ l) (zero_read bytes 11 second.value small second.was).cut in
+    let made : ReadsParameter version_1 bytes a s.value = record {
+      range = (read.above, read.below);
+      cut = λ number. ap (λ (l : List ℕ). number ∷ l) (read.there.cut ∙ ap (λ (l : List ℕ). to_le_bytes w8 s.value ++ l) zeros);
+    } in
+    subst (λ (x : ℕ). ReadsParameter version_1 bytes a x) (ok_same after.next) made
+parameter_read version.Two bytes a b small is =
+    let before = step (zeros_at bytes 9 1) _ b is in
+    let first = step (field_at w8 bytes 9 0 0) _ before.value before.was in
+    let s = step (field_at w16 bytes 10 (least_b version_2 a) (most_b version_2 a)) _ b before.next in
+    let read = field_read w16 of_two bytes 10 (least_b version_2 a) (most_b version_2 a) s.value small s.was in
+    let made : ReadsParameter version_2 bytes a s.value = record {
+      range = (read.above, read.below);
+      cut = λ number. ap (λ (l : List ℕ). number ∷ l) ((zero_read bytes 9 first.value small first.was).cut ∙ ap (λ (l : List ℕ). 0 ∷ l) read.there.cut);
+    } in
+    subst (λ (x : ℕ). ReadsParameter version_2 bytes a x) (ok_same s.next) made
+
+-- the items of a header, one after another
+pub front_is : (v : Form) (bytes : List ℕ) (a : Algorithm) (b keys ratio seed : ℕ) → Stands bytes 0 8 v.magic → Stands bytes 8 1 (number_of a ∷ []) → ReadsParameter v bytes a b → Stands bytes 12 4 (to_le_bytes w32 keys) → Stands bytes 16 4 (to_le_bytes w32 ratio) → Stands bytes 20 4 (to_le_bytes w32 seed)
+    → bytes ≡ header v (number_of a) b keys ratio seed ++ drop 24 bytes
+front_is v bytes a b keys ratio seed begun which parameter k r s =
+    let kind : List ℕ = kind_bytes v (number_of a) b in
     let last : drop 16 bytes ≡ to_le_bytes w32 ratio ++ (to_le_bytes w32 seed ++ drop 24 bytes) = r.cut ∙ ap (λ (l : List ℕ). to_le_bytes w32 ratio ++ l) s.cut in
     let numbers : drop 12 bytes ≡ to_le_bytes w32 keys ++ (to_le_bytes w32 ratio ++ (to_le_bytes w32 seed ++ drop 24 bytes)) = k.cut ∙ ap (λ (l : List ℕ). to_le_bytes w32 keys ++ l) last in
-    let same : b ≡ b % 256 = omega (arith, fits) in
-    let zeros : drop 9 bytes ≡ b ∷ 0 ∷ 0 ∷ drop 12 bytes = parameter.cut ∙ ap (λ (l : List ℕ). b ∷ l) (first.cut ∙ ap (λ (l : List ℕ). 0 ∷ l) second.cut) in
-    let all : bytes ≡ magic ++ (number ∷ drop 9 bytes) = begun.cut ∙ ap (λ (l : List ℕ). magic ++ l) which.cut in
-    all ∙ ap (λ (l : List ℕ). magic ++ (number ∷ l)) (zeros ∙ ap (λ (l : List ℕ). b ∷ 0 ∷ 0 ∷ l) numbers ∙ ap (λ (x : ℕ). x ∷ 0 ∷ 0 ∷ (to_le_bytes w32 keys ++ (to_le_bytes w32 ratio ++ (to_le_bytes w32 seed ++ drop 24 bytes)))) same)
+    let after : drop 8 bytes ≡ kind ++ (to_le_bytes w32 keys ++ (to_le_bytes w32 ratio ++ (to_le_bytes w32 seed ++ drop 24 bytes))) = which.cut ∙ parameter.cut (number_of a) ∙ ap (λ (l : List ℕ). kind ++ l) numbers in
+    let all : bytes ≡ v.magic ++ (kind ++ (to_le_bytes w32 keys ++ (to_le_bytes w32 ratio ++ (to_le_bytes w32 seed ++ drop 24 bytes)))) = begun.cut ∙ ap (λ (l : List ℕ). v.magic ++ l) after in
+    all ∙ sym (append_assoc v.magic kind (to_le_bytes w32 keys ++ (to_le_bytes w32 ratio ++ (to_le_bytes w32 seed ++ drop 24 bytes)))) ∙ sym (header_parts v (number_of a) b keys ratio seed (drop 24 bytes))
 
-pub record ReadsKind (bytes : List ℕ) (k : Kind) : Type 0 where
-  pub begun : Stands bytes 0 8 magic
-  pub number : Stands bytes 8 1 (number_of k.algorithm ∷ [])
-  pub b : ReadsByte bytes 9 (least_b version_1 k.algorithm) (most_b version_1 k.algorithm) k.b
-  pub first : Stands bytes 10 1 (0 ∷ [])
-  pub second : Stands bytes 11 1 (0 ∷ [])
-
-pub zero_read : (bytes : List ℕ) (at b : ℕ) → field_at w8 bytes at 0 0 ≡ Ok b → Stands bytes at 1 (0 ∷ [])
-zero_read bytes at b is =
-    let r = byte_read bytes at 0 0 b is in
-    let none : b ≡ 0 = omega (arith, r.below) in
-    subst (λ (x : ℕ). Stands bytes at 1 (x ∷ [])) none r.there
-
-pub two_zeros : (bytes : List ℕ) (at : ℕ) (x : Unit {0}) → zeros_at bytes at 2 ≡ Ok x → Stands bytes at 1 (0 ∷ []) × Stands bytes (at + 1) 1 (0 ∷ [])
-unfolding zeros_at
-two_zeros bytes at x is =
-    let first = step (field_at w8 bytes at 0 0) _ x is in
-    let second = step (field_at w8 bytes (at + 1) 0 0) _ x first.next in
-    (zero_read bytes at first.value first.was, zero_read bytes (at + 1) second.value second.was)
-
-pub kind_read : (bytes : List ℕ) (k : Kind) → kind_at version_1 bytes ≡ Ok k → ReadsKind bytes k
-unfolding kind_at
-kind_read bytes k is =
-    let begun = step (magic_at version_1 bytes) _ k is in
-    let a = step (algorithm_at bytes) _ k begun.next in
-    let before = step (zeros_at bytes 9 0) _ k a.next in
-    let b = step (field_at w8 bytes 9 (least_b version_1 a.value) (most_b version_1 a.value)) _ k before.next in
-    let after = step (zeros_at bytes 10 2) _ k b.next in
-    let zeros = two_zeros bytes 10 after.value after.was in
-    let made : ReadsKind bytes (record { algorithm = a.value; b = b.value }) = record {
-      begun = magic_read bytes begun.value begun.was;
-      number = algorithm_read bytes a.value a.was;
-      b = byte_read bytes 9 (least_b version_1 a.value) (most_b version_1 a.value) b.value b.was;
-      first = zeros.0;
-      second = zeros.1;
-    } in
-    subst (λ (x : Kind). ReadsKind bytes x) (ok_same after.next) made
-
-pub heading_read : (bytes : List ℕ) (h : Header) → Small bytes → heading_at version_1 bytes ≡ Ok h → ReadsHeader bytes h
-unfolding heading_at
-heading_read bytes h small is =
-    let k = step (kind_at version_1 bytes) _ h is in
-    let a = step (field_at w32 bytes 12 1 MAX_KEYS) _ h k.next in
+pub heading_read : (w : Version) (bytes : List ℕ) (h : Header) → Small bytes → heading_at (form_of w) bytes ≡ Ok h → ReadsHeader (form_of w) bytes h
+unfolding heading_at header_at
+heading_read w bytes h small is =
+    let v = form_of w in
+    let m = step (magic_at v bytes) _ h is in
+    let n = step (algorithm_at bytes) _ h m.next in
+    let p = step (parameter_at v bytes n.value) _ h n.next in
+    let a = step (field_at w32 bytes 12 1 v.most_keys) _ h p.next in
     let b = step (field_at w32 bytes 16 1000000 10000000) _ h a.next in
     let c = step (field_at w32 bytes 20 0 4294967295) _ h b.next in
-    let kind = kind_read bytes k.value k.was in
-    let keys = number_read bytes 12 1 MAX_KEYS a.value small a.was in
-    let ratio = number_read bytes 16 1000000 10000000 b.value small b.was in
-    let seed = number_read bytes 20 0 4294967295 c.value small c.was in
-    let made : ReadsHeader bytes (record { algorithm = k.value.algorithm; b = k.value.b; keys = a.value; ratio = b.value; seed = c.value }) = record {
-      parameter = (kind.b.above, kind.b.below);
+    let parameter = parameter_read w bytes n.value p.value small p.was in
+    let keys = field_read w32 of_four bytes 12 1 v.most_keys a.value small a.was in
+    let ratio = field_read w32 of_four bytes 16 1000000 10000000 b.value small b.was in
+    let seed = field_read w32 of_four bytes 20 0 4294967295 c.value small c.was in
+    let made : ReadsHeader v bytes (record { algorithm = n.value; b = p.value; keys = a.value; ratio = b.value; seed = c.value }) = record {
+      parameter = parameter.range;
       keys = (keys.above, keys.below);
       ratio = (ratio.above, ratio.below);
       seed = omega (arith, seed.below);
-      front = front_is bytes (number_of k.value.algorithm) k.value.b a.value b.value c.value (parameter_fits k.value.algorithm k.value.b kind.b.below) kind.begun kind.number kind.b.there kind.first kind.second keys.there ratio.there seed.there;
+      front = front_is v bytes n.value p.value a.value b.value c.value (magic_read v bytes m.value m.was) (algorithm_read bytes n.value n.was) parameter keys.there ratio.there seed.there;
     } in
-    subst (λ (x : Header). ReadsHeader bytes x) (ok_same c.next) made
+    subst (λ (x : Header). ReadsHeader v bytes x) (ok_same c.next) made
 
 -- ---- the cells
 
@@ -347,6 +330,7 @@ end_read bytes at x is = ge_of at (length bytes) (trailing_or (nat_lt at (length
 pub last_item : (bytes : List ℕ) (at n : ℕ) (xs : List ℕ) → drop at bytes ≡ xs ++ drop n bytes → length bytes ≤ n → drop at bytes ≡ xs
 last_item bytes at n xs cut ended = cut ∙ ap (λ (l : List ℕ). xs ++ l) (drop_of_length-le bytes ended) ∙ append-nil xs
 
-pub record ReadsFunction (bytes : List ℕ) (f : Func) : Type 0 where
-  pub dump : dump_of f ≡ bytes
+pub record ReadsFunction (v : Form) (bytes : List ℕ) (f : Func) : Type 0 where
+  pub dump : dump_by v f ≡ bytes
   pub valid : IsFunction f
+  pub within : HasDump v f

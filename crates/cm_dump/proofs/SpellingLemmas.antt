@@ -1,11 +1,12 @@
 -- What the dump of a function spells.
-use Rattle.std.proofs.Common.{◌≡◌, ◌∙◌, ◌⊎◌, inl, inr, ℕ, nat_lt, eqb, true, false, ◌+◌, ◌*◌, ◌%◌, ◌<◌, ◌≤◌, ◌^◌, List, [], ◌∷◌, ◌++◌, length, ap, sym, subst, arith, refl, length-append, append_assoc, Option, None, Result, Ok, ◌/◌, count_by, w32, append-nil, lit<, eq-eqb}
-use Rattle.std.specs.Int.{to_le_bytes, w8}
+use Rattle.std.proofs.Common.{◌≡◌, ◌∙◌, ◌-◌, ◌⊎◌, inl, inr, ℕ, nat_lt, eqb, true, false, ◌+◌, ◌*◌, ◌<◌, ◌≤◌, ◌^◌, List, [], ◌∷◌, ◌++◌, length, ap, sym, subst, arith, refl, length-append, append_assoc, Option, None, Result, Ok, ◌/◌, count_by, w32, append-nil, lit<, eq-eqb}
+use Rattle.std.specs.Cmp.Lexicographic.{bytes_decides}
+use Rattle.std.specs.Prelude.{replicate}
+use Rattle.std.specs.Int.{Width, byte_len, to_le_bytes, w8, w16}
 use Rattle.std.specs.List.{All, flat_map}
-use Rattle.std.proofs.lemmas.List.Elements.{All-head, All-tail}
+use Rattle.std.proofs.lemmas.List.Elements.{All-head, All-tail, All-weaker}
 use Rattle.std.proofs.lemmas.List.Sums.{sum_by-cons, sum_by_push}
 use Rattle.std.proofs.lemmas.Bool.{cases_eq, le-leb, ne_eqb}
-use Rattle.std.proofs.lemmas.Nat.{from_le_bytes-to_le_bytes_4}
 use Rattle.cm_bdz.specs.Functions.{Bdz, BdzPh}
 use Rattle.cm_bits.specs.Bound.{AllBelow}
 use Rattle.cm_bits.specs.Fault.{fields_fault, packed_fault}
@@ -27,7 +28,7 @@ use Rattle.cm_spec.specs.Cells.{is_busy}
 use Rattle.cm_spec.specs.Bdz.{bdz_size}
 use Rattle.cm_spec.specs.Chm.{Chm, chm_size}
 use Rattle.cm_spec.specs.Dump.{magic, fields_image}
-use Rattle.cm_dump.specs.Dumps.{header, chm_dump, packed_image, ranks_image, bucket_image, buckets_image, bdz_dump, bdz_ph_dump, brz_dump, dump_of}
+use Rattle.cm_dump.specs.Dumps.{HasDump, dump_by, header, kind_bytes, chm_dump, packed_image, ranks_image, bucket_image, buckets_image, bdz_dump, bdz_ph_dump, brz_dump, dump_of}
 use Rattle.cm_spec.specs.Image.{width_of, fields_len, fields_byte, packed_len, packed_byte}
 use Rattle.cm_spec.specs.Lists.{list_of}
 use Rattle.cm_dump.specs.declared.front.Algorithm.{Algorithm}
@@ -35,25 +36,29 @@ use Rattle.cm_dump.specs.declared.front.Algorithm.TheVariants as algorithm
 use Rattle.cm_dump.specs.declared.front.Header.{Header}
 use Rattle.cm_func.specs.declared.function.Func.{Func}
 use Rattle.cm_func.specs.declared.function.Func.TheVariants as func
+use Rattle.cm_dump.specs.declared.versions.Version.{Version}
+use Rattle.cm_dump.specs.declared.versions.Version.TheVariants as version
 use Rattle.cm_func.specs.Functions.{IsChm, IsBdz, IsBdzPh, IsFunction}
-use Rattle.cm_dump.specs.Headings.{IsParameter, magic_at, algorithm_of, algorithm_at, least_b, most_b, kind_at, heading_at}
+use Rattle.cm_dump.specs.Headings.{IsParameter, magic_at, algorithm_of, algorithm_at, least_b, most_b, parameter_at, header_at, heading_at}
 use Rattle.cm_dump.specs.Spelling.{chm_at, counted, ranks_at, ranked_at, bdz_at, bdz_ph_at, is_off, most_seed, size_at, crumbs_at, bucket_at, bucket_len, rest_at, brz_at, no_buckets, spelling_of, spelling_by}
 use Rattle.cm_dump.proofs.BodyLemmas.{chm_known, bdz_known, bdz_ph_known}
 use Rattle.cm_dump.proofs.BucketLemmas.{length-bucket_image}
-use Rattle.cm_dump.proofs.DumpLemmas.{length-header, length-fields_image, length-packed_image, chm_dump_len, bdz_dump_len, bdz_ph_dump_len}
-use Rattle.cm_dump.proofs.FormLemmas.{parameter_fits}
-use Rattle.cm_dump.specs.Forms.{version_1}
+use Rattle.cm_dump.proofs.DumpLemmas.{header_parts, length-header, length-fields_image, length-packed_image, chm_dump_len, bdz_dump_len, bdz_ph_dump_len}
+use Rattle.cm_dump.proofs.FormLemmas.{IsForm, IsWidth, form_facts, of_four, of_one, of_two, parameter_fits}
+use Rattle.cm_dump.specs.Forms.{Form, form_of, version_1, version_2, version_of}
 use Rattle.cm_dump.proofs.RankLemmas.{ranks_there}
 
 -- ---- items that are there
 
-pub byte_there : (bytes : List ℕ) (at low high b : ℕ) → item_at bytes at 1 ≡ Ok (to_le_bytes w8 b) → b < 2 ^ 8 → low ≤ b → b ≤ high → field_at w8 bytes at low high ≡ Ok b
+pub field_there : (w : Width) → IsWidth w → (bytes : List ℕ) (at low high x : ℕ) → item_at bytes at (byte_len w) ≡ Ok (to_le_bytes w x) → x < 256 ^ byte_len w → low ≤ x → x ≤ high → field_at w bytes at low high ≡ Ok x
 unfolding field_at
-byte_there bytes at low high b is fits above below = let same : b % 256 ≡ b = omega (arith, fits) in rw (is, same, le-leb low b above, le-leb b high below) refl
+field_there w known bytes at low high x is fits above below = rw (is, known.back x fits, le-leb low x above, le-leb x high below) refl
 
 pub number_there : (bytes : List ℕ) (at low high x : ℕ) → item_at bytes at 4 ≡ Ok (to_le_bytes w32 x) → x < 2 ^ 32 → low ≤ x → x ≤ high → field_at w32 bytes at low high ≡ Ok x
-unfolding field_at
-number_there bytes at low high x is fits above below = rw (is, from_le_bytes-to_le_bytes_4 x fits, le-leb low x above, le-leb x high below) refl
+number_there bytes at low high x is fits above below = field_there w32 of_four bytes at low high x is fits above below
+
+zero_there : (bytes : List ℕ) (at : ℕ) → item_at bytes at 1 ≡ Ok (0 ∷ []) → field_at w8 bytes at 0 0 ≡ Ok 0
+zero_there bytes at is = field_there w8 of_one bytes at 0 0 0 is (lit< tt) (omega arith) (omega arith)
 
 pub end_there : (bytes : List ℕ) (at : ℕ) → length bytes ≡ at → end_at bytes at ≡ Ok tt
 unfolding end_at
@@ -64,33 +69,76 @@ image_there bytes xs ys zs at size place fault is first long none = image_read b
 
 -- ---- a header, and any bytes after it
 
-pub heading_there : (a : Algorithm) (number b keys ratio seed : ℕ) (rest : List ℕ) → algorithm_of number ≡ Ok a → IsParameter version_1 a b → 1 ≤ keys → keys ≤ MAX_KEYS → 1000000 ≤ ratio → ratio ≤ 10000000 → seed < 2 ^ 32
-    → heading_at version_1 (header version_1 number b keys ratio seed ++ rest) ≡ Ok (record { algorithm = a; b = b; keys = keys; ratio = ratio; seed = seed })
-unfolding heading_at kind_at magic_at algorithm_at zeros_at header
-heading_there a number b keys ratio seed rest kind range some many least most fits =
-    let bytes = header version_1 number b keys ratio seed ++ rest in
+-- the magic, and the algorithm's number and parameter, with any bytes after them
+abbrev fore : Form → ℕ → ℕ → List ℕ → List ℕ
+fore v number b after = v.magic ++ (kind_bytes v number b ++ after)
+
+magic_there : (v : Form) → IsForm v → (number b : ℕ) (after : List ℕ) → magic_at v (fore v number b after) ≡ Ok tt
+unfolding magic_at
+magic_there v known number b after =
+    let item = item_there (fore v number b after) [] v.magic (kind_bytes v number b ++ after) 0 8 refl refl known.magic in
+    rw (item, (bytes_decides v.magic v.magic).1 refl) refl
+
+number_of_there : (v : Form) → IsForm v → (a : Algorithm) (number b : ℕ) (after : List ℕ) → algorithm_of number ≡ Ok a → algorithm_at (fore v number b after) ≡ Ok a
+unfolding algorithm_at
+number_of_there v known a number b after kind =
+    let item = item_there (fore v number b after) v.magic (number ∷ []) ((replicate (v.b_at - 9) 0 ++ (to_le_bytes v.b b ++ replicate (12 - (v.b_at + byte_len v.b)) 0)) ++ after) 8 1 refl known.magic refl in
+    rw item kind
+
+parameter_there : (w : Version) (a : Algorithm) (number b : ℕ) (after : List ℕ) → IsParameter (form_of w) a b → parameter_at (form_of w) (fore (form_of w) number b after) a ≡ Ok b
+unfolding parameter_at zeros_at
+parameter_there version.One a number b after range =
+    let bytes = fore version_1 number b after in
+    let front = magic ++ (number ∷ []) in
+    let here = field_there w8 of_one bytes 9 (least_b version_1 a) (most_b version_1 a) b (item_there bytes front (to_le_bytes w8 b) (0 ∷ 0 ∷ after) 9 1 refl refl refl) (parameter_fits version.One a b range.1) range.0 range.1 in
+    let first = zero_there bytes 10 (item_there bytes (front ++ to_le_bytes w8 b) (0 ∷ []) (0 ∷ after) 10 1 refl refl refl) in
+    let second = zero_there bytes 11 (item_there bytes (front ++ (to_le_bytes w8 b ++ 0 ∷ [])) (0 ∷ []) after 11 1 refl refl refl) in
+    rw (here, first, second) refl
+parameter_there version.Two a number b after range =
+    let bytes = fore version_2 number b after in
+    let front = version_2.magic ++ (number ∷ []) in
+    let first = zero_there bytes 9 (item_there bytes front (0 ∷ []) (to_le_bytes w16 b ++ after) 9 1 refl refl refl) in
+    let here = field_there w16 of_two bytes 10 (least_b version_2 a) (most_b version_2 a) b (item_there bytes (front ++ 0 ∷ []) (to_le_bytes w16 b) after 10 2 refl refl refl) (parameter_fits version.Two a b range.1) range.0 range.1 in
+    rw (first, here) refl
+
+pub heading_there : (w : Version) (a : Algorithm) (number b keys ratio seed : ℕ) (rest : List ℕ) → algorithm_of number ≡ Ok a → IsParameter (form_of w) a b → 1 ≤ keys → keys ≤ (form_of w).most_keys → 1000000 ≤ ratio → ratio ≤ 10000000 → seed < 2 ^ 32
+    → heading_at (form_of w) (header (form_of w) number b keys ratio seed ++ rest) ≡ Ok (record { algorithm = a; b = b; keys = keys; ratio = ratio; seed = seed })
+unfolding heading_at header_at
+heading_there w a number b keys ratio seed rest kind range some many least most fits =
+    let v = form_of w in
+    let known = form_facts w in
     let k = to_le_bytes w32 keys in
     let r = to_le_bytes w32 ratio in
     let s = to_le_bytes w32 seed in
-    let front = magic ++ (number ∷ (to_le_bytes w8 b ++ 0 ∷ 0 ∷ [])) in
-    let begun = item_there bytes [] magic ((number ∷ (to_le_bytes w8 b ++ 0 ∷ 0 ∷ [])) ++ (k ++ (r ++ (s ++ rest)))) 0 8 refl refl refl in
-    let which = item_there bytes magic (number ∷ []) ((to_le_bytes w8 b ++ 0 ∷ 0 ∷ []) ++ (k ++ (r ++ (s ++ rest)))) 8 1 refl refl refl in
-    let parameter = byte_there bytes 9 (least_b version_1 a) (most_b version_1 a) b (item_there bytes (magic ++ (number ∷ [])) (to_le_bytes w8 b) ((0 ∷ 0 ∷ []) ++ (k ++ (r ++ (s ++ rest)))) 9 1 refl refl refl) (parameter_fits a b range.1) range.0 range.1 in
-    let first = byte_there bytes 10 0 0 0 (item_there bytes (magic ++ (number ∷ to_le_bytes w8 b)) (0 ∷ []) ((0 ∷ []) ++ (k ++ (r ++ (s ++ rest)))) 10 1 refl refl refl) (lit< tt) (omega arith) (omega arith) in
-    let second = byte_there bytes 11 0 0 0 (item_there bytes (magic ++ (number ∷ (to_le_bytes w8 b ++ 0 ∷ []))) (0 ∷ []) (k ++ (r ++ (s ++ rest))) 11 1 refl refl refl) (lit< tt) (omega arith) (omega arith) in
-    let keys_there = number_there bytes 12 1 MAX_KEYS keys (item_there bytes front k (r ++ (s ++ rest)) 12 4 refl refl refl) (omega (arith, many)) some many in
-    let ratio_there = number_there bytes 16 1000000 10000000 ratio (item_there bytes (front ++ k) r (s ++ rest) 16 4 refl refl refl) (omega (arith, most)) least most in
-    let seed_there = number_there bytes 20 0 4294967295 seed (item_there bytes (front ++ (k ++ r)) s rest 20 4 refl refl refl) fits (omega arith) (omega (arith, fits)) in
-    rw (begun, which, kind, parameter, first, second, keys_there, ratio_there, seed_there) refl
+    let front = v.magic ++ kind_bytes v number b in
+    let bytes = front ++ (k ++ (r ++ (s ++ rest))) in
+    let long : length front ≡ 12 = length-append v.magic (kind_bytes v number b) ∙ omega (arith, known.magic, known.kind number b) in
+    let short : bytes ≡ fore v number b (k ++ (r ++ (s ++ rest))) = append_assoc v.magic (kind_bytes v number b) (k ++ (r ++ (s ++ rest))) in
+    let begun : magic_at v bytes ≡ Ok tt = rw short (magic_there v known number b (k ++ (r ++ (s ++ rest)))) in
+    let which : algorithm_at bytes ≡ Ok a = rw short (number_of_there v known a number b (k ++ (r ++ (s ++ rest))) kind) in
+    let parameter : parameter_at v bytes a ≡ Ok b = rw short (parameter_there w a number b (k ++ (r ++ (s ++ rest))) range) in
+    let few : keys ≤ MAX_KEYS = omega (arith, many, known.keys) in
+    let second : length (front ++ k) ≡ 16 = length-append front k ∙ ap (λ (n : ℕ). n + 4) long in
+    let third : length (front ++ (k ++ r)) ≡ 20 = length-append front (k ++ r) ∙ ap (λ (n : ℕ). n + 8) long in
+    let keys_there = number_there bytes 12 1 v.most_keys keys (item_there bytes front k (r ++ (s ++ rest)) 12 4 refl long refl) (omega (arith, few)) some many in
+    let ratio_there = number_there bytes 16 1000000 10000000 ratio (item_there bytes (front ++ k) r (s ++ rest) 16 4 (sym (append_assoc front k (r ++ (s ++ rest)))) second refl) (omega (arith, most)) least most in
+    let seed_there = number_there bytes 20 0 4294967295 seed (item_there bytes (front ++ (k ++ r)) s rest 20 4 (sym (append_assoc front (k ++ r) (s ++ rest))) third refl) fits (omega arith) (omega (arith, fits)) in
+    rw (header_parts v number b keys ratio seed rest, begun, which, parameter, keys_there, ratio_there, seed_there) refl
+
+-- a dump names its version
+named : (w : Version) (number b keys ratio seed : ℕ) (rest : List ℕ) → version_of (header (form_of w) number b keys ratio seed ++ rest) ≡ w
+unfolding header
+named version.One number b keys ratio seed rest = refl
+named version.Two number b keys ratio seed rest = refl
 
 -- ---- CHM
 
 abbrev chm_header : Chm → Header
 chm_header f = record { algorithm = algorithm.Chm; b = 0; keys = f.keys; ratio = f.ratio; seed = f.seed }
 
-chm_heading : (f : Chm) → IsChm f → heading_at version_1 (chm_dump version_1 f) ≡ Ok (chm_header f)
+chm_heading : (w : Version) (f : Chm) → IsChm f → f.keys ≤ (form_of w).most_keys → heading_at (form_of w) (chm_dump (form_of w) f) ≡ Ok (chm_header f)
 unfolding chm_dump
-chm_heading f is = heading_there algorithm.Chm 1 0 f.keys f.ratio f.seed (fields_image f.keys f.cells) refl (omega arith, omega arith) is.keys.0 is.keys.1 is.ratio.0 is.ratio.1 is.seed
+chm_heading w f is within = heading_there w algorithm.Chm 1 0 f.keys f.ratio f.seed (fields_image f.keys f.cells) refl (omega arith, omega arith) is.keys.0 within is.ratio.0 is.ratio.1 is.seed
 
 fields_same : (f : Chm) → IsChm f → fields_image f.keys f.cells ≡ list_of (fields_byte (width_of f.keys) f.cells) (fields_len (width_of f.keys) (chm_size f.keys f.ratio))
 unfolding fields_image
@@ -100,20 +148,20 @@ fields_sound : (f : Chm) → IsChm f → fields_fault (width_of f.keys) (chm_siz
 fields_sound f is =
     subst (λ (l : List ℕ). fields_fault (width_of f.keys) (chm_size f.keys f.ratio) f.keys l ≡ None) (sym (fields_same f is)) (rw is.size at (fields_fault-image f.keys f.cells (omega (arith, is.keys.1)) is.below))
 
-chm_image : (f : Chm) → IsChm f → fields_at (chm_dump version_1 f) 24 (chm_size f.keys f.ratio) f.keys ≡ Ok (fields_image f.keys f.cells)
+chm_image : (v : Form) → IsForm v → (f : Chm) → IsChm f → fields_at (chm_dump v f) 24 (chm_size f.keys f.ratio) f.keys ≡ Ok (fields_image f.keys f.cells)
 unfolding chm_dump
-chm_image f is =
-    image_there (chm_dump version_1 f) (header version_1 1 0 f.keys f.ratio f.seed) (fields_image f.keys f.cells) [] 24 _ _ _
-    (ap (λ (l : List ℕ). header version_1 1 0 f.keys f.ratio f.seed ++ l) (sym (append-nil (fields_image f.keys f.cells))))
-    (length-header 1 0 f.keys f.ratio f.seed)
+chm_image v known f is =
+    image_there (chm_dump v f) (header v 1 0 f.keys f.ratio f.seed) (fields_image f.keys f.cells) [] 24 _ _ _
+    (ap (λ (l : List ℕ). header v 1 0 f.keys f.ratio f.seed ++ l) (sym (append-nil (fields_image f.keys f.cells))))
+    (length-header v known 1 0 f.keys f.ratio f.seed)
     (length-fields_image f.keys f.cells ∙ ap (fields_len (width_of f.keys)) is.size)
     (fields_sound f is)
 
-chm_end : (f : Chm) → IsChm f → end_at (chm_dump version_1 f) (24 + fields_len (width_of f.keys) (chm_size f.keys f.ratio)) ≡ Ok tt
-chm_end f is = end_there (chm_dump version_1 f) _ (chm_dump_len f ∙ ap (λ (k : ℕ). 24 + fields_len (width_of f.keys) k) is.size)
+chm_end : (v : Form) → IsForm v → (f : Chm) → IsChm f → end_at (chm_dump v f) (24 + fields_len (width_of f.keys) (chm_size f.keys f.ratio)) ≡ Ok tt
+chm_end v known f is = end_there (chm_dump v f) _ (chm_dump_len v known f ∙ ap (λ (k : ℕ). 24 + fields_len (width_of f.keys) k) is.size)
 
-chm_spelling : (f : Chm) → IsChm f → chm_at (chm_dump version_1 f) (chm_header f) ≡ Ok f
-chm_spelling f is = chm_known (chm_dump version_1 f) (chm_header f) f.cells f is.keys.1 is.size is.below (chm_image f is ∙ ap Ok (fields_same f is)) (chm_end f is) (record { keys = refl; ratio = refl; seed = refl; cells = refl })
+chm_spelling : (v : Form) → IsForm v → (f : Chm) → IsChm f → chm_at (chm_dump v f) (chm_header f) ≡ Ok f
+chm_spelling v known f is = chm_known (chm_dump v f) (chm_header f) f.cells f is.keys.1 is.size is.below (chm_image v known f is ∙ ap Ok (fields_same f is)) (chm_end v known f is) (record { keys = refl; ratio = refl; seed = refl; cells = refl })
 
 -- ---- digits
 
@@ -130,16 +178,16 @@ digits_sound d p n cells some many size below =
 abbrev bdz_header : Bdz → Header
 bdz_header f = record { algorithm = algorithm.Bdz; b = f.shift; keys = f.keys; ratio = f.ratio; seed = f.seed }
 
-bdz_heading : (f : Bdz) → IsBdz f → heading_at version_1 (bdz_dump version_1 f) ≡ Ok (bdz_header f)
+bdz_heading : (w : Version) (f : Bdz) → IsBdz f → f.keys ≤ (form_of w).most_keys → heading_at (form_of w) (bdz_dump (form_of w) f) ≡ Ok (bdz_header f)
 unfolding bdz_dump
-bdz_heading f is =
-    heading_there algorithm.Bdz 2 f.shift f.keys f.ratio f.seed (packed_image 4 4 f.cells ++ ranks_image (sampled 3 f.shift f.cells)) refl is.shift is.keys.0 is.keys.1 is.ratio.0 is.ratio.1 is.seed
+bdz_heading w f is within =
+    heading_there w algorithm.Bdz 2 f.shift f.keys f.ratio f.seed (packed_image 4 4 f.cells ++ ranks_image (sampled 3 f.shift f.cells)) refl is.shift is.keys.0 within is.ratio.0 is.ratio.1 is.seed
 
-bdz_image : (f : Bdz) → IsBdz f → packed_at (bdz_dump version_1 f) 24 4 4 (bdz_size f.keys f.ratio) ≡ Ok (packed_image 4 4 f.cells)
+bdz_image : (v : Form) → IsForm v → (f : Bdz) → IsBdz f → packed_at (bdz_dump v f) 24 4 4 (bdz_size f.keys f.ratio) ≡ Ok (packed_image 4 4 f.cells)
 unfolding bdz_dump
-bdz_image f is =
-    image_there (bdz_dump version_1 f) (header version_1 2 f.shift f.keys f.ratio f.seed) (packed_image 4 4 f.cells) (ranks_image (sampled 3 f.shift f.cells)) 24 _ _ _ refl
-    (length-header 2 f.shift f.keys f.ratio f.seed)
+bdz_image v known f is =
+    image_there (bdz_dump v f) (header v 2 f.shift f.keys f.ratio f.seed) (packed_image 4 4 f.cells) (ranks_image (sampled 3 f.shift f.cells)) 24 _ _ _ refl
+    (length-header v known 2 f.shift f.keys f.ratio f.seed)
     (length-packed_image 4 4 f.cells ∙ ap (packed_len 4) is.size)
     (digits_sound 4 4 (bdz_size f.keys f.ratio) f.cells (lit< tt) (lit< tt) is.size is.below)
 
@@ -147,47 +195,47 @@ bdz_counted : (f : Bdz) → IsBdz f → counted (bdz_header f) f.cells ≡ Ok f
 unfolding counted
 bdz_counted f is = rw (eq-eqb _ _ is.busy) refl
 
-bdz_ranks : (f : Bdz) → IsBdz f → ranks_at (bdz_dump version_1 f) (24 + packed_len 4 (length f.cells)) (sampled 3 f.shift f.cells) ≡ Ok tt
+bdz_ranks : (v : Form) → IsForm v → (f : Bdz) → IsBdz f → ranks_at (bdz_dump v f) (24 + packed_len 4 (length f.cells)) (sampled 3 f.shift f.cells) ≡ Ok tt
 unfolding bdz_dump
-bdz_ranks f is =
-    let front = header version_1 2 f.shift f.keys f.ratio f.seed ++ packed_image 4 4 f.cells in
-    let long : length (header version_1 2 f.shift f.keys f.ratio f.seed ++ packed_image 4 4 f.cells) ≡ 24 + packed_len 4 (length f.cells) =
-    length-append (header version_1 2 f.shift f.keys f.ratio f.seed) (packed_image 4 4 f.cells) ∙ omega (arith, length-header 2 f.shift f.keys f.ratio f.seed, length-packed_image 4 4 f.cells) in
-    ranks_there (bdz_dump version_1 f) front (sampled 3 f.shift f.cells) [] (24 + packed_len 4 (length f.cells))
-    (sym (append_assoc (header version_1 2 f.shift f.keys f.ratio f.seed) (packed_image 4 4 f.cells) (ranks_image (sampled 3 f.shift f.cells))) ∙ ap (λ (l : List ℕ). front ++ l) (sym (append-nil (ranks_image (sampled 3 f.shift f.cells)))))
+bdz_ranks v known f is =
+    let front = header v 2 f.shift f.keys f.ratio f.seed ++ packed_image 4 4 f.cells in
+    let long : length (header v 2 f.shift f.keys f.ratio f.seed ++ packed_image 4 4 f.cells) ≡ 24 + packed_len 4 (length f.cells) =
+    length-append (header v 2 f.shift f.keys f.ratio f.seed) (packed_image 4 4 f.cells) ∙ omega (arith, length-header v known 2 f.shift f.keys f.ratio f.seed, length-packed_image 4 4 f.cells) in
+    ranks_there (bdz_dump v f) front (sampled 3 f.shift f.cells) [] (24 + packed_len 4 (length f.cells))
+    (sym (append_assoc (header v 2 f.shift f.keys f.ratio f.seed) (packed_image 4 4 f.cells) (ranks_image (sampled 3 f.shift f.cells))) ∙ ap (λ (l : List ℕ). front ++ l) (sym (append-nil (ranks_image (sampled 3 f.shift f.cells)))))
     long
 
-bdz_end : (f : Bdz) → end_at (bdz_dump version_1 f) (24 + packed_len 4 (length f.cells) + 4 * length (sampled 3 f.shift f.cells)) ≡ Ok tt
-bdz_end f = end_there (bdz_dump version_1 f) _ (bdz_dump_len f)
+bdz_end : (v : Form) → IsForm v → (f : Bdz) → end_at (bdz_dump v f) (24 + packed_len 4 (length f.cells) + 4 * length (sampled 3 f.shift f.cells)) ≡ Ok tt
+bdz_end v known f = end_there (bdz_dump v f) _ (bdz_dump_len v known f)
 
-bdz_spelling : (f : Bdz) → IsBdz f → bdz_at (bdz_dump version_1 f) (bdz_header f) ≡ Ok f
+bdz_spelling : (v : Form) → IsForm v → (f : Bdz) → IsBdz f → bdz_at (bdz_dump v f) (bdz_header f) ≡ Ok f
 unfolding ranked_at
-bdz_spelling f is =
-    bdz_known (bdz_dump version_1 f) (bdz_header f) f.cells is.size is.below (bdz_image f is ∙ ap Ok (digits_image 4 4 (bdz_size f.keys f.ratio) f.cells is.size))
-    ∙ rw (bdz_counted f is, bdz_ranks f is, bdz_end f) refl
+bdz_spelling v known f is =
+    bdz_known (bdz_dump v f) (bdz_header f) f.cells is.size is.below (bdz_image v known f is ∙ ap Ok (digits_image 4 4 (bdz_size f.keys f.ratio) f.cells is.size))
+    ∙ rw (bdz_counted f is, bdz_ranks v known f is, bdz_end v known f) refl
 
 -- ---- BDZ_PH
 
 abbrev bdz_ph_header : BdzPh → Header
 bdz_ph_header f = record { algorithm = algorithm.BdzPh; b = 0; keys = f.keys; ratio = f.ratio; seed = f.seed }
 
-bdz_ph_heading : (f : BdzPh) → IsBdzPh f → heading_at version_1 (bdz_ph_dump version_1 f) ≡ Ok (bdz_ph_header f)
+bdz_ph_heading : (w : Version) (f : BdzPh) → IsBdzPh f → f.keys ≤ (form_of w).most_keys → heading_at (form_of w) (bdz_ph_dump (form_of w) f) ≡ Ok (bdz_ph_header f)
 unfolding bdz_ph_dump
-bdz_ph_heading f is = heading_there algorithm.BdzPh 3 0 f.keys f.ratio f.seed (packed_image 3 5 f.cells) refl (omega arith, omega arith) is.keys.0 is.keys.1 is.ratio.0 is.ratio.1 is.seed
+bdz_ph_heading w f is within = heading_there w algorithm.BdzPh 3 0 f.keys f.ratio f.seed (packed_image 3 5 f.cells) refl (omega arith, omega arith) is.keys.0 within is.ratio.0 is.ratio.1 is.seed
 
-bdz_ph_image : (f : BdzPh) → IsBdzPh f → packed_at (bdz_ph_dump version_1 f) 24 3 5 (bdz_size f.keys f.ratio) ≡ Ok (packed_image 3 5 f.cells)
+bdz_ph_image : (v : Form) → IsForm v → (f : BdzPh) → IsBdzPh f → packed_at (bdz_ph_dump v f) 24 3 5 (bdz_size f.keys f.ratio) ≡ Ok (packed_image 3 5 f.cells)
 unfolding bdz_ph_dump
-bdz_ph_image f is =
-    image_there (bdz_ph_dump version_1 f) (header version_1 3 0 f.keys f.ratio f.seed) (packed_image 3 5 f.cells) [] 24 _ _ _
-    (ap (λ (l : List ℕ). header version_1 3 0 f.keys f.ratio f.seed ++ l) (sym (append-nil (packed_image 3 5 f.cells))))
-    (length-header 3 0 f.keys f.ratio f.seed)
+bdz_ph_image v known f is =
+    image_there (bdz_ph_dump v f) (header v 3 0 f.keys f.ratio f.seed) (packed_image 3 5 f.cells) [] 24 _ _ _
+    (ap (λ (l : List ℕ). header v 3 0 f.keys f.ratio f.seed ++ l) (sym (append-nil (packed_image 3 5 f.cells))))
+    (length-header v known 3 0 f.keys f.ratio f.seed)
     (length-packed_image 3 5 f.cells ∙ ap (packed_len 5) is.size)
     (digits_sound 3 5 (bdz_size f.keys f.ratio) f.cells (lit< tt) (lit< tt) is.size is.below)
 
-bdz_ph_spelling : (f : BdzPh) → IsBdzPh f → bdz_ph_at (bdz_ph_dump version_1 f) (bdz_ph_header f) ≡ Ok f
-bdz_ph_spelling f is =
-    bdz_ph_known (bdz_ph_dump version_1 f) (bdz_ph_header f) f.cells f is.size is.below (bdz_ph_image f is ∙ ap Ok (digits_image 3 5 (bdz_size f.keys f.ratio) f.cells is.size))
-    (end_there (bdz_ph_dump version_1 f) _ (bdz_ph_dump_len f ∙ ap (λ (k : ℕ). 24 + packed_len 5 k) is.size))
+bdz_ph_spelling : (v : Form) → IsForm v → (f : BdzPh) → IsBdzPh f → bdz_ph_at (bdz_ph_dump v f) (bdz_ph_header f) ≡ Ok f
+bdz_ph_spelling v known f is =
+    bdz_ph_known (bdz_ph_dump v f) (bdz_ph_header f) f.cells f is.size is.below (bdz_ph_image v known f is ∙ ap Ok (digits_image 3 5 (bdz_size f.keys f.ratio) f.cells is.size))
+    (end_there (bdz_ph_dump v f) _ (bdz_ph_dump_len v known f ∙ ap (λ (k : ℕ). 24 + packed_len 5 k) is.size))
     (record { keys = refl; ratio = refl; seed = refl; cells = refl })
 
 -- ---- BRZ
@@ -195,9 +243,9 @@ bdz_ph_spelling f is =
 abbrev brz_header : Brz → Header
 brz_header f = record { algorithm = algorithm.Brz; b = f.width; keys = f.keys; ratio = f.ratio; seed = f.split }
 
-brz_heading : (f : Brz) → IsBrz f → heading_at version_1 (brz_dump version_1 f) ≡ Ok (brz_header f)
+brz_heading : (w : Version) (f : Brz) → IsBrz f → f.keys ≤ (form_of w).most_keys → f.width ≤ (form_of w).most_width → heading_at (form_of w) (brz_dump (form_of w) f) ≡ Ok (brz_header f)
 unfolding brz_dump
-brz_heading f is = heading_there algorithm.Brz 4 f.width f.keys f.ratio f.split (buckets_image version_1 f.buckets) refl is.width is.keys.0 is.keys.1 is.ratio.0 is.ratio.1 is.split
+brz_heading w f is within wide = heading_there w algorithm.Brz 4 f.width f.keys f.ratio f.split (buckets_image (form_of w) f.buckets) refl (omega (arith, (form_facts w).least, is.width.0), wide) is.keys.0 within is.ratio.0 is.ratio.1 is.split
 
 seed_within : (size seed : ℕ) → (size ≡ 0 → seed ≡ 0) → seed < 2 ^ 32 → seed ≤ most_seed size
 seed_within size seed none fits = go (cases_eq size 0) where
@@ -206,40 +254,40 @@ seed_within size seed none fits = go (cases_eq size 0) where
   go (inr other) = let test : eqb size 0 ≡ false = ne_eqb size 0 other in rw test (omega (arith, fits))
 
 -- a bucket that stands at an offset
-record IsThere (bytes front after : List ℕ) (at : ℕ) (b : Bucket) : Type 0 where
-  is : bytes ≡ front ++ (to_le_bytes w8 b.size ++ (to_le_bytes w32 b.seed ++ (packed_image 4 4 b.cells ++ after)))
+record IsThere (v : Form) (bytes front after : List ℕ) (at : ℕ) (b : Bucket) : Type 0 where
+  is : bytes ≡ front ++ (to_le_bytes v.size b.size ++ (to_le_bytes w32 b.seed ++ (packed_image 4 4 b.cells ++ after)))
   long : length front ≡ at
 
-there_size : (bytes front after : List ℕ) (at : ℕ) (f : Brz) (b : Bucket) (left : ℕ) → IsThere bytes front after at b → b.size ≤ MAX_BUCKET → is_off f.keys (keys_in f.buckets + b.size) left ≡ false → size_at version_1 bytes at f left ≡ Ok b.size
+there_size : (v : Form) → IsForm v → (bytes front after : List ℕ) (at : ℕ) (f : Brz) (b : Bucket) (left : ℕ) → IsThere v bytes front after at b → b.size ≤ v.most_size → is_off f.keys (keys_in f.buckets + b.size) left ≡ false → size_at v bytes at f left ≡ Ok b.size
 unfolding size_at
-there_size bytes front after at f b left there few fits =
-    let item = item_there bytes front (to_le_bytes w8 b.size) (to_le_bytes w32 b.seed ++ (packed_image 4 4 b.cells ++ after)) at 1 there.is there.long refl in
-    let size = byte_there bytes at 0 MAX_BUCKET b.size item (omega (arith, few)) (omega arith) few in
+there_size v known bytes front after at f b left there few fits =
+    let item = item_there bytes front (to_le_bytes v.size b.size) (to_le_bytes w32 b.seed ++ (packed_image 4 4 b.cells ++ after)) at (byte_len v.size) there.is there.long (known.size.long b.size) in
+    let size = field_there v.size known.size bytes at 0 v.most_size b.size item (omega (arith, few, known.size_fits)) (omega arith) few in
     rw (size, fits) refl
 
-there_seed : (bytes front after : List ℕ) (at : ℕ) (b : Bucket) → IsThere bytes front after at b → (b.size ≡ 0 → b.seed ≡ 0) → b.seed < 2 ^ 32 → field_at w32 bytes (at + 1) 0 (most_seed b.size) ≡ Ok b.seed
-there_seed bytes front after at b there none fits =
+there_seed : (v : Form) → IsForm v → (bytes front after : List ℕ) (at : ℕ) (b : Bucket) → IsThere v bytes front after at b → (b.size ≡ 0 → b.seed ≡ 0) → b.seed < 2 ^ 32 → field_at w32 bytes (at + byte_len v.size) 0 (most_seed b.size) ≡ Ok b.seed
+there_seed v known bytes front after at b there none fits =
     let rest : List ℕ = packed_image 4 4 b.cells ++ after in
-    let cut : bytes ≡ (front ++ to_le_bytes w8 b.size) ++ (to_le_bytes w32 b.seed ++ rest) = there.is ∙ sym (append_assoc front (to_le_bytes w8 b.size) (to_le_bytes w32 b.seed ++ rest)) in
-    let long : length (front ++ to_le_bytes w8 b.size) ≡ at + 1 = length-append front (to_le_bytes w8 b.size) ∙ ap (λ (k : ℕ). k + 1) there.long in
-    number_there bytes (at + 1) 0 (most_seed b.size) b.seed (item_there bytes (front ++ to_le_bytes w8 b.size) (to_le_bytes w32 b.seed) rest (at + 1) 4 cut long refl) fits (omega arith) (seed_within b.size b.seed none fits)
+    let cut : bytes ≡ (front ++ to_le_bytes v.size b.size) ++ (to_le_bytes w32 b.seed ++ rest) = there.is ∙ sym (append_assoc front (to_le_bytes v.size b.size) (to_le_bytes w32 b.seed ++ rest)) in
+    let long : length (front ++ to_le_bytes v.size b.size) ≡ at + byte_len v.size = length-append front (to_le_bytes v.size b.size) ∙ omega (arith, there.long, known.size.long b.size) in
+    number_there bytes (at + byte_len v.size) 0 (most_seed b.size) b.seed (item_there bytes (front ++ to_le_bytes v.size b.size) (to_le_bytes w32 b.seed) rest (at + byte_len v.size) 4 cut long refl) fits (omega arith) (seed_within b.size b.seed none fits)
 
-there_crumbs : (bytes front after : List ℕ) (at n : ℕ) (b : Bucket) → IsThere bytes front after at b → length b.cells ≡ n → AllBelow 4 b.cells → count_by (is_busy 3) b.cells ≡ b.size → crumbs_at bytes (at + 5) b.size n ≡ Ok b.cells
+there_crumbs : (v : Form) → IsForm v → (bytes front after : List ℕ) (at n : ℕ) (b : Bucket) → IsThere v bytes front after at b → length b.cells ≡ n → AllBelow 4 b.cells → count_by (is_busy 3) b.cells ≡ b.size → crumbs_at bytes (at + (byte_len v.size + 4)) b.size n ≡ Ok b.cells
 unfolding crumbs_at
-there_crumbs bytes front after at n b there size below busy =
+there_crumbs v known bytes front after at n b there size below busy =
     let seed : List ℕ = to_le_bytes w32 b.seed in
     let image : List ℕ = packed_image 4 4 b.cells in
-    let before : List ℕ = front ++ (to_le_bytes w8 b.size ++ seed) in
-    let cut : bytes ≡ before ++ (image ++ after) = there.is ∙ sym (append_assoc front (to_le_bytes w8 b.size ++ seed) (image ++ after)) in
-    let long : length before ≡ at + 5 = length-append front (to_le_bytes w8 b.size ++ seed) ∙ ap (λ (k : ℕ). k + 5) there.long in
-    let whole = image_there bytes before image after (at + 5) (packed_len 4 n) (λ i. i / 4) (packed_fault 4 4 n) cut long (length-packed_image 4 4 b.cells ∙ ap (packed_len 4) size) (digits_sound 4 4 n b.cells (lit< tt) (lit< tt) size below) in
+    let before : List ℕ = front ++ (to_le_bytes v.size b.size ++ seed) in
+    let cut : bytes ≡ before ++ (image ++ after) = there.is ∙ ap (λ (l : List ℕ). front ++ l) (sym (append_assoc (to_le_bytes v.size b.size) seed (image ++ after))) ∙ sym (append_assoc front (to_le_bytes v.size b.size ++ seed) (image ++ after)) in
+    let long : length before ≡ at + (byte_len v.size + 4) = length-append front (to_le_bytes v.size b.size ++ seed) ∙ omega (arith, there.long, length-append (to_le_bytes v.size b.size) seed, known.size.long b.size) in
+    let whole = image_there bytes before image after (at + (byte_len v.size + 4)) (packed_len 4 n) (λ i. i / 4) (packed_fault 4 4 n) cut long (length-packed_image 4 4 b.cells ∙ ap (packed_len 4) size) (digits_sound 4 4 n b.cells (lit< tt) (lit< tt) size below) in
     let cells : packed_cells 4 4 n image ≡ b.cells = packed_of_image 4 4 n b.cells image (lit< tt) (lit< tt) size below (digits_image 4 4 n b.cells size) in
     rw (whole, cells, eq-eqb _ _ busy) refl
 
-bucket_there : (bytes front after : List ℕ) (at : ℕ) (f : Brz) (b : Bucket) (left : ℕ) → IsThere bytes front after at b → IsBucket f.ratio b → is_off f.keys (keys_in f.buckets + b.size) left ≡ false → bucket_at version_1 bytes at f left ≡ Ok b
+bucket_there : (v : Form) → IsForm v → (bytes front after : List ℕ) (at : ℕ) (f : Brz) (b : Bucket) (left : ℕ) → IsThere v bytes front after at b → IsBucket f.ratio b → b.size ≤ v.most_size → is_off f.keys (keys_in f.buckets + b.size) left ≡ false → bucket_at v bytes at f left ≡ Ok b
 unfolding bucket_at
-bucket_there bytes front after at f b left there valid fits =
-    rw (there_size bytes front after at f b left there valid.few fits, there_seed bytes front after at b there valid.unseeded valid.seed, there_crumbs bytes front after at (bucket_cells b.size f.ratio) b there valid.cells valid.below valid.busy) refl
+bucket_there v known bytes front after at f b left there valid few fits =
+    rw (there_size v known bytes front after at f b left there few fits, there_seed v known bytes front after at b there valid.unseeded valid.seed, there_crumbs v known bytes front after at (bucket_cells b.size f.ratio) b there valid.cells valid.below valid.busy) refl
 
 not_off : (keys held more left : ℕ) → held + more ≡ keys → (left ≡ 0 → more ≡ 0) → is_off keys held left ≡ false
 not_off keys held more left all none = go (cases_eq left 0) where
@@ -260,37 +308,59 @@ keys_none (b ∷ bs) is = absurd (omega (arith, is))
 abbrev with_buckets : Brz → List Bucket → Brz
 with_buckets f bs = record f { buckets = f.buckets ++ bs }
 
-rest_there : (bytes front : List ℕ) (at : ℕ) (f : Brz) (later : List Bucket) → bytes ≡ front ++ buckets_image version_1 later → length front ≡ at → All (IsBucket f.ratio) later → keys_in f.buckets + keys_in later ≡ f.keys → rest_at version_1 bytes at (length later) f ≡ Ok (with_buckets f later)
+rest_there : (v : Form) → IsForm v → (bytes front : List ℕ) (at : ℕ) (f : Brz) (later : List Bucket) → bytes ≡ front ++ buckets_image v later → length front ≡ at → All (IsBucket f.ratio) later → All (λ bucket. bucket.size ≤ v.most_size) later → keys_in f.buckets + keys_in later ≡ f.keys → rest_at v bytes at (length later) f ≡ Ok (with_buckets f later)
 unfolding rest_at buckets_image bucket_image
-rest_there bytes front at f [] is long each all =
+rest_there v known bytes front at f [] is long each few all =
     let ended = end_there bytes at (ap length (is ∙ append-nil front) ∙ long) in
     rw ended (ap (λ (bs : List Bucket). let r : Result Brz LoadFault = Ok (record f { buckets = bs }) in r) (sym (append-nil f.buckets)))
-rest_there bytes front at f (b ∷ later) is long each all =
+rest_there v known bytes front at f (b ∷ later) is long each few all =
     let seed : List ℕ = to_le_bytes w32 b.seed in
     let image : List ℕ = packed_image 4 4 b.cells in
-    let after : List ℕ = flat_map (bucket_image version_1) later in
-    let there : IsThere bytes front after at b = record { is = is ∙ ap (λ (l : List ℕ). front ++ (to_le_bytes w8 b.size ++ l)) (append_assoc seed image after); long = long } in
+    let after : List ℕ = flat_map (bucket_image v) later in
+    let there : IsThere v bytes front after at b = record { is = is ∙ ap (λ (l : List ℕ). front ++ l) (append_assoc (to_le_bytes v.size b.size) (seed ++ image) after ∙ ap (λ (l : List ℕ). to_le_bytes v.size b.size ++ l) (append_assoc seed image after)); long = long } in
     let size : keys_in (b ∷ later) ≡ b.size + keys_in later = sum_by-cons (λ (x : Bucket). x.size) b later in
     let pushed : keys_in (f.buckets ++ b ∷ []) ≡ keys_in f.buckets + b.size = sum_by_push (λ (x : Bucket). x.size) f.buckets b in
     let fits = not_off f.keys (keys_in f.buckets + b.size) (keys_in later) (length later) (omega (arith, all, size)) (keys_none later) in
-    let item = bucket_there bytes front after at f b (length later) there (All-head (IsBucket f.ratio) b later each) fits in
-    let next = rest_there bytes (front ++ bucket_image version_1 b) (at + bucket_len version_1 b) (with_bucket f b) later (is ∙ sym (append_assoc front (bucket_image version_1 b) after)) (length-append front (bucket_image version_1 b) ∙ omega (arith, long, length-bucket_image b)) (All-tail (IsBucket f.ratio) b later each) (omega (arith, all, size, pushed)) in
+    let small : b.size ≤ v.most_size = All-head (λ (x : Bucket). x.size ≤ v.most_size) b later few in
+    let item = bucket_there v known bytes front after at f b (length later) there (All-head (IsBucket f.ratio) b later each) small fits in
+    let next = rest_there v known bytes (front ++ bucket_image v b) (at + bucket_len v b) (with_bucket f b) later (is ∙ sym (append_assoc front (bucket_image v b) after)) (length-append front (bucket_image v b) ∙ omega (arith, long, length-bucket_image v known b)) (All-tail (IsBucket f.ratio) b later each) (All-tail (λ (x : Bucket). x.size ≤ v.most_size) b later few) (omega (arith, all, size, pushed)) in
     rw item (next ∙ ap (λ (bs : List Bucket). let r : Result Brz LoadFault = Ok (record f { buckets = bs }) in r) (append_assoc f.buckets (b ∷ []) later))
 
-brz_spelling : (f : Brz) → IsBrz f → brz_at version_1 (brz_dump version_1 f) (brz_header f) ≡ Ok f
+brz_spelling : (v : Form) → IsForm v → (f : Brz) → IsBrz f → All (λ bucket. bucket.size ≤ v.most_size) f.buckets → brz_at v (brz_dump v f) (brz_header f) ≡ Ok f
 unfolding brz_at brz_dump
-brz_spelling f is =
-    let all = rest_there (brz_dump version_1 f) (header version_1 4 f.width f.keys f.ratio f.split) 24 (no_buckets (brz_header f)) f.buckets refl (length-header 4 f.width f.keys f.ratio f.split) is.each (omega (arith, is.all)) in
-    subst (λ (k : ℕ). rest_at version_1 (brz_dump version_1 f) 24 k (no_buckets (brz_header f)) ≡ Ok f) is.count all
+brz_spelling v known f is few =
+    let all = rest_there v known (brz_dump v f) (header v 4 f.width f.keys f.ratio f.split) 24 (no_buckets (brz_header f)) f.buckets refl (length-header v known 4 f.width f.keys f.ratio f.split) is.each few (omega (arith, is.all)) in
+    subst (λ (k : ℕ). rest_at v (brz_dump v f) 24 k (no_buckets (brz_header f)) ≡ Ok f) is.count all
 
 -- ---- functions of any algorithm
 
-pub spelling_of-dump_of : (f : Func) → IsFunction f → spelling_of (dump_of f) ≡ Ok f
+pub version_of-dump_by : (w : Version) (f : Func) → version_of (dump_by (form_of w) f) ≡ w
+unfolding chm_dump bdz_dump bdz_ph_dump brz_dump
+version_of-dump_by w (func.Chm f) = named w 1 0 f.keys f.ratio f.seed _
+version_of-dump_by w (func.Bdz f) = named w 2 f.shift f.keys f.ratio f.seed _
+version_of-dump_by w (func.BdzPh f) = named w 3 0 f.keys f.ratio f.seed _
+version_of-dump_by w (func.Brz f) = named w 4 f.width f.keys f.ratio f.split _
+
+spelling_by-dump_by : (w : Version) (f : Func) → IsFunction f → HasDump (form_of w) f → spelling_by (form_of w) (dump_by (form_of w) f) ≡ Ok f
 unfolding spelling_by
-spelling_of-dump_of (func.Chm f) is = rw (chm_heading f is, chm_spelling f is) refl
-spelling_of-dump_of (func.Bdz f) is = rw (bdz_heading f is, bdz_spelling f is) refl
-spelling_of-dump_of (func.BdzPh f) is = rw (bdz_ph_heading f is, bdz_ph_spelling f is) refl
-spelling_of-dump_of (func.Brz f) is = rw (brz_heading f is, brz_spelling f is) refl
+spelling_by-dump_by w (func.Chm f) is within = rw (chm_heading w f is within, chm_spelling (form_of w) (form_facts w) f is) refl
+spelling_by-dump_by w (func.Bdz f) is within = rw (bdz_heading w f is within, bdz_spelling (form_of w) (form_facts w) f is) refl
+spelling_by-dump_by w (func.BdzPh f) is within = rw (bdz_ph_heading w f is within, bdz_ph_spelling (form_of w) (form_facts w) f is) refl
+spelling_by-dump_by w (func.Brz f) is within = rw (brz_heading w f is within.0 within.1, brz_spelling (form_of w) (form_facts w) f is within.2) refl
+
+-- a dump spells its function
+pub spelling_of-dump_by : (w : Version) (f : Func) → IsFunction f → HasDump (form_of w) f → spelling_of (dump_by (form_of w) f) ≡ Ok f
+spelling_of-dump_by w f is within = ap (λ (u : Version). spelling_by (form_of u) (dump_by (form_of w) f)) (version_of-dump_by w f) ∙ spelling_by-dump_by w f is within
+
+-- each function has a dump of version 2
+pub has_dump : (f : Func) → IsFunction f → HasDump version_2 f
+has_dump (func.Chm f) is = is.keys.1
+has_dump (func.Bdz f) is = is.keys.1
+has_dump (func.BdzPh f) is = is.keys.1
+has_dump (func.Brz f) is = (is.keys.1, is.width.1, All-weaker (IsBucket f.ratio) (λ (b : Bucket). b.size ≤ MAX_BUCKET) (λ b valid. valid.few) f.buckets is.each)
+
+pub spelling_of-dump_of : (f : Func) → IsFunction f → spelling_of (dump_of f) ≡ Ok f
+spelling_of-dump_of f is = spelling_of-dump_by version.Two f is (has_dump f is)
 
 -- equal dumps come from equal functions
 pub same_from_dump : (f g : Func) → IsFunction f → IsFunction g → dump_of f ≡ dump_of g → f ≡ g

@@ -1,6 +1,6 @@
 -- The dumps of functions of all algorithms, in the form of a version: a header of 24 bytes, and the image of the cells, or of the
 -- buckets. Numbers are little-endian.
-use Rattle.std.specs.Prelude.{ℕ, List, [], ◌∷◌, ◌++◌, ◌+◌, ◌-◌, length, replicate}
+use Rattle.std.specs.Prelude.{ℕ, List, [], ◌∷◌, ◌++◌, ◌+◌, ◌-◌, ◌≤◌, All, length, replicate}
 use Rattle.std.specs.Int.{byte_len, to_le_bytes, w32}
 use Rattle.std.specs.List.{concat, flat_map}
 use Rattle.cm_bdz.specs.Functions.{Bdz, BdzPh}
@@ -12,7 +12,8 @@ use Rattle.cm_spec.specs.Image.{packed_len, packed_byte}
 use Rattle.cm_spec.specs.Lists.{list_of}
 use Rattle.cm_func.specs.declared.function.Func.{Func}
 use Rattle.cm_func.specs.declared.function.Func.TheVariants as func
-use Rattle.cm_dump.specs.Forms.{Form, version_1}
+use Rattle.cm_dump.specs.declared.versions.Version.TheVariants as version
+use Rattle.cm_dump.specs.Forms.{Form, form_of, version_1}
 
 -- the algorithm's number and its parameter b, in four bytes, of which the others are zero
 abbrev pub kind_bytes : Form → ℕ → ℕ → List ℕ
@@ -62,6 +63,17 @@ dump_by v (func.Bdz f) = bdz_dump v f
 dump_by v (func.BdzPh f) = bdz_ph_dump v f
 dump_by v (func.Brz f) = brz_dump v f
 
--- the dump that is written
+-- the dump that is written, in version 2
 abbrev pub dump_of : Func → List ℕ
-dump_of f = dump_by version_1 f
+dump_of f = dump_by (form_of version.Two) f
+
+-- the numbers of a function are within the limits of a version
+abbrev pub HasDump : Form → Func → Type 0
+HasDump v (func.Chm f) = f.keys ≤ v.most_keys
+HasDump v (func.Bdz f) = f.keys ≤ v.most_keys
+HasDump v (func.BdzPh f) = f.keys ≤ v.most_keys
+HasDump v (func.Brz f) = (f.keys ≤ v.most_keys) × (f.width ≤ v.most_width) × All (λ bucket. bucket.size ≤ v.most_size) f.buckets
+
+-- a function that has a dump of version 1
+abbrev pub HasDump1 : Func → Type 0
+HasDump1 f = HasDump version_1 f

@@ -8,7 +8,6 @@ use Rattle.cm_dump_items.specs.Reading.{◌>>=◌, item_at, field_at, zeros_at}
 use Rattle.cm_dump.specs.declared.front.Algorithm.{Algorithm}
 use Rattle.cm_dump.specs.declared.front.Algorithm.TheVariants as algorithm
 use Rattle.cm_dump.specs.declared.front.Header.{Header}
-use Rattle.cm_dump.specs.declared.front.Kind.{Kind}
 use Rattle.cm_dump.specs.Forms.{Form}
 
 -- the first bytes of every dump of a version
@@ -46,21 +45,26 @@ most_b v algorithm.Brz = v.most_width
 abbrev pub IsParameter : Form → Algorithm → ℕ → Type 0
 IsParameter v a b = (least_b v a ≤ b) × (b ≤ most_b v a)
 
--- the magic, the algorithm's number, and its parameter b between zeros
-unfoldable pub kind_at : Form → List ℕ → Result Kind LoadFault
-kind_at v bytes = do
-  begun ← magic_at v bytes
-  a ← algorithm_at bytes
+-- the parameter b of an algorithm between zeros
+unfoldable pub parameter_at : Form → List ℕ → Algorithm → Result ℕ LoadFault
+parameter_at v bytes a = do
   before ← zeros_at bytes 9 (v.b_at - 9)
   b ← field_at v.b bytes v.b_at (least_b v a) (most_b v a)
   after ← zeros_at bytes (v.b_at + byte_len v.b) (12 - (v.b_at + byte_len v.b))
-  Ok (record { algorithm = a; b = b })
+  Ok b
 
--- the kind, the number of keys, the ratio in millionths and the seed
-unfoldable pub heading_at : Form → List ℕ → Result Header LoadFault
-heading_at v bytes = do
-  kind ← kind_at v bytes
+-- what follows the magic: the algorithm's number, its parameter b, the number of keys, the ratio in millionths and the seed
+unfoldable pub header_at : Form → List ℕ → Result Header LoadFault
+header_at v bytes = do
+  a ← algorithm_at bytes
+  b ← parameter_at v bytes a
   keys ← field_at w32 bytes 12 1 v.most_keys
   ratio ← field_at w32 bytes 16 1000000 10000000
   seed ← field_at w32 bytes 20 0 4294967295
-  Ok (record { algorithm = kind.algorithm; b = kind.b; keys = keys; ratio = ratio; seed = seed })
+  Ok (record { algorithm = a; b = b; keys = keys; ratio = ratio; seed = seed })
+
+-- the magic, and the rest of the header
+unfoldable pub heading_at : Form → List ℕ → Result Header LoadFault
+heading_at v bytes = do
+  begun ← magic_at v bytes
+  header_at v bytes

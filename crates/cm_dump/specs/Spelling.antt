@@ -21,7 +21,7 @@ use Rattle.cm_dump.specs.declared.front.Algorithm.TheVariants as algorithm
 use Rattle.cm_dump.specs.declared.front.Header.{Header}
 use Rattle.cm_func.specs.declared.function.Func.{Func}
 use Rattle.cm_func.specs.declared.function.Func.TheVariants as func
-use Rattle.cm_dump.specs.Forms.{Form, version_1}
+use Rattle.cm_dump.specs.Forms.{Form, form_of, version_of}
 use Rattle.cm_dump.specs.Headings.{heading_at}
 use Rattle.cm_dump.specs.declared.header.TheConstants.{HEADER_LEN}
 
@@ -133,12 +133,12 @@ body_at v bytes h algorithm.Brz = do
   f ← brz_at v bytes h
   Ok (func.Brz f)
 
--- the function whose dump the bytes are, or the first fault of the bytes
+-- the function whose dump of a version the bytes are, or the first fault of the bytes
 unfoldable pub spelling_by : Form → List ℕ → Result Func LoadFault
 spelling_by v bytes = do
   h ← heading_at v bytes
   body_at v bytes h h.algorithm
 
--- the same of the dumps that are read
+-- the same by the version that the bytes name
 abbrev pub spelling_of : List ℕ → Result Func LoadFault
-spelling_of bytes = spelling_by version_1 bytes
+spelling_of bytes = spelling_by (form_of (version_of bytes)) bytes

@@ -3,21 +3,28 @@ ghost use Rattle.std.specs.Prelude.{◌≡◌, ℕ, List, Ok};
 ghost use Rattle.cm_bits.specs.Bound.{AllBelow};
 ghost use Rattle.cm_spec.specs.Chm.{Chm};
 ghost use Rattle.cm_spec.specs.Dump.{chm_dump};
-ghost use Rattle.cm_dump.specs.Dumps.{dump_of};
+ghost use Rattle.cm_dump.specs.Dumps.{HasDump1, dump_by, dump_of};
+ghost use Rattle.cm_dump.specs.Forms.{form_of, version_of};
+ghost use Rattle.cm_dump.specs.declared.versions.Version.{Version};
+ghost use Rattle.cm_dump.specs.declared.versions.Version.TheVariants as version;
 ghost use Rattle.cm_func.specs.Functions.{IsFunction};
 ghost use Rattle.cm_dump.specs.Spelling.{spelling_of};
 ghost use Rattle.cm_func.specs.declared.function.Func.{Func};
 ghost use Rattle.cm_func.specs.declared.function.Func.TheVariants as func;
 
-/// The dump of a function spells this function, and so equal dumps come from equal functions. Bytes that spell a function are
-/// its dump, and what they spell keeps all that a function does.
+/// The dump of a function spells this function, in version 2 and, if it has one, in version 1, and so equal dumps come from equal
+/// functions. A dump names its version. Bytes that spell a function are its dump in the version that they name, and what they spell keeps
+/// all that a function does.
 pub fn dumps_spell()
     ensures spelling { (f : Func) → IsFunction f → spelling_of (dump_of f) ≡ Ok f }
+    ensures spelling_1 { (f : Func) → IsFunction f → HasDump1 f → spelling_of (dump_by (form_of version.One) f) ≡ Ok f }
     ensures same { (f g : Func) → IsFunction f → IsFunction g → dump_of f ≡ dump_of g → f ≡ g }
-    ensures dump { (bytes : List ℕ) (f : Func) → AllBelow 256 bytes → spelling_of bytes ≡ Ok f → (dump_of f ≡ bytes) × IsFunction f }
+    ensures version { (w : Version) (f : Func) → version_of (dump_by (form_of w) f) ≡ w }
+    ensures dump { (bytes : List ℕ) (f : Func) → AllBelow 256 bytes → spelling_of bytes ≡ Ok f → (dump_by (form_of (version_of bytes)) f ≡ bytes) × IsFunction f }
+    ensures dump_1 { (bytes : List ℕ) (f : Func) → AllBelow 256 bytes → spelling_of bytes ≡ Ok f → version_of bytes ≡ version.One → HasDump1 f }
 {}
 
-/// The dump of a CHM function is the one of the worked examples.
+/// The dump of version 1 of a CHM function is the one of the worked examples.
 pub fn chm_dumps()
-    ensures { (f : Chm) → dump_of (func.Chm f) ≡ chm_dump f }
+    ensures { (f : Chm) → dump_by (form_of version.One) (func.Chm f) ≡ chm_dump f }
 {}

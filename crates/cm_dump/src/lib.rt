@@ -9,9 +9,11 @@ pub mod laws;
 mod ranks;
 mod reader;
 mod rest;
+mod versions;
 mod writer;
 
-pub use crate::reader::load;
+pub use crate::reader::{Loaded, load, load_versioned};
+pub use crate::versions::Version;
 pub use crate::writer::{save, saved_len};
 pub use cm_dump_items::LoadFault;
 pub use cm_func::Func;

@@ -8,16 +8,17 @@ ghost use Rattle.cm_spec.specs.Bdz.{bdz_size};
 ghost use Rattle.cm_spec.specs.Cells.{is_busy};
 ghost use Rattle.cm_spec.specs.Image.{packed_len};
 ghost use Rattle.cm_spec.specs.Rule.{IsRatio};
-ghost use Rattle.cm_dump.specs.Forms.{version_1};
-ghost use Rattle.cm_dump.specs.Headings.{heading_at};
+ghost use Rattle.cm_dump.specs.Forms.{form_of, version_2, version_of};
+ghost use Rattle.cm_dump.specs.Headings.{IsParameter, heading_at};
 ghost use Rattle.cm_func.specs.Functions.{IsBdz, IsBdzPh, IsChm, IsFunction};
-ghost use Rattle.cm_dump.specs.Spelling.{bdz_at, bdz_ph_at, chm_at, counted, ranked_at, spelling_of};
+ghost use Rattle.cm_dump.specs.Spelling.{bdz_at, bdz_ph_at, body_at, chm_at, counted, ranked_at, spelling_of};
 ghost use Rattle.cm_dump.specs.declared.header.TheConstants.{HEADER_LEN};
 
-use crate::front::{Algorithm, Header, read_header};
+use crate::front::{Algorithm, Header, read_header, read_version};
 use crate::header::HEADER_LEN;
 use crate::ranks::read_ranks;
 use crate::rest::load_brz;
+use crate::versions::Version;
 use crate::{Func, LoadFault};
 use cm_algo_scheme::{Built, Scheme};
 use cm_bdz::{Bdz, BdzPh, BdzPhScheme, BdzScheme, PartsFault};
@@ -73,7 +74,7 @@ fn count_cells(alloc: Global, header: Header, cells: Crumbs) -> Result<Bdz, Load
         seed: header.seed,
         cells,
     };
-    match Bdz::from_built(alloc, built, header.b) {
+    match Bdz::from_built(alloc, built, header.b as u8) {
         Ok(bdz) => Ok(bdz),
         Err(PartsFault::Memory) => Err(LoadFault::Memory),
         Err(PartsFault::BadCount) => Err(LoadFault::BadCount { at: HEADER_LEN }),
@@ -162,19 +163,22 @@ fn load_bdz_ph<S: Source>(alloc: Global, source: &mut S, header: Header) -> Resu
     }
 }
 
-/// Loads a function from a source at its start: the one whose dump all the bytes are. Returns `Read` exactly if the source fails, and
-/// `Memory` only if memory runs out after a header without a fault. Any other error is the first fault of the bytes. Memory is allocated
-/// as bytes are read, whatever the header claims.
-#[tactic(auto, unfolding(crate::specs::Spelling::spelling_by))]
-pub fn load<S: Source>(alloc: Global, source: &mut S) -> Result<Func, LoadFault>
-    requires start { ForSome (S.told source.old) (λ _. S.place source.old ≡ 0) }
+/// The function of a header of a version, whose dump ends with the source.
+fn load_body<S: Source>(
+    alloc: Global,
+    source: &mut S,
+    version: Version,
+    header: Header,
+) -> Result<Func, LoadFault>
+    requires parameter { IsParameter version_2 header.algorithm header.b }
+    requires keys { (1 ≤ header.keys) × (header.keys ≤ MAX_KEYS) }
+    requires ratio { IsRatio header.ratio }
+    requires at { IsAt (S.told source.old) (S.place source.old) HEADER_LEN }
     ensures told { S.told source.new ≡ S.told source.old }
-    ensures spelling { ForSome (S.told source.old) (λ bytes. Answers (λ f. f) result (spelling_of bytes)) }
+    ensures exact { ForSome (S.told source.old) (λ bytes. Answers (λ f. f) result (body_at (form_of version) bytes header header.algorithm)) }
     ensures valid { IfOk result (λ f. IsFunction f) }
     ensures cause { HasLoadCause (S.faults source.old) (S.faults source.new) result }
-    ensures memory { result ≡ Err LoadFault.Memory → ForSome (S.told source.old) (λ bytes. IsOk (heading_at version_1 bytes)) }
 {
-    let header = read_header(source)?;
     match header.algorithm {
         Algorithm::Chm => match load_chm(alloc, source, header) {
             Ok(chm) => Ok(Func::Chm(chm)),
@@ -188,9 +192,57 @@ pub fn load<S: Source>(alloc: Global, source: &mut S) -> Result<Func, LoadFault>
             Ok(bdz_ph) => Ok(Func::BdzPh(bdz_ph)),
             Err(fault) => Err(fault),
         },
-        Algorithm::Brz => match load_brz(alloc, source, header) {
+        Algorithm::Brz => match load_brz(alloc, source, version, header) {
             Ok(brz) => Ok(Func::Brz(brz)),
             Err(fault) => Err(fault),
         },
+    }
+}
+
+/// A function that was loaded, and the version of its dump.
+#[derive(Drop)]
+pub struct Loaded {
+    /// The function.
+    pub func: Func,
+    /// The version of the dump that it was read from.
+    pub version: Version,
+}
+
+/// Loads a function from a source at its start, and says in which version: the function whose dump of version 1 or 2 all the bytes are.
+/// Returns `Read` exactly if the source fails, and `Memory` only if memory runs out after a header without a fault. Any other error is
+/// the first fault of the bytes in the version that their magic names, and `BadMagic` if it names none. Memory is allocated as bytes are
+/// read, whatever the header claims.
+#[tactic(auto, unfolding(crate::specs::Spelling::spelling_by, crate::specs::Headings::heading_at))]
+pub fn load_versioned<S: Source>(alloc: Global, source: &mut S) -> Result<Loaded, LoadFault>
+    requires start { ForSome (S.told source.old) (λ _. S.place source.old ≡ 0) }
+    ensures told { S.told source.new ≡ S.told source.old }
+    ensures spelling { ForSome (S.told source.old) (λ bytes. Answers (λ l. l.func) result (spelling_of bytes)) }
+    ensures version { IfOk result (λ l. ForSome (S.told source.old) (λ bytes. l.version ≡ version_of bytes)) }
+    ensures valid { IfOk result (λ l. IsFunction l.func) }
+    ensures cause { HasLoadCause (S.faults source.old) (S.faults source.new) result }
+    ensures memory { result ≡ Err LoadFault.Memory → ForSome (S.told source.old) (λ bytes. IsOk (heading_at (form_of (version_of bytes)) bytes)) }
+{
+    let version = read_version(source)?;
+    let header = read_header(source, version)?;
+    match load_body(alloc, source, version, header) {
+        Ok(func) => Ok(Loaded { func, version }),
+        Err(fault) => Err(fault),
+    }
+}
+
+/// Loads a function from a source at its start: the one whose dump of version 1 or 2 all the bytes are. Returns `Read` exactly if the
+/// source fails, and `Memory` only if memory runs out after a header without a fault. Any other error is the first fault of the bytes in
+/// the version that their magic names, and `BadMagic` if it names none. Memory is allocated as bytes are read, whatever the header claims.
+pub fn load<S: Source>(alloc: Global, source: &mut S) -> Result<Func, LoadFault>
+    requires start { ForSome (S.told source.old) (λ _. S.place source.old ≡ 0) }
+    ensures told { S.told source.new ≡ S.told source.old }
+    ensures spelling { ForSome (S.told source.old) (λ bytes. Answers (λ f. f) result (spelling_of bytes)) }
+    ensures valid { IfOk result (λ f. IsFunction f) }
+    ensures cause { HasLoadCause (S.faults source.old) (S.faults source.new) result }
+    ensures memory { result ≡ Err LoadFault.Memory → ForSome (S.told source.old) (λ bytes. IsOk (heading_at (form_of (version_of bytes)) bytes)) }
+{
+    match load_versioned(alloc, source) {
+        Ok(loaded) => Ok(loaded.func),
+        Err(fault) => Err(fault),
     }
 }

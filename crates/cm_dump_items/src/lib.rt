@@ -9,6 +9,6 @@ mod piece;
 
 pub use crate::bulk::long_item;
 pub use crate::fault::LoadFault;
-pub use crate::items::{byte, end, fill, item, number};
-pub use crate::part::{byte_of, bytes_of, number_of};
+pub use crate::items::{byte, end, fill, item, number, short};
+pub use crate::part::{byte_of, bytes_of, number_of, short_of};
 pub use crate::piece::{ENOUGH, Piece};

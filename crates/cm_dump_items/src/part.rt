@@ -1,6 +1,6 @@
 //! The items of a part of a file that is in memory. Each is read at the start of the bytes that are left, whose offset is known.
 ghost use Rattle.std.specs.Prelude.{◌≡◌, ◌≢◌, ◌+◌, ◌<◌, ◌≤◌, ◌^◌, ℕ, List, Err, OnOk, IfOk, length};
-ghost use Rattle.std.specs.Int.{w8, w32};
+ghost use Rattle.std.specs.Int.{w8, w16, w32};
 ghost use Rattle.cm_dump_items.specs.Reading.{Answers, HasLoadCause, IsPart, item_at, field_at};
 ghost use Rattle.cm_dump_items.specs.declared.fault.LoadFault.{LoadFault};
 
@@ -53,6 +53,30 @@ pub fn byte_of(part: &[u8], at: u64, low: u8, high: u8) -> Result<u8, LoadFault>
     let b = buf[0];
     if low <= b && b <= high {
         Ok(b)
+    } else {
+        Err(LoadFault::BadField { at })
+    }
+}
+
+/// The number in the first two bytes of a part that begins at this offset, in bytes from 0; the lowest byte comes first. Returns
+/// `BadField` if it is not from `low` to `high`, and `Truncated` if the part has fewer bytes.
+#[tactic(auto, unfolding(crate::specs::Reading::field_at))]
+pub fn short_of(part: &[u8], at: u64, low: u16, high: u16) -> Result<u16, LoadFault>
+    requires room { at + length part.now < 2 ^ 63 }
+    ensures inside { OnOk result (2 ≤ length part.now) }
+    ensures range { IfOk result (λ x. (low ≤ x) × (x ≤ high)) }
+    ensures exact { (bytes : List ℕ) (room : ℕ) → 2 ≤ room → IsPart bytes at room part.now → Answers (λ x. x) result (field_at w16 bytes at low high) }
+    ensures cause { (n : ℕ) → HasLoadCause n n result }
+    ensures memory { result ≢ Err LoadFault.Memory }
+{
+    let mut buf = [0; 2];
+    match item_of(part, at, &mut buf) {
+        Ok(()) => {}
+        Err(fault) => return Err(fault),
+    }
+    let x = u16::from_le_bytes(buf);
+    if low <= x && x <= high {
+        Ok(x)
     } else {
         Err(LoadFault::BadField { at })
     }

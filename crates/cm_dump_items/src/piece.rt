@@ -16,7 +16,7 @@ const PIECE: usize = 16_384;
 
 /// How many bytes are in a piece at least after `refill`, unless the source ends with it. An item of at most this many bytes is there
 /// whole.
-pub const ENOUGH: usize = 1024;
+pub const ENOUGH: usize = 4096;
 
 /// The bytes that were read and not used yet: those of the buffer from `from` up to `until`. The source has ended if the buffer
 /// was not filled.

@@ -5,6 +5,7 @@ use Rattle.cm_dump_items.specs.Reading.{Fails, HasLoadCause, IsPart}
 use Rattle.cm_dump_items.specs.Unreads.{IsNext}
 use Rattle.cm_dump_items.specs.PieceLaws.{next_after, next_none, next_part}
 use Rattle.cm_dump_items.specs.StepLaws.{cause_then}
+use Rattle.cm_dump.specs.Forms.{form_of}
 use Rattle.cm_dump.specs.Spelling.{left_of}
 use Rattle.cm_dump.proofs.RestLemmas.{brz_begun, rest_ended, rest_trails}
 use Rattle.cm_dump.proofs.rest.load_brz.Goals as goal
@@ -23,7 +24,7 @@ buckets-init g c =
       few = omega (arith, ap (λ (p : Brz). length p.buckets) parts);
       near = omega arith;
       next = λ x is. let at = c.requires.at x is in next_none x _ 24 c.in-Ok.piece none.0 none.1 at.0 at.1;
-      right = λ x is. brz_begun x c.args.header c.new-parts.result parts;
+      right = λ x is. brz_begun (form_of c.args.version) x c.args.header c.new-parts.result parts;
     }
 
 pub buckets-preserved : goal.buckets-preserved
@@ -71,11 +72,11 @@ returns-in-Ok-end-clause-exact g c = λ x is.
     let inv = c.buckets.invariant in
     let before = inv.same ∙ is in
     let none : left_of c.buckets.parts ≡ 0 = omega (arith, c.left.ensures.left, c.buckets-test.false) in
-    inv.right x before ∙ (rest_ended x c.buckets.at (left_of c.buckets.parts) c.in-Ok-end.field-0 c.buckets.parts none (c.in-Ok-end.ensures.exact x before) ∙ ap Ok (sym c.finish.ensures.whole))
+    inv.right x before ∙ (rest_ended (form_of c.args.version) x c.buckets.at (left_of c.buckets.parts) c.in-Ok-end.field-0 c.buckets.parts none (c.in-Ok-end.ensures.exact x before) ∙ ap Ok (sym c.finish.ensures.whole))
 
 pub returns-clause-exact : goal.returns-clause-exact
 returns-clause-exact g c = λ x is.
     let inv = c.buckets.invariant in
     let before = inv.same ∙ is in
     let none : left_of c.buckets.parts ≡ 0 = omega (arith, c.left.ensures.left, c.buckets-test.false) in
-    subst (Fails c.in-Err-end.fault) (sym (inv.right x before)) (rest_trails x c.buckets.at (left_of c.buckets.parts) c.buckets.parts c.in-Err-end.fault none (c.in-Err-end.ensures.exact x before))
+    subst (Fails c.in-Err-end.fault) (sym (inv.right x before)) (rest_trails (form_of c.args.version) x c.buckets.at (left_of c.buckets.parts) c.buckets.parts c.in-Err-end.fault none (c.in-Err-end.ensures.exact x before))
