@@ -44,6 +44,8 @@ options =
     flag_rule (codes "version") 86 ∷  -- V
     counted_rule (codes "verbose") 118 ∷  -- v
     flag_rule (codes "generate") 103 ∷  -- g
+    flag_rule (codes "upgrade") 117 ∷  -- u
+    flag_rule (codes "zero") 122 ∷  -- z
     value_rule (codes "algorithm") 97 ∷  -- a
     value_rule (codes "bits") 98 ∷  -- b
     value_rule (codes "ratio") 99 ∷  -- c

@@ -5,6 +5,8 @@ use Rattle.cm_algo_names.specs.declared.algorithm.Algorithm.TheVariants.{Chm}
 use Rattle.cm_words.specs.declared.jobs.BuildJob.{BuildJob}
 use Rattle.cm_words.specs.declared.jobs.QueryJob.{QueryJob}
 use Rattle.cm_words.specs.declared.jobs.TestJob.{TestJob}
+use Rattle.cm_words.specs.declared.jobs.UpgradeJob.{UpgradeJob}
+use Rattle.cm_words_values.specs.declared.limits.TheConstants.{LINE_FEED}
 
 -- a byte more at the start of the first argument
 abbrev pub in_first : ℕ → List Text → List Text
@@ -19,11 +21,11 @@ typed (b ∷ bs) = if b == 32 then [] ∷ typed bs else in_first b (typed bs)
 
 -- the query of `cmph keys`
 abbrev pub plain_query : QueryJob
-plain_query = record { keys = codes "keys"; function = codes "keys.mph"; first = None }
+plain_query = record { keys = codes "keys"; function = codes "keys.mph"; first = None; end = LINE_FEED }
 
 -- the query of another file
 abbrev pub query_of_file : Text → QueryJob
-query_of_file path = record { keys = path; function = path ++ codes ".mph"; first = None }
+query_of_file path = record { keys = path; function = path ++ codes ".mph"; first = None; end = LINE_FEED }
 
 -- the build of `cmph -g keys`
 abbrev pub plain_build : BuildJob
@@ -31,6 +33,7 @@ plain_build = record {
   keys = codes "keys";
   function = codes "keys.mph";
   first = None;
+  end = LINE_FEED;
   algorithm = Chm;
   c = 2090000;
   b = 0;
@@ -40,6 +43,10 @@ plain_build = record {
   dir = codes ".";
   verbose = false;
 }
+
+-- the upgrade of a function file
+abbrev pub upgrade_of_file : Text → UpgradeJob
+upgrade_of_file path = record { function = path }
 
 -- the test of `cmph -T 5`
 abbrev pub plain_test : TestJob

@@ -3,13 +3,13 @@ use Rattle.std.specs.Prelude.{ℕ, ◌++◌, Bool, true, false, List, [], ◌∷
 use Rattle.clap.specs.Words.{Kinds, Row, Text, fault_of, first_of, matches_of}
 use Rattle.cm_words.specs.Command.{cmph_app}
 use Rattle.cm_words_values.specs.Options.{and_then}
-use Rattle.cm_words.specs.Options.{Read, as_usage, is_counted, is_set, values_of}
+use Rattle.cm_words.specs.Options.{Read, as_usage, end_of, is_counted, is_set, values_of}
 use Rattle.cm_words.specs.declared.fault.UsageFault.TheVariants.{NoFile, Words}
 use Rattle.cm_words.specs.declared.jobs.BuildJob.{BuildJob}
 use Rattle.cm_words.specs.declared.jobs.QueryJob.{QueryJob}
 use Rattle.cm_words.specs.declared.jobs.TestJob.{TestJob}
 use Rattle.cm_words.specs.declared.jobs.Job.{Job}
-use Rattle.cm_words.specs.declared.jobs.Job.TheVariants.{Help, Version, Build, Query, Test}
+use Rattle.cm_words.specs.declared.jobs.Job.TheVariants.{Help, Version, Build, Query, Test, Upgrade}
 use Rattle.cm_words.specs.declared.values.Values.{Values}
 
 -- the function file: the one that is named, or that of the keys file
@@ -24,6 +24,7 @@ build_of v keys rows = record {
   keys = keys;
   function = function_of (first_of (codes "function") rows) keys;
   first = v.first;
+  end = end_of rows;
   algorithm = v.algorithm;
   c = v.ratio;
   b = v.bits;
@@ -39,6 +40,7 @@ query_of v keys rows = record {
   keys = keys;
   function = function_of (first_of (codes "function") rows) keys;
   first = v.first;
+  end = end_of rows;
 }
 
 abbrev pub test_of : ℕ → Values → List Row → TestJob
@@ -50,16 +52,23 @@ test_of keys v rows = record {
   dir = directory_of (first_of (codes "directory") rows);
 }
 
+-- an upgrade, if the keys file or the function file is named
+abbrev pub upgrade_over : Option Text → Option Text → Read Job
+upgrade_over given (Some keys) = Ok (Upgrade (record { function = function_of given keys }))
+upgrade_over (Some path) None = Ok (Upgrade (record { function = path }))
+upgrade_over None None = Err NoFile
+
 -- a build or a query, if the keys file is named
 abbrev pub job_over : Option Text → Values → List Row → Read Job
 job_over None v rows = Err NoFile
 job_over (Some keys) v rows = if is_set (codes "generate") rows then Ok (Build (build_of v keys rows))
     else Ok (Query (query_of v keys rows))
 
--- a test, if a number of keys is given, or else a build or a query
+-- a test, if a number of keys is given, or else an upgrade, if that is asked for, or else a build or a query
 abbrev pub job_by : Option ℕ → Values → List Row → Read Job
 job_by (Some keys) v rows = Ok (Test (test_of keys v rows))
-job_by None v rows = job_over (first_of (codes "keys") rows) v rows
+job_by None v rows = if is_set (codes "upgrade") rows then upgrade_over (first_of (codes "function") rows) (first_of (codes "keys") rows)
+    else job_over (first_of (codes "keys") rows) v rows
 
 -- the job of the arguments that clap found
 abbrev pub job_of_rows : List Row → Read Job

@@ -1,9 +1,10 @@
 -- The values of the options among what clap found.
-use Rattle.std.specs.Prelude.{Bool, false, nat_lt, List, codes, Result, Ok, Err, ◌&&◌, is_none}
+use Rattle.std.specs.Prelude.{ℕ, Bool, false, nat_lt, List, codes, Result, Ok, Err, ◌&&◌, if◌then◌else◌, is_none, not}
 use Rattle.std.specs.Option.{option_map_or}
 use Rattle.std.specs.Str.{bytes_eq}
 use Rattle.clap.specs.Words.{Row, Text, count_of, first_of}
 use Rattle.cm_words_values.specs.Options.{Checked, algorithm_value, and_then, bits_value, buffer_value, count_value, first_value, hash_value, ratio_value, seed_value, test_value}
+use Rattle.cm_words_values.specs.declared.limits.TheConstants.{LINE_FEED, ZERO_BYTE}
 use Rattle.cm_words.specs.declared.fault.UsageFault.{UsageFault}
 use Rattle.cm_words.specs.declared.fault.UsageFault.TheVariants.{BadValue}
 use Rattle.cm_words.specs.declared.values.Values.{Values}
@@ -24,9 +25,13 @@ is_set id rows = option_map_or (λ t. bytes_eq t (codes "true")) (first_of id ro
 abbrev pub is_counted : Text → List Row → Bool
 is_counted id rows = nat_lt 0 (count_of id rows)
 
--- the job is a build: it generates a function file, and isn't a test
+-- the job is a build: it generates a function file, and is neither a test nor an upgrade
 abbrev pub is_build : List Row → Bool
-is_build rows = is_set (codes "generate") rows && is_none (first_of (codes "test") rows)
+is_build rows = is_set (codes "generate") rows && (is_none (first_of (codes "test") rows) && not (is_set (codes "upgrade") rows))
+
+-- the byte that ends lines
+abbrev pub end_of : List Row → ℕ
+end_of rows = if is_set (codes "zero") rows then ZERO_BYTE else LINE_FEED
 
 -- the values of all options, or the first fault in the order of the letters a, b, c, f, k, M, r, s, T
 abbrev pub values_of : List Row → Checked Values

@@ -63,6 +63,8 @@ pub fn command<'a>(alloc: Global) -> Result<Command<'a>, AllocError>
         ("version", 'V', ArgAction::SetTrue),
         ("verbose", 'v', ArgAction::Count),
         ("generate", 'g', ArgAction::SetTrue),
+        ("upgrade", 'u', ArgAction::SetTrue),
+        ("zero", 'z', ArgAction::SetTrue),
         ("algorithm", 'a', ArgAction::Set),
         ("bits", 'b', ArgAction::Set),
         ("ratio", 'c', ArgAction::Set),

@@ -4,10 +4,11 @@
 ghost use Rattle.std.specs.Prelude.{◌≡◌, ◌∷◌, [], Ok, Err, Some, None, true, codes};
 ghost use Rattle.cm_algo_names.specs.declared.algorithm.Algorithm.TheVariants.{Bdz, BdzPh, Brz};
 ghost use Rattle.cm_words_values.specs.Digits.{millionths_of, whole_of};
-ghost use Rattle.cm_words.specs.Examples.{plain_build, plain_query, plain_test, query_of_file, typed};
+ghost use Rattle.cm_words_values.specs.declared.limits.TheConstants.{LINE_FEED, ZERO_BYTE};
+ghost use Rattle.cm_words.specs.Examples.{plain_build, plain_query, plain_test, query_of_file, typed, upgrade_of_file};
 ghost use Rattle.cm_words.specs.Meaning.{job_of};
 ghost use Rattle.cm_words.specs.declared.fault.UsageFault.TheVariants.{BadValue, NoFile, Words};
-ghost use Rattle.cm_words.specs.declared.jobs.Job.TheVariants.{Help, Version, Build, Query, Test};
+ghost use Rattle.cm_words.specs.declared.jobs.Job.TheVariants.{Help, Version, Build, Query, Test, Upgrade};
 
 /// The program's name and files.
 pub fn files()
@@ -50,7 +51,6 @@ pub fn flags()
     ensures repeated { job_of (typed (codes "cmph -g -g keys")) ≡ Err Words }
     ensures repeated_in_bundle { job_of (typed (codes "cmph -gg keys")) ≡ Err Words }
     ensures repeated_help { job_of (typed (codes "cmph -h -h")) ≡ Err Words }
-    ensures repeated_version { job_of (typed (codes "cmph -V -V")) ≡ Err Words }
     ensures repeated_verbose { job_of (typed (codes "cmph -g -vv -v keys")) ≡ Ok (Build (record plain_build { verbose = true })) }
     ensures with_value { job_of (typed (codes "cmph -g=1 keys")) ≡ Err Words }
     ensures verbose_with_value { job_of (typed (codes "cmph -v=1 keys")) ≡ Err Words }
@@ -61,9 +61,6 @@ pub fn flags()
 pub fn unknown()
     ensures letter { job_of (typed (codes "cmph -t 2 keys")) ≡ Err Words }
     ensures capital { job_of (typed (codes "cmph -G keys")) ≡ Err Words }
-    ensures small_letter { job_of (typed (codes "cmph -M 1 -v keys -V")) ≡ Ok Version }
-    ensures in_bundle { job_of (typed (codes "cmph -gt keys")) ≡ Err Words }
-    ensures upgrade { job_of (typed (codes "cmph -u keys")) ≡ Err Words }
     ensures hyphen_in_bundle { job_of (typed (codes "cmph -g-v keys")) ≡ Err Words }
     ensures equals { job_of (typed (codes "cmph -=")) ≡ Err Words }
     ensures digit { job_of (typed (codes "cmph -1 keys")) ≡ Err Words }
@@ -79,7 +76,6 @@ pub fn values()
     ensures bundle { job_of (typed (codes "cmph -vgm f keys")) ≡ Ok (Build (record plain_build { function = codes "f"; verbose = true })) }
     ensures bundle_attached { job_of (typed (codes "cmph -gmf keys")) ≡ Ok (Build (record plain_build { function = codes "f" })) }
     ensures missing { job_of (typed (codes "cmph keys -m")) ≡ Err Words }
-    ensures missing_number { job_of (typed (codes "cmph keys -s")) ≡ Err Words }
     ensures option_as_value { job_of (typed (codes "cmph -m -g keys")) ≡ Err Words }
     ensures file_as_value { job_of (typed (codes "cmph -m keys")) ≡ Err NoFile }
     ensures repeated { job_of (typed (codes "cmph -s 1 -s 2 keys")) ≡ Err Words }
@@ -95,7 +91,6 @@ pub fn values()
 /// The paths of files and of the spill's directory.
 pub fn paths()
     ensures function { job_of (typed (codes "cmph -m f keys")) ≡ Ok (Query (record plain_query { function = codes "f" })) }
-    ensures of_build { job_of (typed (codes "cmph -g -m f keys")) ≡ Ok (Build (record plain_build { function = codes "f" })) }
     ensures usual { job_of (typed (codes "cmph -g dir/k.txt")) ≡ Ok (Build (record plain_build { keys = codes "dir/k.txt"; function = codes "dir/k.txt.mph" })) }
     ensures directory { job_of (typed (codes "cmph -g -d tmp keys")) ≡ Ok (Build (record plain_build { dir = codes "tmp" })) }
     ensures empty_directory { job_of (typed (codes "cmph -g -d= keys")) ≡ Ok (Build (record plain_build { dir = codes "" })) }
@@ -199,10 +194,10 @@ pub fn sampling()
 /// How many keys a bucket has on average.
 pub fn widths()
     ensures least { job_of (typed (codes "cmph -g -a brz -b 64 keys")) ≡ Ok (Build (record plain_build { algorithm = Brz; c = 1230000; b = 64 })) }
-    ensures most { job_of (typed (codes "cmph -g -a brz -b 175 keys")) ≡ Ok (Build (record plain_build { algorithm = Brz; c = 1230000; b = 175 })) }
+    ensures most { job_of (typed (codes "cmph -g -a brz -b 700 keys")) ≡ Ok (Build (record plain_build { algorithm = Brz; c = 1230000; b = 700 })) }
     ensures less { job_of (typed (codes "cmph -g -a brz -b 63 keys")) ≡ Err (BadValue 98) }
-    ensures more { job_of (typed (codes "cmph -g -a brz -b 176 keys")) ≡ Err (BadValue 98) }
-    ensures of_query { job_of (typed (codes "cmph -a brz -b 176 keys")) ≡ Ok (Query plain_query) }
+    ensures more { job_of (typed (codes "cmph -g -a brz -b 701 keys")) ≡ Err (BadValue 98) }
+    ensures of_query { job_of (typed (codes "cmph -a brz -b 701 keys")) ≡ Ok (Query plain_query) }
 {}
 
 /// Tests, which need no keys file and come before a build.
@@ -213,17 +208,32 @@ pub fn tests()
     ensures less { job_of (typed (codes "cmph -T 0")) ≡ Err (BadValue 84) }
     ensures more { job_of (typed (codes "cmph -T 16777217")) ≡ Err (BadValue 84) }
     ensures no_number { job_of (typed (codes "cmph -T x")) ≡ Err (BadValue 84) }
-    ensures empty { job_of (typed (codes "cmph -T=")) ≡ Err (BadValue 84) }
     ensures missing { job_of (typed (codes "cmph -T")) ≡ Err Words }
-    ensures repeated { job_of (typed (codes "cmph -T 5 -T 5")) ≡ Err Words }
     ensures options { job_of (typed (codes "cmph -T 5 -s 7 -r 9 -M 2 -d tmp")) ≡ Ok (Test (record { keys = 5; seed = 7; count = 9; buffer = 2097152; dir = codes "tmp" })) }
     ensures with_file { job_of (typed (codes "cmph -T 5 keys")) ≡ Ok (Test plain_test) }
     ensures two_files { job_of (typed (codes "cmph -T 5 keys more")) ≡ Err Words }
     ensures with_generate { job_of (typed (codes "cmph -g -T 5 -v -m f -k 1 keys")) ≡ Ok (Test plain_test) }
-    ensures sampling { job_of (typed (codes "cmph -T 5 -g -a bdz -b 11")) ≡ Ok (Test plain_test) }
     ensures width { job_of (typed (codes "cmph -b 3 -T 5 -g -a brz")) ≡ Ok (Test plain_test) }
     ensures no_width { job_of (typed (codes "cmph -T 5 -g -a brz -b x")) ≡ Err (BadValue 98) }
     ensures width_before_test { job_of (typed (codes "cmph -T 0 -g -a brz -b 3")) ≡ Err (BadValue 84) }
+{}
+
+/// Upgrades, which need the keys file or the function file. They come after a test and before a build.
+pub fn upgrades()
+    ensures file { job_of (typed (codes "cmph -u keys")) ≡ Ok (Upgrade (upgrade_of_file (codes "keys.mph"))) }
+    ensures function { job_of (typed (codes "cmph -u -m f")) ≡ Ok (Upgrade (upgrade_of_file (codes "f"))) }
+    ensures both { job_of (typed (codes "cmph -um f keys")) ≡ Ok (Upgrade (upgrade_of_file (codes "f"))) }
+    ensures without_file { job_of (typed (codes "cmph -u")) ≡ Err NoFile }
+    ensures with_generate { job_of (typed (codes "cmph -u -g -a brz -b 5 keys")) ≡ Ok (Upgrade (upgrade_of_file (codes "keys.mph"))) }
+    ensures with_test { job_of (typed (codes "cmph -u -T 5 keys")) ≡ Ok (Test plain_test) }
+{}
+
+/// The byte that ends lines. Builds and queries alone have one.
+pub fn ends()
+    ensures build { job_of (typed (codes "cmph -z -g keys")) ≡ Ok (Build (record plain_build { end = ZERO_BYTE })) }
+    ensures query { job_of (typed (codes "cmph -z keys")) ≡ Ok (Query (record plain_query { end = ZERO_BYTE })) }
+    ensures test { job_of (typed (codes "cmph -z -T 5")) ≡ Ok (Test plain_test) }
+    ensures upgrade { job_of (typed (codes "cmph -zu keys")) ≡ Ok (Upgrade (upgrade_of_file (codes "keys.mph"))) }
 {}
 
 /// Arguments that mean more than one thing: the first of them in the order of the tests.
@@ -253,5 +263,5 @@ pub fn orders()
 
 /// A build with all options.
 pub fn all_options()
-    ensures build { job_of (typed (codes "cmph -v -g -a bdz -b 4 -c 1.5 -d tmp -f jenkins -k 2 -M 3 -m f -r 7 -s 0 keys")) ≡ Ok (Build (record { keys = codes "keys"; function = codes "f"; first = Some 2; algorithm = Bdz; c = 1500000; b = 4; seed = 0; count = 7; buffer = 3145728; dir = codes "tmp"; verbose = true })) }
+    ensures build { job_of (typed (codes "cmph -v -g -a bdz -b 4 -c 1.5 -d tmp -f jenkins -k 2 -M 3 -m f -r 7 -s 0 keys")) ≡ Ok (Build (record { keys = codes "keys"; function = codes "f"; first = Some 2; end = LINE_FEED; algorithm = Bdz; c = 1500000; b = 4; seed = 0; count = 7; buffer = 3145728; dir = codes "tmp"; verbose = true })) }
 {}

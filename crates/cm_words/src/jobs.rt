@@ -11,13 +11,15 @@ pub struct BuildJob {
     pub function: Text,
     /// How many lines of the keys file are read, from 1 to 4,294,967,295, or all.
     pub first: Option<u32>,
+    /// The byte that ends a line: `LINE_FEED`, or with `-z` `ZERO_BYTE`.
+    pub end: u8,
     /// The algorithm.
     pub algorithm: Algorithm,
     /// The ratio of vertices to keys in millionths, from 1,000,000 to 10,000,000.
     pub c: u32,
     /// BDZ: each 2^b-th vertex has a sampled rank, with b from 3 to 10. BRZ: how many keys a bucket has on average, from
     /// `MIN_WIDTH` to `MAX_WIDTH`. For the other algorithms 0.
-    pub b: u8,
+    pub b: u16,
     /// The first seed that is tried.
     pub seed: u32,
     /// How many seeds are tried at most, from 1 to 1,000.
@@ -39,6 +41,8 @@ pub struct QueryJob {
     pub function: Text,
     /// How many lines of the keys file are read, from 1 to 4,294,967,295, or all.
     pub first: Option<u32>,
+    /// The byte that ends a line: `LINE_FEED`, or with `-z` `ZERO_BYTE`.
+    pub end: u8,
 }
 
 /// A test: builds over generated keys by each algorithm.
@@ -56,6 +60,13 @@ pub struct TestJob {
     pub dir: Text,
 }
 
+/// An upgrade: a saved function, saved again in the format that builds write.
+#[derive(Debug, Drop)]
+pub struct UpgradeJob {
+    /// The path of the function file.
+    pub function: Text,
+}
+
 /// What the arguments of a command line ask for.
 #[derive(Debug, Drop)]
 pub enum Job {
@@ -66,4 +77,5 @@ pub enum Job {
     Build(BuildJob),
     Query(QueryJob),
     Test(TestJob),
+    Upgrade(UpgradeJob),
 }

@@ -9,8 +9,8 @@ mod reading;
 mod texts;
 mod values;
 
-pub use cm_words_values::{millionths, whole};
+pub use cm_words_values::{LINE_FEED, ZERO_BYTE, millionths, whole};
 pub use fault::UsageFault;
-pub use jobs::{BuildJob, Job, QueryJob, TestJob};
+pub use jobs::{BuildJob, Job, QueryJob, TestJob, UpgradeJob};
 pub use reading::read_words;
 pub use texts::Text;

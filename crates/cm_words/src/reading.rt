@@ -1,14 +1,14 @@
 //! The job of the arguments.
 ghost use Rattle.std.specs.Prelude.{◌≡◌, ◌⊎◌, Err, IfErr, IfOk, IsNone, IsOk, Ok, codes, false, map, option_map, string_bytes, true};
 ghost use Rattle.clap.specs.Words.{first_of, found_of, rows_of};
-ghost use Rattle.cm_words_values.specs.Limits.{IsTestSize};
-ghost use Rattle.cm_words.specs.Limits.{AreValues, IsBuild, IsJob, IsTest};
-ghost use Rattle.cm_words.specs.Meaning.{build_of, directory_of, function_of, job_of, job_of_rows, job_over, query_of, test_of};
-ghost use Rattle.cm_words.specs.Options.{is_build};
+ghost use Rattle.cm_words_values.specs.Limits.{IsFirst, IsTestSize};
+ghost use Rattle.cm_words.specs.Limits.{AreValues, IsBuild, IsJob, IsQuery, IsTest};
+ghost use Rattle.cm_words.specs.Meaning.{build_of, directory_of, function_of, job_of, job_of_rows, job_over, query_of, test_of, upgrade_over};
+ghost use Rattle.cm_words.specs.Options.{is_build, is_set};
 
 use crate::arguments::command;
-use crate::values::{Values, all_values, counted, flag, text};
-use crate::{BuildJob, Job, QueryJob, TestJob, Text, UsageFault};
+use crate::values::{Values, all_values, counted, end, flag, text};
+use crate::{BuildJob, Job, QueryJob, TestJob, Text, UpgradeJob, UsageFault};
 use clap::ArgMatches;
 use std::alloc::{AllocError, Global};
 
@@ -55,6 +55,7 @@ fn build_job(
         keys: copy(alloc, keys)?,
         function: function(alloc, text(matches, "function"), keys)?,
         first: values.first,
+        end: end(matches),
         algorithm: values.algorithm,
         c: values.ratio,
         b: values.bits,
@@ -72,12 +73,15 @@ fn query_job(
     values: Values,
     keys: &str,
 ) -> Result<QueryJob, AllocError>
+    requires { IsFirst values.first }
     ensures job { IfOk result (λ job. job ≡ query_of values keys.now (rows_of (found_of matches.now))) }
+    ensures within { IfOk result IsQuery }
 {
     Ok(QueryJob {
         keys: copy(alloc, keys)?,
         function: function(alloc, text(matches, "function"), keys)?,
         first: values.first,
+        end: end(matches),
     })
 }
 
@@ -101,10 +105,29 @@ fn test_job(
     })
 }
 
+/// An upgrade, if the keys file or the function file is named.
+fn upgrade_job(alloc: Global, matches: &ArgMatches<'_>) -> Result<Job, UsageFault>
+    ensures job { IfOk result (λ job. Ok job
+        ≡ upgrade_over (first_of (codes "function") (rows_of (found_of matches.now))) (first_of (codes "keys") (rows_of (found_of matches.now)))) }
+    ensures fault { IfErr result (λ fault. (fault ≡ UsageFault.Memory)
+        ⊎ (Err fault ≡ upgrade_over (first_of (codes "function") (rows_of (found_of matches.now))) (first_of (codes "keys") (rows_of (found_of matches.now))))) }
+    ensures within { IfOk result IsJob }
+    ensures memory { result ≡ Err UsageFault.Memory → IsOk (upgrade_over (first_of (codes "function") (rows_of (found_of matches.now))) (first_of (codes "keys") (rows_of (found_of matches.now)))) }
+{
+    let given = text(matches, "function");
+    let function = match (text(matches, "keys"), given) {
+        (Some(keys), given) => function(alloc, given, keys)?,
+        (None, Some(path)) => copy(alloc, path)?,
+        (None, None) => return Err(UsageFault::NoFile),
+    };
+    Ok(Job::Upgrade(UpgradeJob { function }))
+}
+
 /// A build or a query, if the keys file is named.
 fn file_job(alloc: Global, matches: &ArgMatches<'_>, values: Values) -> Result<Job, UsageFault>
     requires values { AreValues (is_build (rows_of (found_of matches.now))) values }
     requires no_test { IsNone (first_of (codes "test") (rows_of (found_of matches.now))) }
+    requires no_upgrade { is_set (codes "upgrade") (rows_of (found_of matches.now)) ≡ false }
     ensures job { IfOk result (λ job. Ok job
         ≡ job_over (first_of (codes "keys") (rows_of (found_of matches.now))) values (rows_of (found_of matches.now))) }
     ensures fault { IfErr result (λ fault. (fault ≡ UsageFault.Memory)
@@ -139,10 +162,13 @@ fn job(alloc: Global, matches: &ArgMatches<'_>) -> Result<Job, UsageFault>
         return Ok(Job::Version);
     }
     let values = all_values(matches)?;
-    match values.test {
-        Some(keys) => Ok(Job::Test(test_job(alloc, matches, values, keys)?)),
-        None => file_job(alloc, matches, values),
+    if let Some(keys) = values.test {
+        return Ok(Job::Test(test_job(alloc, matches, values, keys)?));
     }
+    if flag(matches, "upgrade") {
+        return upgrade_job(alloc, matches);
+    }
+    file_job(alloc, matches, values)
 }
 
 /// Reads the arguments of a command line, of which the first is the program's name, as a job. It copies the paths, and fails with

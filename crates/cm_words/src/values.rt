@@ -2,17 +2,20 @@
 ghost use Rattle.std.specs.Prelude.{◌≡◌, IfOk, IsNone, codes, option_map};
 ghost use Rattle.clap.specs.Words.{found_of, first_of, rows_of};
 ghost use Rattle.cm_words.specs.Limits.{AreValues};
-ghost use Rattle.cm_words.specs.Options.{is_build, is_counted, is_set, values_of};
+ghost use Rattle.cm_words_values.specs.Limits.{IsEnd};
+ghost use Rattle.cm_words.specs.Options.{end_of, is_build, is_counted, is_set, values_of};
 
 use clap::ArgMatches;
 use cm_algo_names::Algorithm;
-use cm_words_values::{BadValue, algorithm, bits, buffer, count, first, hash, ratio, seed, test};
+use cm_words_values::{
+    BadValue, LINE_FEED, ZERO_BYTE, algorithm, bits, buffer, count, first, hash, ratio, seed, test,
+};
 
 /// The values of the options that are tested.
 #[derive(Clone, Copy, Debug)]
 pub struct Values {
     pub algorithm: Algorithm,
-    pub bits: u8,
+    pub bits: u16,
     /// In millionths.
     pub ratio: u32,
     pub first: Option<u32>,
@@ -48,11 +51,23 @@ pub fn counted(matches: &ArgMatches<'_>, id: &str) -> bool
     matches.get_count(id) > 0
 }
 
-/// Whether the job is a build: it generates a function file, and isn't a test.
+/// Whether the job is a build: it generates a function file, and is neither a test nor an upgrade.
 pub fn builds(matches: &ArgMatches<'_>) -> bool
     ensures { result ≡ is_build (rows_of (found_of matches.now)) }
 {
-    flag(matches, "generate") && text(matches, "test").is_none()
+    flag(matches, "generate") && text(matches, "test").is_none() && !flag(matches, "upgrade")
+}
+
+/// The byte that ends lines.
+pub fn end(matches: &ArgMatches<'_>) -> u8
+    ensures value { result ≡ end_of (rows_of (found_of matches.now)) }
+    ensures within { IsEnd result }
+{
+    if flag(matches, "zero") {
+        ZERO_BYTE
+    } else {
+        LINE_FEED
+    }
 }
 
 /// The values of all options, or the first that is bad in the order of the letters.

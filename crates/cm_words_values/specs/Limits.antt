@@ -1,9 +1,9 @@
 -- The ranges of the options' values.
-use Rattle.std.specs.Prelude.{◌≤◌, ◌*◌, ℕ, Option}
+use Rattle.std.specs.Prelude.{◌≡◌, ◌⊎◌, ◌≤◌, ◌*◌, ℕ, Option}
 use Rattle.std.specs.Option.{ForSome}
 use Rattle.cm_spec.specs.Rule.{IsRatio}
 use Rattle.cm_spec.specs.declared.limits.TheConstants.{MAX_WIDTH, MIN_WIDTH}
-use Rattle.cm_words_values.specs.declared.limits.TheConstants.{MAX_TEST_KEYS, MEGABYTE}
+use Rattle.cm_words_values.specs.declared.limits.TheConstants.{LINE_FEED, MAX_TEST_KEYS, MEGABYTE, ZERO_BYTE}
 
 -- a number of lines, if it is given, is at least one
 abbrev pub IsFirst : Option ℕ → Type 0
@@ -24,6 +24,10 @@ IsCount seeds = (1 ≤ seeds) × (seeds ≤ 1000)
 -- a buffer in bytes: from 1 to 1,024 megabytes
 abbrev pub IsBuffer : ℕ → Type 0
 IsBuffer bytes = (MEGABYTE ≤ bytes) × (bytes ≤ 1024 * MEGABYTE)
+
+-- a byte that ends lines: a line feed, or with -z byte 0
+abbrev pub IsEnd : ℕ → Type 0
+IsEnd end = (end ≡ LINE_FEED) ⊎ (end ≡ ZERO_BYTE)
 
 -- how many generated keys a test has
 abbrev pub IsTestSize : ℕ → Type 0

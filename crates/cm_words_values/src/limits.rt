@@ -5,3 +5,9 @@ pub const MEGABYTE: u32 = 1_048_576;
 
 /// The greatest number of generated keys that a test may have.
 pub const MAX_TEST_KEYS: u32 = 16_777_216;
+
+/// The byte that ends a line of a keys file, and one that a query writes, unless `-z` is given: a line feed.
+pub const LINE_FEED: u8 = 10;
+
+/// The byte that ends such a line if `-z` is given.
+pub const ZERO_BYTE: u8 = 0;

@@ -58,15 +58,15 @@ pub fn algorithm(text: Option<&str>) -> Result<Algorithm, BadValue>
 
 /// `-b`: in a build by BDZ the sampling of ranks, from 3 to 10, and 7 if it isn't given; in one by BRZ the number of keys that a
 /// bucket has on average, from `MIN_WIDTH` to `MAX_WIDTH`, and 128 if it isn't given. Elsewhere it is any number, and the result is 0.
-pub fn bits(text: Option<&str>, builds: bool, algorithm: Algorithm) -> Result<u8, BadValue>
+pub fn bits(text: Option<&str>, builds: bool, algorithm: Algorithm) -> Result<u16, BadValue>
     ensures value { result ≡ bits_value builds algorithm (option_map (λ s. s.now) text.entry) }
     ensures sampling { IfOk result (λ n. (builds ≡ true) × (algorithm ≡ Bdz) → IsSampling n) }
     ensures width { IfOk result (λ n. (builds ≡ true) × (algorithm ≡ Brz) → IsWidth n) }
 {
     match algorithm {
-        Algorithm::Bdz if builds => Ok(number(text, b'b', 3, 10, 7)? as u8),
+        Algorithm::Bdz if builds => Ok(number(text, b'b', 3, 10, 7)? as u16),
         Algorithm::Brz if builds => Ok(
-            number(text, b'b', MIN_WIDTH as u32, MAX_WIDTH as u32, 128)? as u8,
+            number(text, b'b', MIN_WIDTH as u32, MAX_WIDTH as u32, 128)? as u16,
         ),
         _ => {
             number(text, b'b', 0, u32::MAX, 0)?;

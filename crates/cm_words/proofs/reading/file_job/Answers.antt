@@ -10,7 +10,8 @@ build_job-requires c =
     let set : is_set (codes "generate") rows ≡ true = sym c.flag.ensures ∙ c.if-flag.true in
     let missing : is_some (first_of (codes "test") rows) ≡ false = c.requires.no_test in
     let none : is_none (first_of (codes "test") rows) ≡ true = grind (arith, missing) in
-    let builds : is_build rows ≡ true = rw (set, none) refl in
+    let plain : is_set (codes "upgrade") rows ≡ false = c.requires.no_upgrade in
+    let builds : is_build rows ≡ true = rw (set, none, plain) refl in
     subst (λ (b : Bool). AreValues b c.args.values) builds c.requires.values
 
 pub returns-in_default-clause-memory : goal.returns-in_default-clause-memory
