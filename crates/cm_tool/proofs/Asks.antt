@@ -12,11 +12,10 @@ use Rattle.cm_io.specs.Writing.{then_bytes}
 use Rattle.cm_io.specs.declared.key_pass.KeyFault.{KeyFault}
 use Rattle.cm_io.specs.declared.key_pass.KeyFault.TheVariants as key_fault
 use Rattle.cm_io.specs.WritingLaws.{then_nothing}
-use Rattle.cm_keys.specs.declared.keys.TheConstants.{LINE_END}
 use Rattle.cm_query.specs.Tallies.{tally_of}
 use Rattle.cm_query.specs.Texts.{notes_of, text_of}
 use Rattle.cm_query.specs.declared.tally.Tally.{Tally}
-use Rattle.cm_tool_files.specs.Asked.{AskedAll, AskedPart, EndsQuery, IsBadDump, Spells, keys_at, keys_or_none}
+use Rattle.cm_tool_files.specs.Asked.{AskedAll, AskedPart, EndsQuery, IsBadDump, Question, Spells, question_of, question_over}
 use Rattle.cm_tool_stops.specs.EndLaws.{says_all}
 use Rattle.cm_tool_stops.specs.Ends.{Says, query_message_of, query_status_of}
 use Rattle.cm_tool_stops.specs.Messages.{bad_dump}
@@ -30,14 +29,14 @@ use Rattle.cm_words.specs.declared.jobs.QueryJob.{QueryJob}
 use Rattle.cm_words.specs.declared.jobs.Job.TheVariants.{Query}
 
 -- the outcome of a query whose function file spells a function and whose keys file is there
-asked_outcome : (job : QueryJob) (files : Files) (f : Func) (bytes : List ℕ) (fault : Option KeyFault) (o : Outcome) → Spells files job.function f → file_at files job.keys ≡ Some bytes → (keys_in job.first bytes).fault ≡ fault
-    → query_over job files (answer_by f) (keys_in job.first bytes).keys fault ≡ o → job_outcome files (Ok (Query job)) ≡ Some o
+asked_outcome : (job : QueryJob) (files : Files) (f : Func) (bytes : List ℕ) (fault : Option KeyFault) (o : Outcome) → Spells files job.function f → file_at files job.keys ≡ Some bytes → (keys_in job.first job.end bytes).fault ≡ fault
+    → query_over job files (answer_by f) (keys_in job.first job.end bytes).keys fault ≡ o → job_outcome files (Ok (Query job)) ≡ Some o
 unfolding outcomes.query_outcome
 asked_outcome job files f bytes fault o spells there fault_is is =
     ap (dump_outcome job files) spells.1
     ∙ ap (loaded_outcome job files) spells.2
     ∙ ap (option_map (outcomes.query_outcome job files f)) there
-    ∙ ap (λ (e : Option KeyFault). Some (query_over job files (answer_by f) (keys_in job.first bytes).keys e)) fault_is
+    ∙ ap (λ (e : Option KeyFault). Some (query_over job files (answer_by f) (keys_in job.first job.end bytes).keys e)) fault_is
     ∙ ap Some is
 
 bad_outcome : (job : QueryJob) (files : Files) (fault : LoadFault) → IsBadDump files job.function fault → job_outcome files (Ok (Query job)) ≡ Some (refusal 3 (bad_dump job.function fault) files)
@@ -55,7 +54,7 @@ pub query_done : (job : QueryJob) (files : Files) (old new : Outside) (notes : L
 query_done job files old new notes tally status noted_exactly ends says none some same =
     let f = answer_by ends.0 in
     let all = ends.2.0 in
-    let keys = (keys_in job.first all.bytes).keys in
+    let keys = (keys_in job.first job.end all.bytes).keys in
     let count = λ (t : Tally). t.repeated + t.unknown in
     let none' : count (tally_of f keys) ≡ 0 → status ≡ 0 = λ zero. none (ap count ends.2.1 ∙ zero) in
     let some' : count (tally_of f keys) ≢ 0 → status ≡ 1 = λ more. some (λ zero. more (sym (ap count ends.2.1) ∙ zero)) in
@@ -73,7 +72,7 @@ stopped_at_line : (job : QueryJob) (files : Files) (old new : Outside) (notes : 
     → Says old.err new.err (notes ++ fault_message job.keys fault) → new.disk.files ≡ Some files → Reaches old new (job_outcome files (Ok (Query job))) 8
 stopped_at_line job files old new notes function fault spells all says same =
     let f = answer_by function in
-    let keys = (keys_in job.first all.bytes).keys in
+    let keys = (keys_in job.first job.end all.bytes).keys in
     record {
       outcome = query_over job files f keys (Some fault);
       is = asked_outcome job files function all.bytes (Some fault) _ spells all.there all.fault_is refl;
@@ -102,12 +101,12 @@ query_stopped job files old new notes (TooLong line) ends says a b d same = stop
 query_stopped job files old new notes TooMany ends says a b d same = stopped_at_line job files old new notes ends.0 key_fault.TooMany ends.1 ends.2 says same
 
 -- a query of a keys file that isn't there
-unread : (job : QueryJob) (files : Files) (f : Func) (file : Option (List ℕ)) (old new : Option (List ℕ)) (notes : List ℕ) (given : ℕ) → Spells files job.function f → file_at files job.keys ≡ file → AskedPart (answer_by f) (keys_at files job) old new notes given 0
+unread : (job : QueryJob) (files : Files) (f : Func) (file : Option (List ℕ)) (old new : Option (List ℕ)) (notes : List ℕ) (given : ℕ) → Spells files job.function f → file_at files job.keys ≡ file → AskedPart (question_of (answer_by f) files job) old new notes given 0
     → job_outcome files (Ok (Query job)) ≡ None → new ≡ old
 unread job files f None old new notes given spells is asked none =
-    let here : keys_at files job ≡ [] = ap (keys_or_none job.first) is in
-    let part = subst (λ (keys : List (ℕ × List ℕ)). AskedPart (answer_by f) keys old new notes given 0) here asked in
-    part.out ∙ ap (λ (keys : List (ℕ × List ℕ)). then_bytes old (text_of LINE_END (answer_by f) keys ++ [])) (take-nil given) ∙ sym (then_nothing old)
+    let here : question_of (answer_by f) files job ≡ question_over (answer_by f) job None = ap (question_over (answer_by f) job) is in
+    let part = subst (λ (q : Question). AskedPart q old new notes given 0) here asked in
+    part.out ∙ ap (λ (keys : List (ℕ × List ℕ)). then_bytes old (text_of job.end (answer_by f) keys ++ [])) (take-nil given) ∙ sym (then_nothing old)
 unread job files f (Some bytes) old new notes given spells is asked none = absurd (none_some (sym none ∙ asked_outcome job files f bytes _ _ spells is refl refl))
 
 -- a query that stopped over files by which there is no outcome

@@ -1,5 +1,5 @@
 -- What the top call promises by what the arguments ask for: moved along an equation, or for whatever they ask for.
-use Rattle.std.proofs.Common.{◌≡◌, ◌≢◌, ◌⊎◌, ◌↔◌, ℕ, ◌<◌, List, [], ◌∷◌, take, Option, Ok, Err, true, inl, inr, sym, subst, arith}
+use Rattle.std.proofs.Common.{◌≡◌, ◌≢◌, ◌⊎◌, ◌↔◌, ◌∙◌, ℕ, ◌<◌, List, take, Option, Ok, Err, true, false, inl, inr, refl, sym, subst, arith}
 use Rattle.std.proofs.lemmas.Bool.{false≢true}
 use Rattle.cm_algo_names.specs.declared.algorithm.Algorithm.{Algorithm}
 use Rattle.cm_algo_names.specs.declared.algorithm.Algorithm.TheVariants.{Chm, Bdz, BdzPh, Brz}
@@ -8,7 +8,7 @@ use Rattle.cm_io.specs.Writing.{then_bytes}
 use Rattle.cm_io.specs.WritingLaws.{then_nothing}
 use Rattle.cm_spec.specs.Lists.{has}
 use Rattle.cm_tool_stops.specs.Ends.{usage_status_of}
-use Rattle.cm_tool.specs.Run.{ForBuild, ForQuery, ForTest, ForText, UnlessBrz, UnlessBuild, UnlessJob, UnlessQuery, UnlessTest}
+use Rattle.cm_tool.specs.Run.{ForBuild, ForQuery, ForTest, ForText, ForUpgrade, UnlessBrz, UnlessPrinting, UnlessQuery, UnlessStoring, UnlessTest}
 use Rattle.cm_tool_builds.specs.Spills.{UnlessSpilled}
 use Rattle.cm_words.specs.Options.{Read as Reading}
 use Rattle.cm_words.specs.declared.fault.UsageFault.{UsageFault}
@@ -16,8 +16,9 @@ use Rattle.cm_words.specs.declared.fault.UsageFault.TheVariants as usage
 use Rattle.cm_words.specs.declared.jobs.BuildJob.{BuildJob}
 use Rattle.cm_words.specs.declared.jobs.QueryJob.{QueryJob}
 use Rattle.cm_words.specs.declared.jobs.TestJob.{TestJob}
+use Rattle.cm_words.specs.declared.jobs.UpgradeJob.{UpgradeJob}
 use Rattle.cm_words.specs.declared.jobs.Job.{Job}
-use Rattle.cm_words.specs.declared.jobs.Job.TheVariants.{Help, Version, Build, Query, Test}
+use Rattle.cm_words.specs.declared.jobs.Job.TheVariants.{Help, Version, Build, Query, Test, Upgrade}
 
 -- along an equation
 pub for_build : (P : BuildJob → Type 0) {asked other : Reading Job} → asked ≡ other → ForBuild other P → ForBuild asked P
@@ -29,14 +30,17 @@ for_query P is holds = subst (λ (a : Reading Job). ForQuery a P) (sym is) holds
 pub for_test : (P : TestJob → Type 0) {asked other : Reading Job} → asked ≡ other → ForTest other P → ForTest asked P
 for_test P is holds = subst (λ (a : Reading Job). ForTest a P) (sym is) holds
 
+pub for_upgrade : (P : UpgradeJob → Type 0) {asked other : Reading Job} → asked ≡ other → ForUpgrade other P → ForUpgrade asked P
+for_upgrade P is holds = subst (λ (a : Reading Job). ForUpgrade a P) (sym is) holds
+
 pub for_text : (P : List ℕ → Type 0) {asked other : Reading Job} → asked ≡ other → ForText other P → ForText asked P
 for_text P is holds = subst (λ (a : Reading Job). ForText a P) (sym is) holds
 
 pub not_brz : (P : Type 0) {asked other : Reading Job} → asked ≡ other → UnlessBrz other P → UnlessBrz asked P
 not_brz P is holds = subst (λ (a : Reading Job). UnlessBrz a P) (sym is) holds
 
-pub not_build : (P : Type 0) {asked other : Reading Job} → asked ≡ other → UnlessBuild other P → UnlessBuild asked P
-not_build P is holds = subst (λ (a : Reading Job). UnlessBuild a P) (sym is) holds
+pub not_storing : (P : Type 0) {asked other : Reading Job} → asked ≡ other → UnlessStoring other P → UnlessStoring asked P
+not_storing P is holds = subst (λ (a : Reading Job). UnlessStoring a P) (sym is) holds
 
 pub not_query : (P : Type 0) {asked other : Reading Job} → asked ≡ other → UnlessQuery other P → UnlessQuery asked P
 not_query P is holds = subst (λ (a : Reading Job). UnlessQuery a P) (sym is) holds
@@ -44,8 +48,8 @@ not_query P is holds = subst (λ (a : Reading Job). UnlessQuery a P) (sym is) ho
 pub not_test : (P : Type 0) {asked other : Reading Job} → asked ≡ other → UnlessTest other P → UnlessTest asked P
 not_test P is holds = subst (λ (a : Reading Job). UnlessTest a P) (sym is) holds
 
-pub not_job : (P : Type 0) {asked other : Reading Job} → asked ≡ other → UnlessJob other P → UnlessJob asked P
-not_job P is holds = subst (λ (a : Reading Job). UnlessJob a P) (sym is) holds
+pub not_printing : (P : Type 0) {asked other : Reading Job} → asked ≡ other → UnlessPrinting other P → UnlessPrinting asked P
+not_printing P is holds = subst (λ (a : Reading Job). UnlessPrinting a P) (sym is) holds
 
 -- whatever they ask for
 pub any_build : {P : BuildJob → Type 0} (asked : Reading Job) → ((job : BuildJob) → P job) → ForBuild asked P
@@ -55,6 +59,7 @@ any_build (Ok Version) p = tt
 any_build (Ok (Build job)) p = p job
 any_build (Ok (Query job)) p = tt
 any_build (Ok (Test job)) p = tt
+any_build (Ok (Upgrade job)) p = tt
 
 -- out got nothing of a text
 pub text_unsent : (asked : Reading Job) (old : Option (List ℕ)) → ForText asked (λ text. (n : ℕ) × (old ≡ then_bytes old (take n text)))
@@ -64,6 +69,7 @@ text_unsent (Ok Version) old = (0, then_nothing old)
 text_unsent (Ok (Build job)) old = tt
 text_unsent (Ok (Query job)) old = tt
 text_unsent (Ok (Test job)) old = tt
+text_unsent (Ok (Upgrade job)) old = tt
 
 unless_spilled : {P : Type 0} (algorithm : Algorithm) → P → UnlessSpilled algorithm P
 unless_spilled Chm p = p
@@ -78,18 +84,25 @@ unless_brz (Ok Version) p = p
 unless_brz (Ok (Build job)) p = unless_spilled job.algorithm p
 unless_brz (Ok (Query job)) p = p
 unless_brz (Ok (Test job)) p = tt
+unless_brz (Ok (Upgrade job)) p = p
 
-pub unless_build : {P Q : Type 0} (asked : Reading Job) → P → Q → UnlessBuild asked (P × Q)
-unless_build (Err fault) p q = (p, q)
-unless_build (Ok Help) p q = (p, q)
-unless_build (Ok Version) p q = (p, q)
-unless_build (Ok (Build job)) p q = tt
-unless_build (Ok (Query job)) p q = (p, q)
-unless_build (Ok (Test job)) p q = (p, q)
+pub unless_storing : {P Q : Type 0} (asked : Reading Job) → P → Q → UnlessStoring asked (P × Q)
+unless_storing (Err fault) p q = (p, q)
+unless_storing (Ok Help) p q = (p, q)
+unless_storing (Ok Version) p q = (p, q)
+unless_storing (Ok (Build job)) p q = tt
+unless_storing (Ok (Query job)) p q = (p, q)
+unless_storing (Ok (Test job)) p q = (p, q)
+unless_storing (Ok (Upgrade job)) p q = tt
 
-pub unless_job : {P Q : Type 0} (asked : Reading Job) → P → Q → UnlessJob asked (P × Q)
-unless_job (Err fault) p q = (p, q)
-unless_job (Ok job) p q = tt
+pub unless_printing : {P Q : Type 0} (asked : Reading Job) → P → Q → UnlessPrinting asked (P × Q)
+unless_printing (Err fault) p q = (p, q)
+unless_printing (Ok Help) p q = tt
+unless_printing (Ok Version) p q = tt
+unless_printing (Ok (Build job)) p q = tt
+unless_printing (Ok (Query job)) p q = tt
+unless_printing (Ok (Test job)) p q = tt
+unless_printing (Ok (Upgrade job)) p q = (p, q)
 
 -- the status of a text that was printed
 pub text_is : {P : Type 0} (status other : ℕ) → (status ≡ 0) ⊎ (status ≡ 5) → other ≢ 0 → other ≢ 5 → status ≡ other → P
@@ -103,9 +116,9 @@ usage_is usage.Words status other of not_two not_six is = absurd (not_two (omega
 usage_is (usage.BadValue letter) status other of not_two not_six is = absurd (not_two (omega (arith, of, is)))
 usage_is usage.NoFile status other of not_two not_six is = absurd (not_two (omega (arith, of, is)))
 
--- and that of a query, which is never 7
-pub not_seven : (status : ℕ) → has (0 ∷ 1 ∷ 3 ∷ 4 ∷ 5 ∷ 6 ∷ 8 ∷ []) status ≡ true → status ≢ 7
-not_seven status is seven = false≢true (subst (λ (s : ℕ). has (0 ∷ 1 ∷ 3 ∷ 4 ∷ 5 ∷ 6 ∷ 8 ∷ []) s ≡ true) seven is)
+-- and that of a job whose status is never 7
+pub not_seven : (statuses : List ℕ) (status : ℕ) → has statuses 7 ≡ false → has statuses status ≡ true → status ≢ 7
+not_seven statuses status never is seven = false≢true (sym never ∙ subst (λ (s : ℕ). has statuses s ≡ true) seven is)
 
 -- a count that is as it was has not risen
 pub not_risen : {P : Type 0} (before now : ℕ) → now ≡ before → before < now → P
@@ -118,6 +131,16 @@ out_alone disk disk_now out out_now same exact = (
   λ either. elim either [
     | inl rose ↦ not_risen disk disk_now same rose
     | inr rose ↦ exact.1 rose
+  ],
+)
+
+-- if out's is, the disk alone can have
+pub disk_alone : {F : Type 0} (disk disk_now out : ℕ) → (F ↔ (disk < disk_now)) → F ↔ ((disk < disk_now) ⊎ (out < out))
+disk_alone disk disk_now out exact = (
+  λ failed. inl (exact.0 failed),
+  λ either. elim either [
+    | inl rose ↦ exact.1 rose
+    | inr rose ↦ not_risen out out refl rose
   ],
 )
 

@@ -4,3 +4,4 @@ mod Clauses
 mod Outcomes
 mod Words
 mod Tests
+mod Upgrades

@@ -9,6 +9,7 @@ use Rattle.cm_io.specs.declared.key_pass.KeyFault.{KeyFault}
 use Rattle.cm_io.specs.declared.key_pass.KeyFault.TheVariants as key_fault
 use Rattle.cm_io.specs.States.{Outside, SinkState}
 use Rattle.cm_io.specs.WritingLaws.{then_nothing}
+use Rattle.cm_tool_files.specs.Stores.{IsPart}
 use Rattle.cm_tool_stops.specs.Ends.{Says, message_of, status_of}
 use Rattle.cm_tool_stops.specs.Messages.{built_message, no_keys, seed_failure_message}
 use Rattle.cm_tool_stops.specs.declared.built.Summary.{Summary}
@@ -18,7 +19,7 @@ use Rattle.cm_tool_stops.specs.declared.stop.Stop.{Stop}
 use Rattle.cm_tool_builds.specs.Faults.{HasNone}
 use Rattle.cm_tool.specs.Stops.{HasStopForm}
 use Rattle.cm_tool.specs.Jobs.{result_of, seeds_tried}
-use Rattle.cm_tool.specs.Leaves.{HasStopCause, IsOutCause, IsPart, KeepsOut, Leaves, Saves}
+use Rattle.cm_tool.specs.Leaves.{HasStopCause, IsOutCause, KeepsOut, Leaves, Saves}
 use Rattle.cm_tool.specs.Outcome as outcomes
 use Rattle.cm_tool.specs.Outcome.{Outcome, build_over, built_or_refused, fault_message, job_outcome, keys_in, refusal, reporting, saving}
 use Rattle.cm_tool.specs.Run.{IsBuildMessage, IsCored, IsEmptied, IsStatus, IsUnfinished, KeysSpilled, LacksFile, Reaches, TookFirst}
@@ -43,7 +44,7 @@ over_fault job files [] fault f is = rw is refl
 over_fault job files (key ∷ keys) fault f is = rw is refl
 
 -- the outcome of a job whose keys file is there
-there : (job : BuildJob) (files : Files) (bytes : List ℕ) (o : Outcome) → file_at files job.keys ≡ Some bytes → build_over job files (keys_in job.first bytes).keys (keys_in job.first bytes).fault ≡ o → job_outcome files (Ok (Build job)) ≡ Some o
+there : (job : BuildJob) (files : Files) (bytes : List ℕ) (o : Outcome) → file_at files job.keys ≡ Some bytes → build_over job files (keys_in job.first job.end bytes).keys (keys_in job.first job.end bytes).fault ≡ o → job_outcome files (Ok (Build job)) ≡ Some o
 unfolding outcomes.build_outcome
 there job files bytes o file is = ap (option_map (outcomes.build_outcome job files)) file ∙ ap Some is
 
@@ -52,14 +53,14 @@ none_some e = absurd (cc)
 
 pub outcome_saving : (job : BuildJob) (files : Files) (dump : List ℕ) (saves : Saves job files dump) → job_outcome files (Ok (Build job)) ≡ Some (saving job files saves.f)
 outcome_saving job files dump saves =
-    let keys = (keys_in job.first saves.bytes).keys in
-    there job files saves.bytes _ saves.there (over_some job files keys (keys_in job.first saves.bytes).fault saves.made.no_fault (omega (arith, saves.made.many.0)) ∙ ap (built_or_refused job files) saves.made.result_is)
+    let keys = (keys_in job.first job.end saves.bytes).keys in
+    there job files saves.bytes _ saves.there (over_some job files keys (keys_in job.first job.end saves.bytes).fault saves.made.no_fault (omega (arith, saves.made.many.0)) ∙ ap (built_or_refused job files) saves.made.result_is)
 
 -- a report on the keys is the outcome
-pub outcome_reporting : (job : BuildJob) (files : Files) (bytes : List ℕ) (shown : FailureReport) → file_at files job.keys ≡ Some bytes → HasNone job.algorithm job.b (keys_in job.first bytes) job.c (seeds_tried job) shown → job_outcome files (Ok (Build job)) ≡ Some (reporting files shown)
+pub outcome_reporting : (job : BuildJob) (files : Files) (bytes : List ℕ) (shown : FailureReport) → file_at files job.keys ≡ Some bytes → HasNone job.algorithm job.b (keys_in job.first job.end bytes) job.c (seeds_tried job) shown → job_outcome files (Ok (Build job)) ≡ Some (reporting files shown)
 outcome_reporting job files bytes shown file none =
-    let keys = (keys_in job.first bytes).keys in
-    there job files bytes _ file (over_some job files keys (keys_in job.first bytes).fault none.no_fault none.some ∙ ap (built_or_refused job files) none.result_is)
+    let keys = (keys_in job.first job.end bytes).keys in
+    there job files bytes _ file (over_some job files keys (keys_in job.first job.end bytes).fault none.no_fault none.some ∙ ap (built_or_refused job files) none.result_is)
 
 -- a build that stopped, with out as before
 quiet_end : (job : BuildJob) (files : Files) (old new : Outside) (status : ℕ) (text : List ℕ) → job_outcome files (Ok (Build job)) ≡ Some (refusal status text files) → new.out.written ≡ old.out.written → Says old.err new.err text → new.disk.files ≡ Some files
@@ -147,7 +148,7 @@ finished job old new s files leaves same says is =
     }
 
 -- the spill of a build whose function was saved
-pub keys_spilled : (job : BuildJob) (files : Files) (bytes dump : List ℕ) (old new : Option (List ℕ)) (saves : Saves job files dump) → file_at files job.keys ≡ Some bytes → HasSpilled saves.f (keys_in job.first bytes).keys old new → KeysSpilled files old new job
+pub keys_spilled : (job : BuildJob) (files : Files) (bytes dump : List ℕ) (old new : Option (List ℕ)) (saves : Saves job files dump) → file_at files job.keys ≡ Some bytes → HasSpilled saves.f (keys_in job.first job.end bytes).keys old new → KeysSpilled files old new job
 keys_spilled job files bytes dump old new saves there spilled = (bytes, saves.f, there, outcome_saving job files dump saves, spilled)
 
 pub took_first : (job : BuildJob) (old new : Option Files) (out out_new : Option (List ℕ)) (s : Summary) (files : Files) → Leaves job old new out out_new (Ok s) → old ≡ Some files → TookFirst files job
@@ -170,8 +171,8 @@ is_cored job old new out out_new NoKeys files leaves is one = absurd (omega arit
 is_cored job old new out out_new (TooLong line) files leaves is one = absurd (omega arith)
 is_cored job old new out out_new TooMany files leaves is one = absurd (omega arith)
 
-part_of : (job : BuildJob) (old new : Option Files) {dump text : List ℕ} → dump ≡ text → IsPart job dump old new → IsPart job text old new
-part_of job old new is part = subst (λ (bytes : List ℕ). IsPart job bytes old new) is part
+part_of : (job : BuildJob) (old new : Option Files) {dump text : List ℕ} → dump ≡ text → IsPart job.function dump old new → IsPart job.function text old new
+part_of job old new is part = subst (λ (bytes : List ℕ). IsPart job.function bytes old new) is part
 
 -- a build that could not write
 pub written_part : (job : BuildJob) (old new : Outside) (stop : Stop) (files : Files) → Leaves job old.disk.files new.disk.files old.out.written new.out.written (Err stop) → KeepsOut old.out.written new.out.written stop → HasStopForm job.algorithm stop → IsOutCause old.out.faults new.out.faults stop

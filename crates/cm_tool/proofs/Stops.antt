@@ -35,7 +35,7 @@ reported job told shown old new (TooLong line) none got = absurd got
 reported job told shown old new TooMany none got = absurd got
 
 -- a refusal by the keys of a file that is there
-refused_by : (job : BuildJob) (files : Files) (bytes : List ℕ) (old new : Option (List ℕ)) (stop : Stop) → file_at files job.keys ≡ Some bytes → Refuses job (keys_in job.first bytes) old new stop → IsRefused job files old new stop
+refused_by : (job : BuildJob) (files : Files) (bytes : List ℕ) (old new : Option (List ℕ)) (stop : Stop) → file_at files job.keys ≡ Some bytes → Refuses job (keys_in job.first job.end bytes) old new stop → IsRefused job files old new stop
 refused_by job files bytes old new Memory there refuses = tt
 refused_by job files bytes old new Read there refuses = tt
 refused_by job files bytes old new Write there refuses = (bytes, there, refuses)
@@ -49,12 +49,12 @@ refused_by job files bytes old new (TooLong line) there refuses = (bytes, there,
 refused_by job files bytes old new TooMany there refuses = (bytes, there, refuses)
 
 pub refused_from : (job : BuildJob) (files : Files) (bytes : List ℕ) (fault : FuncFault) (old new : Option (List ℕ)) (stop : Stop) → file_at files job.keys ≡ Some bytes
-    → FailsFunc job.algorithm job.b (keys_in job.first bytes) job.c (seeds_tried job) fault → StopsFor fault old new stop → IsRefused job files old new stop
+    → FailsFunc job.algorithm job.b (keys_in job.first job.end bytes) job.c (seeds_tried job) fault → StopsFor fault old new stop → IsRefused job files old new stop
 refused_from job files bytes func_fault.Memory old new stop there fails stops = rw stops.0 tt
 refused_from job files bytes func_fault.NoKeys old new stop there fails stops = rw stops.0 (bytes, there, fails)
-refused_from job files bytes (func_fault.Cored made) old new stop there fails stops = refused_by job files bytes old new stop there (reported job (keys_in job.first bytes) (shown_core made) old new stop fails stops)
+refused_from job files bytes (func_fault.Cored made) old new stop there fails stops = refused_by job files bytes old new stop there (reported job (keys_in job.first job.end bytes) (shown_core made) old new stop fails stops)
 refused_from job files bytes (func_fault.Overfull seed bucket count equal) old new stop there fails stops =
-    refused_by job files bytes old new stop there (reported job (keys_in job.first bytes) (shown_overfull seed bucket count equal.items) old new stop fails stops)
+    refused_by job files bytes old new stop there (reported job (keys_in job.first job.end bytes) (shown_overfull seed bucket count equal.items) old new stop fails stops)
 refused_from job files bytes (func_fault.Key key_fault.Read) old new stop there fails stops = rw stops.0 tt
 refused_from job files bytes (func_fault.Key (key_fault.TooLong line)) old new stop there fails stops = rw stops.0 (bytes, there, fails)
 refused_from job files bytes (func_fault.Key key_fault.TooMany) old new stop there fails stops = rw stops.0 (bytes, there, fails)

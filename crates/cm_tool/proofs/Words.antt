@@ -9,6 +9,7 @@ use Rattle.cm_tool_stops.specs.Ends.{Says, usage_status_of}
 use Rattle.cm_tool_stops.specs.Messages.{out_of_memory, usage_message}
 use Rattle.cm_tool_stops.specs.declared.stop.QueryStop.TheVariants as query_stop
 use Rattle.cm_tool_stops.specs.declared.stop.Stop.TheVariants as stop
+use Rattle.cm_tool_stops.specs.declared.stop.UpgradeStop.TheVariants as upgrade_stop
 use Rattle.cm_tool.specs.Outcome.{Outcome, job_outcome, printing, refusal}
 use Rattle.cm_tool.specs.Run.{ForQuery, ForTest, IsCutShort, IsMessage, IsStatus, LacksFile, Reaches, UnlessQuery, UnlessTest}
 use Rattle.cm_tool.specs.TestEnds.{GotPrefix}
@@ -16,11 +17,12 @@ use Rattle.cm_tool.specs.Tested.{test_outcome}
 use Rattle.cm_tool.proofs.Asks.{query_message_is}
 use Rattle.cm_tool.proofs.Outcomes.{message_is, none_some}
 use Rattle.cm_tool.proofs.Tests.{got_nothing, test_message}
+use Rattle.cm_tool.proofs.Upgrades.{upgrade_message_is}
 use Rattle.cm_words.specs.Options.{Read as Reading}
 use Rattle.cm_words.specs.declared.fault.UsageFault.{UsageFault}
 use Rattle.cm_words.specs.declared.fault.UsageFault.TheVariants as usage
 use Rattle.cm_words.specs.declared.jobs.Job.{Job}
-use Rattle.cm_words.specs.declared.jobs.Job.TheVariants.{Help, Version, Build, Query, Test}
+use Rattle.cm_words.specs.declared.jobs.Job.TheVariants.{Help, Version, Build, Query, Test, Upgrade}
 
 -- what holds holds unless a query is asked for
 pub unless_query : {P : Type 0} (asked : Reading Job) → P → UnlessQuery asked P
@@ -30,6 +32,7 @@ unless_query (Ok Version) p = p
 unless_query (Ok (Build job)) p = p
 unless_query (Ok (Query job)) p = tt
 unless_query (Ok (Test job)) p = p
+unless_query (Ok (Upgrade job)) p = p
 
 -- and unless a test is
 pub unless_test : {P : Type 0} (asked : Reading Job) → P → UnlessTest asked P
@@ -39,6 +42,7 @@ unless_test (Ok Version) p = p
 unless_test (Ok (Build job)) p = p
 unless_test (Ok (Query job)) p = p
 unless_test (Ok (Test job)) p = tt
+unless_test (Ok (Upgrade job)) p = p
 
 -- out got nothing of a test that had not begun
 pub early_tested : (asked : Reading Job) (files : Files) (old : Option (List ℕ)) → ForTest asked (λ job. GotPrefix (test_outcome job files).out old old)
@@ -48,6 +52,7 @@ early_tested (Ok Version) files old = tt
 early_tested (Ok (Build job)) files old = tt
 early_tested (Ok (Query job)) files old = tt
 early_tested (Ok (Test job)) files old = got_nothing (test_outcome job files).out old old refl
+early_tested (Ok (Upgrade job)) files old = tt
 
 -- memory runs out before the job is known
 early_cut : (asked : Reading Job) (files : Files) (old : Outside) (err : SinkState) → Says old.err err out_of_memory → ForQuery asked (IsCutShort old (outside old.disk old.out err) files 6)
@@ -57,6 +62,7 @@ early_cut (Ok Version) files old err says = tt
 early_cut (Ok (Build job)) files old err says = tt
 early_cut (Ok (Query job)) files old err says = record { notes = []; text = out_of_memory; says = says; read = λ e. absurd (omega arith); write = λ e. absurd (omega arith); memory = λ e. ((refl, refl), refl) }
 early_cut (Ok (Test job)) files old err says = tt
+early_cut (Ok (Upgrade job)) files old err says = tt
 
 early_message : (asked : Reading Job) (out now : ℕ) → now ≡ out → IsMessage asked out now 6 out_of_memory
 early_message (Err fault) out now same = record { refused = λ e. absurd (omega arith); memory = λ e. refl }
@@ -65,6 +71,7 @@ early_message (Ok Version) out now same = record { done = λ e. absurd (omega ar
 early_message (Ok (Build job)) out now same = message_is job out now stop.Memory tt same
 early_message (Ok (Query job)) out now same = query_message_is job query_stop.Memory
 early_message (Ok (Test job)) out now same = test_message job Chm out now stop.Memory tt same
+early_message (Ok (Upgrade job)) out now same = upgrade_message_is job upgrade_stop.Memory
 
 -- arguments that ask for no job
 misused : (fault : UsageFault) (files : Files) (old : Outside) (err : SinkState) → Says old.err err (usage_message fault) → old.disk.files ≡ Some files → Reaches old (outside old.disk old.out err) (job_outcome files (Err fault)) 2
@@ -140,6 +147,7 @@ early_status (Ok Version) = refl
 early_status (Ok (Build job)) = refl
 early_status (Ok (Query job)) = refl
 early_status (Ok (Test job)) = refl
+early_status (Ok (Upgrade job)) = refl
 
 status_for : (asked : Reading Job) (fault : UsageFault) → Err fault ≡ asked → IsStatus asked 2
 status_for asked fault is = subst (λ (a : Reading Job). IsStatus a 2) is refl

@@ -9,6 +9,7 @@ use Rattle.cm_io.specs.Files.{Files, file_at, with_file}
 use Rattle.cm_io.specs.Passes.{Told}
 use Rattle.cm_io.specs.Writing.{then_bytes}
 use Rattle.cm_io.specs.declared.key_pass.KeyFault.TheVariants as key_fault
+use Rattle.cm_tool_files.specs.Stores.{IsPart}
 use Rattle.cm_tool_stops.specs.Summaries.{summary_of}
 use Rattle.cm_tool_stops.specs.declared.built.Summary.{Summary}
 use Rattle.cm_tool_stops.specs.declared.stop.Stop.TheVariants.{Memory, Read, Write, WriteOut, Refused, Spill, NoKeys, TooLong, TooMany}
@@ -42,7 +43,7 @@ HasOutCause o o' (Err stop) = IsOutCause o o' stop
 
 -- the function of a job over the keys in these bytes
 abbrev pub IsFunctionOf : BuildJob → List ℕ → Func → Type 0
-IsFunctionOf job bytes f = IsFuncOf job.algorithm job.b (keys_in job.first bytes) job.c (seeds_tried job) f
+IsFunctionOf job bytes f = IsFuncOf job.algorithm job.b (keys_in job.first job.end bytes) job.c (seeds_tried job) f
 
 -- what out got of a report: all of it, or a prefix if out failed
 abbrev pub GotReport : FailureReport → Option (List ℕ) → Option (List ℕ) → Stop → Type 0
@@ -80,7 +81,7 @@ Refuses job told old new stop = ⊥
 abbrev pub IsRefused : BuildJob → Files → Option (List ℕ) → Option (List ℕ) → Stop → Type 0
 IsRefused job files old new Memory = Unit {0}
 IsRefused job files old new Read = Unit {0}
-IsRefused job files old new stop = (bytes : List ℕ) × (file_at files job.keys ≡ Some bytes) × Refuses job (keys_in job.first bytes) old new stop
+IsRefused job files old new stop = (bytes : List ℕ) × (file_at files job.keys ≡ Some bytes) × Refuses job (keys_in job.first job.end bytes) old new stop
 
 -- the bytes are the dump of the function of the keys file
 pub record Saves (job : BuildJob) (files : Files) (dump : List ℕ) : Type 0 where
@@ -95,14 +96,10 @@ pub record Saves (job : BuildJob) (files : Files) (dump : List ℕ) : Type 0 whe
 abbrev pub SavesAs : BuildJob → Files → List ℕ → Summary → Type 0
 SavesAs job files dump s = (saves : Saves job files dump) × (s ≡ summary_of saves.f)
 
--- the files are as before, or the function file holds a prefix of the dump
-abbrev pub IsPart : BuildJob → List ℕ → Option Files → Option Files → Type 0
-IsPart job dump old new = (new ≡ old) ⊎ ((n : ℕ) × (new ≡ with_file job.function (take n dump) old))
-
 -- what each end of a build leaves of the files, out having had and having this. Memory may run out once the function is built, and then
 -- the function file may be empty.
 abbrev pub Leaves : BuildJob → Option Files → Option Files → Option (List ℕ) → Option (List ℕ) → Result Summary Stop → Type 0
 Leaves job old new out_old out_new (Ok s) = (dump : List ℕ) × (new ≡ with_file job.function dump old) × ForSome old (λ files. SavesAs job files dump s)
 Leaves job old new out_old out_new (Err Memory) = (new ≡ old) ⊎ ((dump : List ℕ) × (new ≡ with_file job.function [] old) × ForSome old (λ files. Saves job files dump))
-Leaves job old new out_old out_new (Err Write) = (dump : List ℕ) × IsPart job dump old new × ForSome old (λ files. Saves job files dump)
+Leaves job old new out_old out_new (Err Write) = (dump : List ℕ) × IsPart job.function dump old new × ForSome old (λ files. Saves job files dump)
 Leaves job old new out_old out_new (Err stop) = (new ≡ old) × ForSome old (λ files. IsRefused job files out_old out_new stop)

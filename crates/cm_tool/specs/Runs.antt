@@ -7,7 +7,7 @@ use Rattle.cm_io.specs.States.{IsSent, Outside}
 use Rattle.cm_io.specs.Writing.{then_bytes}
 use Rattle.cm_tool_stops.specs.Ends.{Says}
 use Rattle.cm_tool.specs.Outcome.{outcome_of}
-use Rattle.cm_tool.specs.Run.{IsStatus, ForBuild, ForQuery, ForTest, ForText, IfBuild, IsEmptied, UnlessBrz, UnlessBuild, UnlessJob, UnlessQuery, UnlessTest, LacksFile, Reaches, TookFirst, SavedNumbers, KeysSpilled, IsCored, IsUnfinished, IsCutShort, IsMessage}
+use Rattle.cm_tool.specs.Run.{IsStatus, ForBuild, ForQuery, ForTest, ForText, ForUpgrade, IfStoring, IsEmptied, IsEmptiedByUpgrade, IsHalfUpgraded, UnlessBrz, UnlessPrinting, UnlessQuery, UnlessStoring, UnlessTest, LacksFile, Reaches, TookFirst, SavedNumbers, KeysSpilled, IsCored, IsUnfinished, IsCutShort, IsMessage}
 use Rattle.cm_tool.specs.Spills.{TestSpilled}
 use Rattle.cm_tool.specs.TestEnds.{GotPrefix, IsUnfinishedTest}
 use Rattle.cm_tool.specs.Tested.{test_outcome}
@@ -42,17 +42,19 @@ pub record Runs (words : List (List ℕ)) (old new : Outside) (result : ℕ) : T
   pub unchanged : ForSome old.disk.files (λ _. result ≢ 7)
   -- If a file that is needed isn't there, the status is 4, or 6 if memory runs out, and nothing is done.
   pub missing : ForSome old.disk.files (λ files. outcome_of words files ≡ None → LacksFile old new result)
-  -- Sentence 4. The files after a failure. Only a build changes them, and only if its outcome saves a function. If the spill fails, they
-  -- stay as before. The message of a build that could not write names what failed: out, which got a prefix of the report; or by BRZ the
-  -- directory of the spill, and then nothing changed; or the function file, if the outcome saves a function.
+  -- Sentence 4. The files after a failure. Only a build or an upgrade changes them, and only if its outcome saves a function. If the spill
+  -- fails, they stay as before. The message of a build that could not write names what failed: out, which got a prefix of the report; or
+  -- by BRZ the directory of the spill, and then nothing changed; or the function file, if the outcome saves a function. That of an upgrade
+  -- names the function file, which is as before or holds a prefix of the dump.
   pub kept : result ≢ 0 → result ≢ 5 → result ≢ 6 → new.disk.files ≡ old.disk.files
   pub part : result ≡ 5 → ForSome old.disk.files (λ files. ForBuild (job_of words) (IsUnfinished old new files))
-  pub memory : result ≡ 6 → (new.disk.files ≡ old.disk.files) ⊎ IfBuild (job_of words) (IsEmptied old.disk.files new.disk.files)
-  pub asked : UnlessBuild (job_of words) ((new.disk.files ≡ old.disk.files) × UnlessTest (job_of words) (new.disk.write_faults ≡ old.disk.write_faults))
+  pub half : result ≡ 5 → ForSome old.disk.files (λ files. ForUpgrade (job_of words) (IsHalfUpgraded old new files))
+  pub memory : result ≡ 6 → (new.disk.files ≡ old.disk.files) ⊎ IfStoring (job_of words) (IsEmptied old.disk.files new.disk.files) (IsEmptiedByUpgrade old.disk.files new.disk.files)
+  pub asked : UnlessStoring (job_of words) ((new.disk.files ≡ old.disk.files) × UnlessTest (job_of words) (new.disk.write_faults ≡ old.disk.write_faults))
   -- Only a query, the help, the version, a test and the report of a failed build are written to out. If memory runs out, only lines of
   -- a test are. Out gets a prefix of the help or the version, also if it fails. It gets a prefix of a test's text if out, the spill or
   -- memory fails.
-  pub out : UnlessJob (job_of words) ((new.out.written ≡ old.out.written) × (new.out.faults ≡ old.out.faults))
+  pub out : UnlessPrinting (job_of words) ((new.out.written ≡ old.out.written) × (new.out.faults ≡ old.out.faults))
   pub built : result ≢ 1 → result ≢ 5 → ForBuild (job_of words) (λ _. new.out.written ≡ old.out.written)
   pub silent : result ≡ 6 → UnlessTest (job_of words) (new.out.written ≡ old.out.written)
   pub front : ForText (job_of words) (λ text. (n : ℕ) × (new.out.written ≡ then_bytes old.out.written (take n text)))

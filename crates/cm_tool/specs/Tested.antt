@@ -6,6 +6,7 @@ use Rattle.cm_algo_names.specs.declared.algorithm.Algorithm.TheVariants.{Bdz, Br
 use Rattle.cm_dump.specs.Dumps.{dump_of}
 use Rattle.cm_func.specs.Functions.{answer_by}
 use Rattle.cm_func.specs.declared.function.Func.{Func}
+use Rattle.cm_keys.specs.declared.keys.TheConstants.{LINE_END}
 use Rattle.cm_keys_made.specs.Texts.{made_text}
 use Rattle.cm_words_values.specs.Options.{algorithms, usual_ratio}
 use Rattle.cm_io.specs.Files.{Files}
@@ -31,7 +32,7 @@ test_plan algorithm buffer = record { algorithm = algorithm; c = usual_ratio alg
 
 -- n generated keys, one a line
 unfoldable pub generated : ℕ → Told
-generated n = keys_in None (made_text n)
+generated n = keys_in None LINE_END (made_text n)
 
 -- the line of a function that was built over n keys: its algorithm, how many keys, how many bytes its dump has, and the sum of its answers
 abbrev pub line_text : Algorithm → ℕ → ℕ → ℕ → List ℕ

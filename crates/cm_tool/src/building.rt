@@ -23,7 +23,7 @@ use arrayvec::ArrayVec;
 use cm_brz::write_overfull;
 use cm_func::{Func, SeedFailure};
 use cm_io::{Disk, DiskFault, Failed, KeyFault, Sink};
-use cm_keys::{Keys, LINE_END};
+use cm_keys::Keys;
 use cm_tool_builds::{FuncFault, func_of};
 use cm_tool_files::store;
 use cm_tool_stops::{Stop, Summary, report, say_built, send_text, sum_up};
@@ -143,7 +143,7 @@ fn function_of<D: Disk, O: Sink>(
     ensures files { (D.state disk.new).files ≡ (D.state disk.old).files }
     ensures cause { HasStopCause (D.state disk.old).read_faults (D.state disk.new).read_faults (D.state disk.old).write_faults (D.state disk.new).write_faults result }
     ensures made { IfOk result (λ f. ForSome (D.state disk.old).files (λ files. (bytes : List ℕ) × (file_at files job.now.keys ≡ Some bytes) × IsFunctionOf job.now bytes f)) }
-    ensures spilled { IfOk result (λ f. ForSome (D.state disk.old).files (λ files. (bytes : List ℕ) × (file_at files job.now.keys ≡ Some bytes) × HasSpilled f (keys_in job.now.first bytes).keys (D.state disk.old).spilled (D.state disk.new).spilled)) }
+    ensures spilled { IfOk result (λ f. ForSome (D.state disk.old).files (λ files. (bytes : List ℕ) × (file_at files job.now.keys ≡ Some bytes) × HasSpilled f (keys_in job.now.first job.now.end bytes).keys (D.state disk.old).spilled (D.state disk.new).spilled)) }
     ensures unspilled { UnlessSpilled job.now.algorithm ((D.state disk.new).spilled ≡ (D.state disk.old).spilled) }
     ensures valid { IfOk result IsFunction }
     ensures refused { IfErr result (λ stop. ForSome (D.state disk.old).files (λ files. IsRefused job.now files (O.state out.old).written (O.state out.new).written stop)) }
@@ -157,7 +157,7 @@ fn function_of<D: Disk, O: Sink>(
         Err(DiskFault::Memory) => return Err(Stop::Memory),
         Err(DiskFault::Failed) => return Err(Stop::Read),
     };
-    let mut keys = Keys::new(reader, job.first, LINE_END);
+    let mut keys = Keys::new(reader, job.first, job.end);
     let tried = seeds(job.seed, job.count);
     let outcome = func_of(
         alloc,

@@ -7,6 +7,7 @@ mod plan;
 mod querying;
 mod testing;
 mod top;
+mod upgrading;
 
 pub use crate::top::run;
 pub use cm_keys_made::MadeKeys;

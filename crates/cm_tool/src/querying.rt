@@ -5,6 +5,7 @@ ghost use Rattle.cm_io.specs.States.{IsSent, outside};
 ghost use Rattle.cm_tool_stops.specs.Ends.{Says};
 ghost use Rattle.cm_tool.specs.Outcome.{job_outcome};
 ghost use Rattle.cm_tool.specs.Run.{IsCutShort, IsQueryMessage, IsStatus, LacksFile, Reaches};
+ghost use Rattle.cm_words.specs.Limits.{IsQuery};
 ghost use Rattle.cm_words.specs.declared.jobs.Job.TheVariants.{Query};
 
 use cm_io::{Disk, Notes, Sink};
@@ -22,6 +23,7 @@ pub(crate) fn run_query<D: Disk, O: Sink, E: Sink>(
     out: &mut O,
     err: &mut E,
 ) -> u8
+    requires job { IsQuery job.now }
     ensures status { IsStatus (Ok (Query job.now)) result }
     ensures files { (D.state disk.new).files ≡ (D.state disk.old).files }
     ensures spilled { (D.state disk.new).spilled ≡ (D.state disk.old).spilled }

@@ -61,7 +61,7 @@ fn ratio_by(algorithm: Algorithm) -> u32
 }
 
 /// The default parameter b.
-fn b_by(algorithm: Algorithm) -> u8
+fn b_by(algorithm: Algorithm) -> u16
     ensures b { result ≡ usual_b algorithm }
     ensures asked { bits_value true algorithm None ≡ Ok result }
 {

@@ -6,6 +6,7 @@ ghost use Rattle.cm_tool.specs.Runs.{Runs};
 use crate::building::run_build;
 use crate::querying::run_query;
 use crate::testing::run_test;
+use crate::upgrading::run_upgrade;
 use cm_io::{Disk, Sink};
 use cm_tool_stops::{end_of_text, print_help, print_version, report_usage};
 use cm_words::{Job, read_words};
@@ -38,6 +39,7 @@ pub fn run<D: Disk, O: Sink, E: Sink>(
         Ok(Job::Build(job)) => run_build(alloc, &job, disk, out, err),
         Ok(Job::Query(job)) => run_query(alloc, &job, disk, out, err),
         Ok(Job::Test(job)) => run_test(alloc, &job, disk, out, err),
+        Ok(Job::Upgrade(job)) => run_upgrade(alloc, &job, disk, err),
         Err(fault) => report_usage(fault, err),
     }
 }

@@ -6,11 +6,12 @@ ghost use Rattle.cm_io.specs.States.{IsSent};
 ghost use Rattle.cm_io.specs.Noting.{Noted};
 ghost use Rattle.cm_tool_files.specs.Asked.{EndsKeys, HasQueryStopCause, stop_from_query};
 ghost use Rattle.cm_tool_stops.specs.declared.stop.QueryStop.{QueryStop};
+ghost use Rattle.cm_words.specs.Limits.{IsQuery};
 ghost use Rattle.cm_words.specs.declared.jobs.QueryJob.{QueryJob};
 
 use cm_dump::Func;
 use cm_io::{Disk, DiskFault, KeyFault, Notes, Sink};
-use cm_keys::{Keys, LINE_END};
+use cm_keys::Keys;
 use cm_query::{QueryFault, Tally, query};
 use cm_tool_stops::QueryStop;
 use cm_words::QueryJob;
@@ -39,6 +40,7 @@ pub(crate) fn ask_keys<D: Disk, O: Sink, E: Sink>(
     err: &mut E,
     notes: &mut Notes,
 ) -> Result<Tally, QueryStop>
+    requires job { IsQuery job.now }
     ensures files { (D.state disk.new).files ≡ (D.state disk.old).files }
     ensures spilled { (D.state disk.new).spilled ≡ (D.state disk.old).spilled }
     ensures cause { HasQueryStopCause (D.state disk.old).read_faults (D.state disk.new).read_faults (D.state disk.old).write_faults (D.state disk.new).write_faults (O.state out.old).faults (O.state out.new).faults result }
@@ -55,8 +57,8 @@ pub(crate) fn ask_keys<D: Disk, O: Sink, E: Sink>(
         Err(DiskFault::Memory) => return Err(QueryStop::Memory),
         Err(DiskFault::Failed) => return Err(QueryStop::Read),
     };
-    let mut pass = Keys::new(reader, job.first, LINE_END);
-    let asked = query(alloc, function, &mut pass, LINE_END, out, err, notes);
+    let mut pass = Keys::new(reader, job.first, job.end);
+    let asked = query(alloc, function, &mut pass, job.end, out, err, notes);
     disk.shut(pass.into_source());
     match asked {
         Ok(tally) => Ok(tally),

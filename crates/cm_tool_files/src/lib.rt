@@ -6,7 +6,9 @@ mod asking;
 mod loading;
 mod reloading;
 mod storing;
+mod upgrading;
 
 pub use crate::answering::answer_file;
 pub use crate::reloading::reload;
 pub use crate::storing::store;
+pub use crate::upgrading::upgrade_file;

@@ -7,6 +7,8 @@ use Rattle.cm_tool_stops.specs.declared.stop.QueryStop.{QueryStop}
 use Rattle.cm_tool_stops.specs.declared.stop.QueryStop.TheVariants as query_stop
 use Rattle.cm_tool_stops.specs.declared.stop.Stop.{Stop}
 use Rattle.cm_tool_stops.specs.declared.stop.Stop.TheVariants.{Memory, Read, Write, WriteOut, Refused, Changed, Spill, SpillDamaged, NoKeys, TooLong, TooMany}
+use Rattle.cm_tool_stops.specs.declared.stop.UpgradeStop.{UpgradeStop}
+use Rattle.cm_tool_stops.specs.declared.stop.UpgradeStop.TheVariants as upgrade_stop
 use Rattle.cm_words.specs.declared.fault.UsageFault.{UsageFault}
 use Rattle.cm_words.specs.declared.fault.UsageFault.TheVariants as usage
 use Rattle.cm_words.specs.declared.jobs.QueryJob.{QueryJob}
@@ -58,6 +60,20 @@ query_message_of job query_stop.Read = cannot_read job.keys
 query_message_of job query_stop.Write = cannot_write_out
 query_message_of job (query_stop.TooLong line) = line_too_long job.keys line
 query_message_of job query_stop.TooMany = too_many_keys job.keys
+
+-- the status of an upgrade that stopped
+abbrev pub upgrade_status_of : UpgradeStop → ℕ
+upgrade_status_of upgrade_stop.Memory = 6
+upgrade_status_of upgrade_stop.Read = 4
+upgrade_status_of (upgrade_stop.BadDump fault) = 3
+upgrade_status_of upgrade_stop.Write = 5
+
+-- its message, by the path of the function file
+abbrev pub upgrade_message_of : List ℕ → UpgradeStop → List ℕ
+upgrade_message_of function upgrade_stop.Memory = out_of_memory
+upgrade_message_of function upgrade_stop.Read = cannot_read function
+upgrade_message_of function (upgrade_stop.BadDump fault) = bad_dump function fault
+upgrade_message_of function upgrade_stop.Write = cannot_write function
 
 -- the status of arguments that ask for no job
 abbrev pub usage_status_of : UsageFault → ℕ

@@ -8,5 +8,7 @@ mod stop;
 
 pub use crate::built::{Summary, sum_up};
 pub use crate::printing::{end_of_text, print_help, print_version, send_text};
-pub use crate::reporting::{report, report_no_memory, report_query, report_usage, say_built};
-pub use crate::stop::{QueryStop, Stop};
+pub use crate::reporting::{
+    report, report_no_memory, report_query, report_upgrade, report_usage, say_built,
+};
+pub use crate::stop::{QueryStop, Stop, UpgradeStop};

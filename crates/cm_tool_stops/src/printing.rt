@@ -17,8 +17,9 @@ pub fn print_help<O: Sink>(out: &mut O) -> Result<(), Failed>
     write_pieces(
         out,
         &[
-            b"usage: cmph [-v] [-h] [-V] [-k nkeys] [-f hash] [-g [-c c] [-s seed] [-r seeds]] [-a algorithm] [-M MB] [-b b] [-d dir] [-m file.mph] keysfile\n",
+            b"usage: cmph [-v] [-h] [-V] [-z] [-k nkeys] [-f hash] [-g [-c c] [-s seed] [-r seeds]] [-a algorithm] [-M MB] [-b b] [-d dir] [-m file.mph] keysfile\n",
             b"       cmph -T nkeys [-s seed] [-r seeds] [-M MB] [-d dir]\n",
+            b"       cmph -u [-m file.mph] [keysfile]\n",
             b"algorithms: chm bdz bdz_ph brz\n",
             b"hash functions: jenkins\n",
         ],
@@ -30,7 +31,7 @@ pub fn print_version<O: Sink>(out: &mut O) -> Result<(), Failed>
     ensures text { Writes (O.state out.old).written (O.state out.new).written version_text result }
     ensures cause { HasCause (O.state out.old).faults (O.state out.new).faults result }
 {
-    write_pieces(out, &[b"cmph 1\n"])
+    write_pieces(out, &[b"cmph 2\n"])
 }
 
 /// Flushes out after a text was printed.

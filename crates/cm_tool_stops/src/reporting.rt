@@ -3,11 +3,11 @@ ghost use Rattle.std.specs.Prelude.{◌≡◌, [], ◌∷◌, codes, false, map}
 ghost use Rattle.cm_io.specs.States.{IsSent};
 ghost use Rattle.cm_io.specs.Noting.{Noted};
 ghost use Rattle.cm_io.specs.Writing.{joined};
-ghost use Rattle.cm_tool_stops.specs.Ends.{Says, status_of, message_of, query_status_of, query_message_of, usage_status_of};
-ghost use Rattle.cm_tool_stops.specs.Messages.{bad_dump, built, built_message, cannot_read, cannot_write_out, counted, fault_place, fault_words, keys_changed, line_too_long, out_of_memory, program, seed_failure_message, spill_damaged, too_many_keys, usage_message};
+ghost use Rattle.cm_tool_stops.specs.Ends.{Says, status_of, message_of, query_status_of, query_message_of, upgrade_status_of, upgrade_message_of, usage_status_of};
+ghost use Rattle.cm_tool_stops.specs.Messages.{bad_dump, built, built_message, cannot_read, cannot_write, cannot_write_out, counted, fault_place, fault_words, keys_changed, line_too_long, out_of_memory, program, seed_failure_message, spill_damaged, too_many_keys, usage_message};
 
 use crate::built::Summary;
-use crate::stop::{QueryStop, Stop};
+use crate::stop::{QueryStop, Stop, UpgradeStop};
 use cm_algo_names::Algorithm;
 use cm_dump_items::LoadFault;
 use cm_func::SeedFailure;
@@ -151,7 +151,7 @@ fn explain<E: Sink>(
     match stop {
         Stop::Refused(failure) => note_seed_failure(failure, err, notes),
         Stop::Read => note_unread(keys, err, notes),
-        Stop::Write => notes.note_pieces(err, &[&PROGRAM, b": ", function, b": cannot write\n"]),
+        Stop::Write => note_unwritten(function, err, notes),
         Stop::WriteOut => note_out_fault(err, notes),
         Stop::Memory => note_want_of_memory(err, notes),
         Stop::Changed { first, now } => note_change(keys, first, now, err, notes),
@@ -230,6 +230,42 @@ fn query_status(stop: QueryStop) -> u8
     }
 }
 
+/// Says why an upgrade of a function file stopped, and returns its status.
+pub fn report_upgrade<E: Sink>(stop: UpgradeStop, function: &str, err: &mut E) -> u8
+    ensures status { result ≡ upgrade_status_of stop }
+    ensures says { Says (E.state err.old) (E.state err.new) (upgrade_message_of function.now stop) }
+    ensures sent { IsSent (E.state err.old) (E.state err.new) }
+{
+    let mut notes = Notes::new();
+    explain_upgrade(stop, function.as_bytes(), err, &mut notes);
+    upgrade_status(stop)
+}
+
+/// Notes why an upgrade stopped.
+fn explain_upgrade<E: Sink>(stop: UpgradeStop, function: &[u8], err: &mut E, notes: &mut Notes)
+    ensures noted { Noted notes.old notes.new (E.state err.old) (E.state err.new) (upgrade_message_of function.now stop) }
+    ensures sent { notes.new ≡ false → (E.state err.new).waits ≡ 0 }
+{
+    match stop {
+        UpgradeStop::Memory => note_want_of_memory(err, notes),
+        UpgradeStop::Read => note_unread(function, err, notes),
+        UpgradeStop::BadDump { fault } => explain_dump(function, fault, err, notes),
+        UpgradeStop::Write => note_unwritten(function, err, notes),
+    }
+}
+
+/// The status of an upgrade that stopped.
+fn upgrade_status(stop: UpgradeStop) -> u8
+    ensures status { result ≡ upgrade_status_of stop }
+{
+    match stop {
+        UpgradeStop::BadDump { fault: _ } => 3,
+        UpgradeStop::Read => 4,
+        UpgradeStop::Write => 5,
+        UpgradeStop::Memory => 6,
+    }
+}
+
 /// Notes why there is no function of the keys.
 fn note_seed_failure<E: Sink>(failure: SeedFailure, err: &mut E, notes: &mut Notes)
     ensures noted { Noted notes.old notes.new (E.state err.old) (E.state err.new) (seed_failure_message failure) }
@@ -293,6 +329,14 @@ fn note_unread<E: Sink>(file: &[u8], err: &mut E, notes: &mut Notes)
     ensures sent { notes.new ≡ false → (E.state err.new).waits ≡ 0 }
 {
     notes.note_pieces(err, &[&PROGRAM, b": ", file, b": cannot read\n"]);
+}
+
+/// Notes that a file can't be created, written or closed.
+fn note_unwritten<E: Sink>(file: &[u8], err: &mut E, notes: &mut Notes)
+    ensures noted { Noted notes.old notes.new (E.state err.old) (E.state err.new) (cannot_write file.now) }
+    ensures sent { notes.new ≡ false → (E.state err.new).waits ≡ 0 }
+{
+    notes.note_pieces(err, &[&PROGRAM, b": ", file, b": cannot write\n"]);
 }
 
 /// Notes that the keys changed.

@@ -39,6 +39,19 @@ pub enum Stop {
     TooMany,
 }
 
+/// What kept an upgrade from its end.
+#[derive(Clone, Copy)]
+pub enum UpgradeStop {
+    /// Out of memory.
+    Memory,
+    /// The function file can't be opened or read.
+    Read,
+    /// The function file is not the dump of a function.
+    BadDump { fault: LoadFault },
+    /// The function file can't be created, written or closed.
+    Write,
+}
+
 /// What kept a query from its end.
 #[derive(Clone, Copy)]
 pub enum QueryStop {

@@ -10,9 +10,9 @@ returns-in-Ok-outcome-clause-made g c = λ files is.
     let job = c.args.job.now in
     let path : c.as_str.result.now ≡ job.keys = c.as_str.ensures.bytes in
     let opened = c.in-Ok.ensures.reader files is in
-    let told = c.new-keys.ensures.told ∙ ap (λ (known : Option (List ℕ)). option_map (keys_in job.first) known) opened.tells in
+    let told = c.new-keys.ensures.told ∙ ap (λ (known : Option (List ℕ)). option_map (keys_in job.first job.end) known) opened.tells in
     let tried : c.as_slice.result.now ≡ seeds_tried job = search rules in
-    let made = c.in-Ok-outcome.ensures.made files (c.open.ensures.files ∙ is) (keys_in job.first opened.bytes) told in
+    let made = c.in-Ok-outcome.ensures.made files (c.open.ensures.files ∙ is) (keys_in job.first job.end opened.bytes) told in
     (opened.bytes, rw path at opened.there, rw (c.plan_of.ensures.plan, tried) at made)
 
 pub returns-in-Ok-outcome-clause-spilled : goal.returns-in-Ok-outcome-clause-spilled
@@ -20,8 +20,8 @@ returns-in-Ok-outcome-clause-spilled g c = λ files is.
     let job = c.args.job.now in
     let path : c.as_str.result.now ≡ job.keys = c.as_str.ensures.bytes in
     let opened = c.in-Ok.ensures.reader files is in
-    let told = c.new-keys.ensures.told ∙ ap (λ (known : Option (List ℕ)). option_map (keys_in job.first) known) opened.tells in
-    let spilled = c.in-Ok-outcome.ensures.spilled files (c.open.ensures.files ∙ is) (keys_in job.first opened.bytes) told in
+    let told = c.new-keys.ensures.told ∙ ap (λ (known : Option (List ℕ)). option_map (keys_in job.first job.end) known) opened.tells in
+    let spilled = c.in-Ok-outcome.ensures.spilled files (c.open.ensures.files ∙ is) (keys_in job.first job.end opened.bytes) told in
     (opened.bytes, rw path at opened.there, rw c.shut.ensures.spilled (rw c.open.ensures.spilled at spilled))
 
 pub returns-in-Err-clause-refused : goal.returns-in-Err-clause-refused
@@ -29,9 +29,9 @@ returns-in-Err-clause-refused g c = λ files is.
     let job = c.args.job.now in
     let path : c.as_str.result.now ≡ job.keys = c.as_str.ensures.bytes in
     let opened = c.in-Ok.ensures.reader files is in
-    let told = c.new-keys.ensures.told ∙ ap (λ (known : Option (List ℕ)). option_map (keys_in job.first) known) opened.tells in
+    let told = c.new-keys.ensures.told ∙ ap (λ (known : Option (List ℕ)). option_map (keys_in job.first job.end) known) opened.tells in
     let tried : c.as_slice.result.now ≡ seeds_tried job = search rules in
-    let fails = rw (c.plan_of.ensures.plan, tried) at (c.in-Err.ensures.fault files (c.open.ensures.files ∙ is) (keys_in job.first opened.bytes) told) in
+    let fails = rw (c.plan_of.ensures.plan, tried) at (c.in-Err.ensures.fault files (c.open.ensures.files ∙ is) (keys_in job.first job.end opened.bytes) told) in
     refused_from job files opened.bytes c.in-Err.fault _ _ c.stop_of.result (rw path at opened.there) fails c.stop_of.ensures.stops
 
 pub returns-in-Err-clause-form : goal.returns-in-Err-clause-form

@@ -58,15 +58,15 @@ pub returns : goal.returns
 returns c = λ job old new out_old out_new s files build leaves is.
     let saves = (leaves.2 files is).0 in
     let made = saves.made in
-    let keys = (keys_in job.first saves.bytes).keys in
+    let keys = (keys_in job.first job.end saves.bytes).keys in
     let laws : Laws keys job.c job.b (seeds_tried job) = record {
       empty = c.empty_rest.ensures.rest;
-      chm_numbers = λ seed. c.answers_numbers.ensures keys job.c seed made.many build.ratio;
-      bdz_apart = λ seed. c.answers_apart.ensures.bdz keys job.c seed job.b made.many build.ratio;
-      bdz_ph_apart = λ seed. c.answers_apart.ensures.bdz_ph keys job.c seed made.many build.ratio;
-      brz_apart = λ f wide of. c.numbers_apart.ensures.apart keys job.c job.b (seeds_tried job) f made.many.0 made.many.1 build.ratio wide of;
+      chm_numbers = λ seed. c.answers_numbers.ensures keys job.c seed made.many build.numbers.ratio;
+      bdz_apart = λ seed. c.answers_apart.ensures.bdz keys job.c seed job.b made.many build.numbers.ratio;
+      bdz_ph_apart = λ seed. c.answers_apart.ensures.bdz_ph keys job.c seed made.many build.numbers.ratio;
+      brz_apart = λ f wide of. c.numbers_apart.ensures.apart keys job.c job.b (seeds_tried job) f made.many.0 made.many.1 build.numbers.ratio wide of;
     } in
-    let wide : job.algorithm ≡ Brz → 1 ≤ job.b = λ by. omega (arith, (build.width by).0) in
+    let wide : job.algorithm ≡ Brz → 1 ≤ job.b = λ by. omega (arith, (build.numbers.width by).0) in
     let answers = answers_of job.algorithm job.b keys job.c (seeds_tried job) saves.f wide laws made.made in
     let spells = ap spelling_of saves.dump_is ∙ c.dumps_spell.ensures.spelling saves.f saves.valid in
     (saves.bytes, leaves.0, saves.f, map.insert files job.function leaves.0, saves.there, leaves.1 ∙ ap (with_file job.function leaves.0) is, written_at files job.function leaves.0, spells, answers.0, answers.1)

@@ -1,4 +1,4 @@
-use Rattle.std.proofs.Common.{rules, ◌≡◌, subst}
+use Rattle.std.proofs.Common.{arith, rules, ◌≡◌, subst}
 use Rattle.cm_tool_builds.specs.Spills.{UnlessSpilled}
 use Rattle.cm_tool_builds.specs.declared.plan.Plan.{Plan}
 use Rattle.cm_tool.specs.Jobs.{seeds_of}
@@ -16,7 +16,7 @@ pub returns-in-Err-clause-fault : goal.returns-in-Err-clause-fault
 returns-in-Err-clause-fault g c = λ files is.
     let job = c.args.job.now in
     let tried : c.as_slice.result.now ≡ seeds_of job.seed job.count = search rules in
-    let made = made_by job.keys (c.lines.ensures job.keys c.requires.job.keys.1) in
+    let made = made_by job.keys (c.lines.ensures job.keys (omega (arith, c.requires.job.keys.1))) in
     let fails = fault_from job c.args.algorithm c.plan_by.result c.as_slice.result.now c.in-Err.fault c.plan_by.ensures.plan tried (c.in-Err.ensures.fault files is (tested.generated job.keys) c.generated_pass-keys.ensures.told) in
     fails_test job c.args.algorithm c.in-Err.fault c.generated_pass-keys.result.faults c.func_of-built.new.keys.faults (g.D.Disk.state c.args.disk.now).write_faults (g.D.Disk.state c.func_of-built.new.disk).write_faults made c.requires.job.keys.0
     c.generated_pass-keys.ensures.faults c.into_source-text.ensures.faults c.in-Err.ensures.cause fails

@@ -1,9 +1,9 @@
-use Rattle.std.proofs.Common.{[], ◌≡◌, ◌∙◌, Ok, ap, arith, sym, refl, inl, inr}
+use Rattle.std.proofs.Common.{[], ◌∷◌, ◌≡◌, ◌∙◌, Ok, ap, arith, sym, refl, inl, inr}
 use Rattle.cm_io.specs.States.{outside}
 use Rattle.cm_tool_stops.specs.Messages.{usage_message}
 use Rattle.cm_tool_stops.specs.Texts.{help_text, version_text}
 use Rattle.cm_tool.specs.Outcome.{job_outcome}
-use Rattle.cm_tool.proofs.Clauses.{any_build, for_build, for_query, for_test, for_text, not_brz, not_build, not_job, not_query, not_risen, not_seven, not_test, out_alone, sent_none, text_is, text_unsent, unless_brz, unless_build, unless_job, usage_is}
+use Rattle.cm_tool.proofs.Clauses.{any_build, disk_alone, for_build, for_query, for_test, for_text, for_upgrade, not_brz, not_printing, not_query, not_risen, not_seven, not_storing, not_test, out_alone, sent_none, text_is, text_unsent, unless_brz, unless_printing, unless_storing, usage_is}
 use Rattle.cm_tool.proofs.Words.{early_tested, printed, says_none, text_missing, text_status, unless_query, unless_test, usage_cut, usage_missing, usage_outcome, usage_said, usage_status}
 use Rattle.cm_words.specs.Options.{Read as Reading}
 use Rattle.cm_words.specs.declared.jobs.Job.{Job}
@@ -41,9 +41,10 @@ returns-in-Ok-Help g c =
         missing = λ files is. text_missing _ Help files _ asked refl;
         kept = λ a b d. refl;
         part = λ five files is. for_build _ asked tt;
+        half = λ five files is. for_upgrade _ asked tt;
         memory = λ six. inl refl;
-        asked = not_build _ asked (refl, not_test _ asked refl);
-        out = not_job _ asked tt;
+        asked = not_storing _ asked (refl, not_test _ asked refl);
+        out = not_printing _ asked tt;
         built = λ a b. for_build _ asked tt;
         silent = λ six. text_is _ 6 status (λ e. omega (arith, e)) (λ e. omega (arith, e)) six;
         front = for_text _ asked (end.front help_text _ c.print_help-printed.ensures.text);
@@ -83,9 +84,10 @@ returns-in-Ok-Version g c =
         missing = λ files is. text_missing _ Version files _ asked refl;
         kept = λ a b d. refl;
         part = λ five files is. for_build _ asked tt;
+        half = λ five files is. for_upgrade _ asked tt;
         memory = λ six. inl refl;
-        asked = not_build _ asked (refl, not_test _ asked refl);
-        out = not_job _ asked tt;
+        asked = not_storing _ asked (refl, not_test _ asked refl);
+        out = not_printing _ asked tt;
         built = λ a b. for_build _ asked tt;
         silent = λ six. text_is _ 6 status (λ e. omega (arith, e)) (λ e. omega (arith, e)) six;
         front = for_text _ asked (end.front version_text _ c.print_version-printed.ensures.text);
@@ -118,9 +120,10 @@ returns-in-Ok-Build g c =
         missing = λ files is none. ran.missing files is (sym (ap (job_outcome files) asked) ∙ none);
         kept = ran.kept;
         part = λ five files is. for_build _ asked (ran.part five files is);
+        half = λ five files is. for_upgrade _ asked tt;
         memory = rw asked ran.memory;
-        asked = not_build _ asked tt;
-        out = not_job _ asked tt;
+        asked = not_storing _ asked tt;
+        out = not_printing _ asked tt;
         built = λ a b. for_build _ asked (ran.out a b);
         silent = λ six. not_test _ asked (ran.out (λ one. omega (arith, six, one)) (λ five. omega (arith, six, five)));
         front = for_text _ asked tt;
@@ -149,13 +152,14 @@ returns-in-Ok-Query g c =
         spilled = λ zero files is. for_build _ asked tt;
         test_spilled = λ zero files is. for_test _ asked tt;
         unspilled = not_brz _ asked ran.spilled;
-        unchanged = λ files is. not_seven _ ran.status;
+        unchanged = λ files is. not_seven (0 ∷ 1 ∷ 3 ∷ 4 ∷ 5 ∷ 6 ∷ 8 ∷ []) _ refl ran.status;
         missing = λ files is none. ran.missing files is (sym (ap (job_outcome files) asked) ∙ none);
         kept = λ a b d. ran.files;
         part = λ five files is. for_build _ asked tt;
+        half = λ five files is. for_upgrade _ asked tt;
         memory = λ six. inl ran.files;
-        asked = not_build _ asked (ran.files, not_test _ asked ran.write_faults);
-        out = not_job _ asked tt;
+        asked = not_storing _ asked (ran.files, not_test _ asked ran.write_faults);
+        out = not_printing _ asked tt;
         built = λ a b. for_build _ asked tt;
         silent = λ six. not_test _ asked (ran.memory six);
         front = for_text _ asked tt;
@@ -188,9 +192,10 @@ returns-in-Ok-Test g c =
         missing = λ files is. text_missing _ _ files _ asked refl;
         kept = λ a b d. ran.files;
         part = λ five files is. for_build _ asked tt;
+        half = λ five files is. for_upgrade _ asked tt;
         memory = λ six. inl ran.files;
-        asked = not_build _ asked (ran.files, not_test _ asked tt);
-        out = not_job _ asked tt;
+        asked = not_storing _ asked (ran.files, not_test _ asked tt);
+        out = not_printing _ asked tt;
         built = λ a b. for_build _ asked tt;
         silent = λ six. not_test _ asked tt;
         front = for_text _ asked tt;
@@ -198,6 +203,43 @@ returns-in-Ok-Test g c =
         unfinished = λ five files is. for_test _ asked (ran.unfinished five files is);
         cut = λ either files is. for_query _ asked tt;
         sent = ran.sent;
+        err_sent = ran.err_sent;
+        err = ([], ran.err.0, not_query _ asked refl, rw asked ran.err.1, ran.err.2);
+      };
+    }
+
+pub returns-in-Ok-Upgrade : goal.returns-in-Ok-Upgrade
+returns-in-Ok-Upgrade g c =
+    let ran = c.run_upgrade.ensures in
+    let out = g.O.Sink.state c.args.out.now in
+    let asked = asks _ _ _ c.in-Ok-Upgrade.ensures.job c.in-Ok-Upgrade.field-0-is in
+    record {
+      runs = record {
+        status = rw asked ran.status;
+        read = ran.read;
+        write = λ low few. disk_alone _ _ out.faults (ran.write low);
+        outcome = λ a b d files is. rw asked (ran.outcome out a b d files is);
+        first = λ zero files is. for_build _ asked tt;
+        cored = λ one files is. for_build _ asked tt;
+        numbers = λ zero files is. for_build _ asked tt;
+        spilled = λ zero files is. for_build _ asked tt;
+        test_spilled = λ zero files is. for_test _ asked tt;
+        unspilled = not_brz _ asked ran.spilled;
+        unchanged = λ files is. not_seven (0 ∷ 3 ∷ 4 ∷ 5 ∷ 6 ∷ []) _ refl ran.status;
+        missing = λ files is none. ran.missing out files is (sym (ap (job_outcome files) asked) ∙ none);
+        kept = ran.kept;
+        part = λ five files is. for_build _ asked tt;
+        half = λ five files is. for_upgrade _ asked (ran.half out five files is);
+        memory = rw asked ran.memory;
+        asked = not_storing _ asked tt;
+        out = not_printing _ asked (refl, refl);
+        built = λ a b. for_build _ asked tt;
+        silent = λ six. not_test _ asked refl;
+        front = for_text _ asked tt;
+        tested = λ either files is. for_test _ asked tt;
+        unfinished = λ five files is. for_test _ asked tt;
+        cut = λ either files is. for_query _ asked tt;
+        sent = sent_none out;
         err_sent = ran.err_sent;
         err = ([], ran.err.0, not_query _ asked refl, rw asked ran.err.1, ran.err.2);
       };
@@ -230,9 +272,10 @@ returns-in-Err g c =
         missing = λ files is none. rw status (usage_missing _ fault files (outside (g.D.Disk.state c.args.disk.now) (g.O.Sink.state c.args.out.now) (g.E.Sink.state c.args.err.now)) (g.E.Sink.state c.report_usage.new.err) c.in-Err.ensures.fault none);
         kept = λ a b d. refl;
         part = λ five. usage_is fault _ 5 status (λ e. omega (arith, e)) (λ e. omega (arith, e)) five;
+        half = λ five. usage_is fault _ 5 status (λ e. omega (arith, e)) (λ e. omega (arith, e)) five;
         memory = λ six. inl refl;
-        asked = unless_build _ refl (unless_test _ refl);
-        out = unless_job _ refl refl;
+        asked = unless_storing _ refl (unless_test _ refl);
+        out = unless_printing _ refl refl;
         built = λ a b. any_build _ (λ job. refl);
         silent = λ six. unless_test _ refl;
         front = text_unsent _ _;

@@ -25,8 +25,8 @@ pub returns-in-Ok-asked-clause-told : goal.returns-in-Ok-asked-clause-told
 returns-in-Ok-asked-clause-told g c = λ files is.
     let path : c.as_str.result.now ≡ c.args.job.now.keys = c.as_str.ensures.bytes in
     let opened = c.in-Ok.ensures.reader files is in
-    let told = c.new-pass.ensures.told ∙ ap (λ (known : Option (List ℕ)). option_map (keys_in c.args.job.now.first) known) opened.tells in
-    let keys = keys_in c.args.job.now.first opened.bytes in
+    let told = c.new-pass.ensures.told ∙ ap (λ (known : Option (List ℕ)). option_map (keys_in c.args.job.now.first c.args.job.now.end) known) opened.tells in
+    let keys = keys_in c.args.job.now.first c.args.job.now.end opened.bytes in
     let asked = c.in-Ok-asked.ensures in (
       notes_of (answer_by c.args.function.now) keys.keys,
       asked.notes keys told,
@@ -37,8 +37,8 @@ pub returns-in-Err-clause-told : goal.returns-in-Err-clause-told
 returns-in-Err-clause-told g c = λ files is.
     let path : c.as_str.result.now ≡ c.args.job.now.keys = c.as_str.ensures.bytes in
     let opened = c.in-Ok.ensures.reader files is in
-    let told = c.new-pass.ensures.told ∙ ap (λ (known : Option (List ℕ)). option_map (keys_in c.args.job.now.first) known) opened.tells in
-    let keys = keys_in c.args.job.now.first opened.bytes in
+    let told = c.new-pass.ensures.told ∙ ap (λ (known : Option (List ℕ)). option_map (keys_in c.args.job.now.first c.args.job.now.end) known) opened.tells in
+    let keys = keys_in c.args.job.now.first c.args.job.now.end opened.bytes in
     let asked = c.in-Err.ensures in
     let f = answer_by c.args.function.now in
     let after = asked.after keys told in

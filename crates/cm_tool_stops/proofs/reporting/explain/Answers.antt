@@ -7,7 +7,7 @@ pub returns-in-Read-clause-noted : goal.returns-in-Read-clause-noted
 returns-in-Read-clause-noted g c = rw c.in-Read.is c.note_unread.ensures.noted
 
 pub returns-in-Write-clause-noted : goal.returns-in-Write-clause-noted
-returns-in-Write-clause-noted g c = rw c.in-Write.is c.note_pieces.ensures.noted
+returns-in-Write-clause-noted g c = rw c.in-Write.is c.note_unwritten.ensures.noted
 
 pub returns-in-WriteOut-clause-noted : goal.returns-in-WriteOut-clause-noted
 returns-in-WriteOut-clause-noted g c = rw c.in-WriteOut.is c.note_out_fault.ensures.noted
@@ -19,7 +19,7 @@ pub returns-in-Changed-clause-noted : goal.returns-in-Changed-clause-noted
 returns-in-Changed-clause-noted g c = rw c.in-Changed.is c.note_change.ensures.noted
 
 pub returns-in-Spill-clause-noted : goal.returns-in-Spill-clause-noted
-returns-in-Spill-clause-noted g c = rw c.in-Spill.is c.note_pieces-in-Spill.ensures.noted
+returns-in-Spill-clause-noted g c = rw c.in-Spill.is c.note_pieces.ensures.noted
 
 pub returns-in-SpillDamaged-clause-noted : goal.returns-in-SpillDamaged-clause-noted
 returns-in-SpillDamaged-clause-noted g c = rw c.in-SpillDamaged.is c.note_damage.ensures.noted
