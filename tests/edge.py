@@ -13,22 +13,15 @@ import subprocess
 import sys
 import tempfile
 
+from dumps import BDZ_ONE, BDZ_PH_TWO, CHM_ONE, CHM_TWO, FUNCTIONS, OLDER, TWO, TWO_ANSWERS, TWO_EQUAL
 from room import CASES, HERE, Skipped, Wrong, case, closed, closed_once, ends, limited, lines, made_shim, run_case, said, same
 
-HELP = b"""usage: cmph [-v] [-h] [-V] [-k nkeys] [-f hash] [-g [-c c] [-s seed] [-r seeds]] [-a algorithm] [-M MB] [-b b] [-d dir] [-m file.mph] keysfile
+HELP = b"""usage: cmph [-v] [-h] [-V] [-z] [-k nkeys] [-f hash] [-g [-c c] [-s seed] [-r seeds]] [-a algorithm] [-M MB] [-b b] [-d dir] [-m file.mph] keysfile
        cmph -T nkeys [-s seed] [-r seeds] [-M MB] [-d dir]
+       cmph -u [-m file.mph] [keysfile]
 algorithms: chm bdz bdz_ph brz
 hash functions: jenkins
 """
-# The functions of the keys "" and "a" by CHM, of "" by BDZ, and of both by BDZ_PH, under seed 0.
-CHM_TWO = bytes.fromhex("434d5048444d5031" "01000000" "02000000" "10e41f00" "00000000" "04")
-CHM_ONE = bytes.fromhex("434d5048444d5031" "01000000" "01000000" "10e41f00" "00000000" "00")
-BDZ_ONE = bytes.fromhex("434d5048444d5031" "02070000" "01000000" "b0c41200" "00000000" "f3ff03" "00000000")
-BDZ_PH_TWO = bytes.fromhex("434d5048444d5031" "03000000" "02000000" "b0c41200" "00000000" "0000")
-BRZ_TWO = bytes.fromhex("434d5048444d5031" "04800000" "02000000" "b0c41200" "00000000" "02" "00000000" "c3ff03")
-TWO = b"\na\n"
-TWO_EQUAL = b"core chm seed 0 edges 2\nedge 1 4 1\nedge 2 4 1\nequal 1 2\n"
-TWO_ANSWERS = b" -> 0\na -> 1\n"
 
 
 def answered(count):
@@ -36,18 +29,30 @@ def answered(count):
     return b"".join(b"key number %d -> %d\n" % (number, number) for number in range(count))
 
 
+def claiming(dump, keys):
+    """The header of a function file with so many keys and the greatest ratio."""
+    return dump[:12] + keys.to_bytes(4, "little") + (10000000).to_bytes(4, "little") + bytes(4)
+
+
 # Statuses
 
 
 @case("status 0: a build and a query by each algorithm")
 def _(room):
-    made = [("chm", TWO, CHM_TWO, TWO_ANSWERS), ("bdz", b"\n", BDZ_ONE, b" -> 0\n"), ("bdz_ph", TWO, BDZ_PH_TWO, b" -> 1\na -> 2\n"),
-            ("brz", TWO, BRZ_TWO, TWO_ANSWERS)]
-    for name, content, dump, answers in made:
+    for name, content, dump, answers in FUNCTIONS:
         room.put("keys", content)
         ends(room.run("-g", "-a", name, "-s", "0", "keys"), 0)
         same("the function file", room.get("keys.mph"), dump)
         ends(room.run("keys"), 0, answers)
+
+
+@case("status 0: a query with a function file of version 1")
+def _(room):
+    for _, content, dump, answers in FUNCTIONS:
+        room.put("keys", content)
+        room.put("keys.mph", OLDER[dump])
+        ends(room.run("keys"), 0, answers)
+        same("the function file", room.get("keys.mph"), OLDER[dump])
 
 
 @case("status 0: a note of a function that was built, and another function file")
@@ -115,7 +120,10 @@ def _(room):
 @case("status 3: a damaged function file")
 def _(room):
     room.put("keys", b"\n")
-    for dump, text in [(BDZ_ONE[:30], "truncated at 30"), (BDZ_ONE + b"x", "trailing bytes"), (b"", "truncated at 0"), (b"x" * 24, "bad magic")]:
+    faults = [(b"", "truncated at 0"), (b"x" * 24, "bad magic")]
+    for whole in [BDZ_ONE, OLDER[BDZ_ONE]]:
+        faults += [(whole[:30], "truncated at 30"), (whole + b"x", "trailing bytes")]
+    for dump, text in faults:
         room.put("keys.mph", dump)
         ends(room.run("keys"), 3, b"", said(f"keys.mph: bad dump: {text}"))
 
@@ -187,8 +195,9 @@ def _(room):
 @case("status 3: a header that claims more than there is memory for")
 def _(room):
     room.put("keys", TWO)
-    room.put("keys.mph", CHM_TWO[:12] + (16777216).to_bytes(4, "little") + (10000000).to_bytes(4, "little") + bytes(4))
-    ends(room.run("keys", before=limited(resource.RLIMIT_AS, 24 << 20)), 3, b"", said("keys.mph: bad dump: truncated at 24"))
+    for dump, most in [(CHM_TWO, 67108864), (OLDER[CHM_TWO], 16777216)]:
+        room.put("keys.mph", claiming(dump, most))
+        ends(room.run("keys", before=limited(resource.RLIMIT_AS, 24 << 20)), 3, b"", said("keys.mph: bad dump: truncated at 24"))
 
 
 @case("status 6: arguments that there is no memory for")
@@ -227,9 +236,10 @@ def _(room):
     for words in [["-s", "0"], ["-s", "1"], ["-s", "4294967295"], ["-c", "1.5"], ["-c", "10"], ["-k", "4294967295"], ["-r", "1000"]]:
         ends(room.run("-g", *words, "keys"), 0)
         ends(room.run("keys"), 0, TWO_ANSWERS)
-    for b in ["3", "10"]:
-        ends(room.run("-g", "-a", "bdz", "-b", b, "-s", "0", "keys"), 0)
-        ends(room.run("keys"), 0, TWO_ANSWERS)
+    for name, ends_of_b in [("bdz", ["3", "10"]), ("brz", ["64", "700"])]:
+        for b in ends_of_b:
+            ends(room.run("-g", "-a", name, "-b", b, "-s", "0", "keys"), 0)
+            ends(room.run("keys"), 0, TWO_ANSWERS)
     ends(room.run("-g", "-k", "1", "-s", "0", "keys"), 0)
     same("the function file", room.get("keys.mph"), CHM_ONE)
 
@@ -238,10 +248,10 @@ def _(room):
 def _(room):
     # By BDZ_PH over the most keys with the greatest ratio, all cells 0: the first end of a key is chosen, its first hash value modulo
     # a third of the vertices. That of the empty key under seed 0 is 9b2ec03d.
-    third = 55924055
-    room.put("keys.mph", BDZ_PH_TWO[:12] + (16777216).to_bytes(4, "little") + (10000000).to_bytes(4, "little") + bytes(4 + (3 * third + 4) // 5))
     room.put("keys", b"\n")
-    ends(room.run("keys"), 0, b" -> %d\n" % (0x9B2EC03D % third))
+    for dump, most, third in [(BDZ_PH_TWO, 67108864, 223696215), (OLDER[BDZ_PH_TWO], 16777216, 55924055)]:
+        room.put("keys.mph", claiming(dump, most) + bytes((3 * third + 4) // 5))
+        ends(room.run("keys"), 0, b" -> %d\n" % (0x9B2EC03D % third))
 
 
 # Outputs
@@ -250,7 +260,7 @@ def _(room):
 @case("help and version into a pipe, a file, a closed pipe, a full disk, and nothing")
 def _(room):
     full = said("cannot write standard output")
-    for word, text in [("-h", HELP), ("-V", b"cmph 1\n")]:
+    for word, text in [("-h", HELP), ("-V", b"cmph 2\n")]:
         ends(room.run(word), 0, text)
         with open(room.path("out"), "wb") as file:
             ends(room.run(word, out=file), 0)
@@ -442,7 +452,7 @@ def _(room):
     left = room.run("keys", bend={})
     same("the status", left.status, 0)
     reads, writes, seeks, opens, _ = room.counts()
-    # The header of the function file is eight reads.
+    # The header of the function file is at most eight reads.
     if reads > pieces + len(dump) // 65536 + 8 + 4 or writes > len(left.out) // 16384 + pieces + 4 or opens != 2 or seeks != 0:
         raise Wrong(f"a query of {len(keys)} bytes: {reads} reads, {writes} writes, {seeks} seeks, {opens} opens")
 
@@ -465,7 +475,9 @@ def _(room):
         closed_once(room)
 
 
-import spilling  # noqa: E402, F401  its cases come last
+import upgrading  # noqa: E402, F401  these have their cases last, in this order
+import zero_ended  # noqa: E402, F401
+import spilling  # noqa: E402, F401
 
 
 def main():

@@ -15,7 +15,7 @@ from draw import words as lookup2  # noqa: E402
 
 BUILD = ["-g", "-a", "brz", "keys"]
 NO_SEED = "bucket 0 has no seed with an empty core"
-NO_SPLIT = "every split has a bucket with more than 255 keys"
+NO_SPLIT = "every split has a bucket with more than 1023 keys"
 NO_SPILL = "cannot use the spill file"
 
 
@@ -38,10 +38,10 @@ def spill_of(process):
     return f"cmph-{process}.spill"
 
 
-def built(room, content):
+def built(room, content, *more):
     """The function file of these keys, which stay in the keys file."""
     room.put("keys", content)
-    ends(room.run(*BUILD), 0)
+    ends(room.run(*BUILD, *more), 0)
     return room.get("keys.mph")
 
 
@@ -127,16 +127,16 @@ def gone(room, what):
 @case("no spill file is left, with whatever status a build ends")
 def _(room):
     equal = b"core brz split 1 bucket 0 seed 1 edges 2\nedge 1 1 5 7\nedge 2 1 5 7\nequal 1 2\n"
-    overfull = b"overfull brz seed 1 bucket %d keys 256\n" % bucket_of(b"a", 1, 2)
-    overfull += b"".join(b"equal 1 %d\n" % line for line in range(2, 257))
+    overfull = b"overfull brz seed 1 bucket %d keys 1024\n" % bucket_of(b"a", 1, 2)
+    overfull += b"".join(b"equal 1 %d\n" % line for line in range(2, 1025))
     for content, more, end in [
         (lines(300), [], (0,)),
         (b"a\na\n", [], (1, equal, said(NO_SEED))),
-        (b"a\n" * 256, ["-b", "175"], (1, overfull, said(NO_SPLIT))),
+        (b"a\n" * 1024, ["-b", "700"], (1, overfull, said(NO_SPLIT))),
         (lines(300), ["-m", "none/f"], (5, b"", said("none/f: cannot write"))),
         (b"", [], (8, b"", said("keys: no keys"))),
         (b"a\n" + b"b" * 65536 + b"\n", [], (8, b"", said("keys: line 2 is too long"))),
-        (b"\n" * 16777217, [], (8, b"", said("keys: more than 16777216 keys"))),
+        (b"\n" * 67108865, [], (8, b"", said("keys: more than 67108864 keys"))),
     ]:
         room.put("keys", content)
         ends(room.run(*BUILD, *more, bend={}), *end)
@@ -255,7 +255,7 @@ def _(room):
     same("the spill files", spills(room), [])
 
 
-# Keys that change
+# Keys by their buckets
 
 
 def bucket_of(key, seed, count):
@@ -291,6 +291,21 @@ def text_of(keys):
     return b"".join(key + b"\n" for key in keys)
 
 
+@case("a bucket of 1,023 keys is built, and one of 1,024 is overfull")
+def _(room):
+    keys = chosen(2, {(0, 0): 1023, (0, 1): 1, (1, 1): 1})
+    room.put("keys", text_of(keys))
+    ends(room.run("-g", "-a", "brz", "-b", "700", "-r", "1", "keys"), 1, b"overfull brz seed 1 bucket 0 keys 1024\n", said(NO_SPLIT))
+    keys.remove(next(key for key in keys if (bucket_of(key, 1, 2), bucket_of(key, 2, 2)) == (0, 1)))
+    dump = built(room, text_of(keys), "-b", "700")
+    same("b, the seed of the split and the first bucket", (dump[10:12], dump[20:24], dump[24:26]), (b"\xbc\2", b"\1\0\0\0", b"\xff\3"))
+    numbers = sorted(int(line.rsplit(b" ", 1)[1]) for line in room.run("keys").out.splitlines())
+    same("the numbers", numbers, list(range(1024)))
+
+
+# Keys that change
+
+
 def changes(room, arguments, keys, at, later, first, now):
     """A build whose keys are others in one pass, counted from 1: status 7, with these numbers."""
     room.put("keys", text_of(keys))
@@ -305,40 +320,40 @@ def changes(room, arguments, keys, at, later, first, now):
     same("the function file", room.get("keys.mph"), b"older")
 
 
-# 300 keys of three buckets: by seed 1 bucket 0 has 260, and by seed 2 they have 97, 107 and 96.
-SPLIT = {(0, 0): 87, (0, 1): 87, (0, 2): 86, (1, 0): 10, (2, 1): 20, (1, 2): 10}
+# 1,200 keys of three buckets: by seed 1 bucket 0 has 1,040, and by seed 2 they have 388, 428 and 384.
+SPLIT = {(0, 0): 348, (0, 1): 348, (0, 2): 344, (1, 0): 40, (2, 1): 80, (1, 2): 40}
 
 
 @case("status 7: more or fewer keys in the pass of the first seed of a split and of the second")
 def _(room):
     keys = chosen(3, SPLIT)
     for at in [2, 3]:
-        for later, now in [(keys[:293], 293), ([], 0), (keys + keys[:1], 301), (keys + keys[:5], 301)]:
-            changes(room, ["-b", "100"], keys, at, later, 300, now)
-    for counted, now in [(keys[:290], 291), (keys + keys[:10], 300)]:
+        for later, now in [(keys[:1193], 1193), ([], 0), (keys + keys[:1], 1201), (keys + keys[:5], 1201)]:
+            changes(room, ["-b", "400"], keys, at, later, 1200, now)
+    for counted, now in [(keys[:1190], 1191), (keys + keys[:10], 1200)]:
         room.put("pass-1", text_of(counted))
-        changes(room, ["-b", "100"], keys, 2, keys, len(counted), now)
+        changes(room, ["-b", "400"], keys, 2, keys, len(counted), now)
 
 
 @case("status 7: more, fewer or other keys in the pass that puts them into the spill file")
 def _(room):
     keys = chosen(3, SPLIT)
     for later, first, now in [
-        (keys[:299], 300, 299), ([], 300, 0), (keys + keys[:1], 300, 301), (keys + keys[:5], 300, 301),
-        (swapped(keys, 3, (0, 2), (0, 0)), 97, 98), (swapped(keys, 3, (0, 0), (0, 1)), 97, 96), (swapped(keys, 3, (2, 1), (0, 2)), 107, 106),
-        # The pass ends at the 256th key of a bucket.
-        (chosen(3, {(0, 0): 100, (1, 0): 200}), 97, 256),
+        (keys[:1199], 1200, 1199), ([], 1200, 0), (keys + keys[:1], 1200, 1201), (keys + keys[:5], 1200, 1201),
+        (swapped(keys, 3, (0, 2), (0, 0)), 388, 389), (swapped(keys, 3, (0, 0), (0, 1)), 388, 387), (swapped(keys, 3, (2, 1), (0, 2)), 428, 427),
+        # The pass ends at the 1,024th key of a bucket.
+        (chosen(3, {(0, 0): 400, (1, 0): 800}), 388, 1024),
     ]:
-        changes(room, ["-b", "100"], keys, 4, later, first, now)
+        changes(room, ["-b", "400"], keys, 4, later, first, now)
 
 
 @case("status 7: more, fewer or other keys in the pass that gathers those of an overfull bucket")
 def _(room):
-    # Of two buckets, the first has 260 keys by seed 1, and 270 by seed 2.
-    keys = chosen(2, {(0, 0): 258, (0, 1): 2, (1, 0): 12, (1, 1): 28})
+    # Of two buckets, the first has 1,040 keys by seed 1, and 1,080 by seed 2.
+    keys = chosen(2, {(0, 0): 1032, (0, 1): 8, (1, 0): 48, (1, 1): 112})
     for seeds, at in [("1", 3), ("2", 4)]:
         for later, first, now in [
-            (keys[:299], 300, 299), ([], 300, 0), (keys + keys[:1], 300, 301), (keys + keys[:5], 300, 301),
-            (swapped(keys, 2, (1, 1), (0, 1)), 260, 261), (swapped(keys, 2, (0, 1), (1, 1)), 260, 259),
+            (keys[:1199], 1200, 1199), ([], 1200, 0), (keys + keys[:1], 1200, 1201), (keys + keys[:5], 1200, 1201),
+            (swapped(keys, 2, (1, 1), (0, 1)), 1040, 1041), (swapped(keys, 2, (0, 1), (1, 1)), 1040, 1039),
         ]:
-            changes(room, ["-b", "150", "-r", seeds], keys, at, later, first, now)
+            changes(room, ["-b", "600", "-r", seeds], keys, at, later, first, now)

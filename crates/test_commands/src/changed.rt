@@ -9,9 +9,9 @@ use std::test::Fail;
 
 /// The function of `a` and `b` by BRZ: one bucket, seed 0 for the split and for the bucket. The edges are 2 5 8 and 2 3 8, so vertices 5
 /// and 3 are the pivots, and have cell 1.
-const BRZ_LETTERS: [u8; 32] = [
-    0x43, 0x4d, 0x50, 0x48, 0x44, 0x4d, 0x50, 0x31, 4, 0x80, 0, 0, 2, 0, 0, 0, 0xb0, 0xc4, 0x12, 0,
-    0, 0, 0, 0, 2, 0, 0, 0, 0, 0x7f, 0xf7, 3,
+const BRZ_LETTERS: [u8; 33] = [
+    0x43, 0x4d, 0x50, 0x48, 0x44, 0x4d, 0x50, 0x32, 4, 0, 0x80, 0, 2, 0, 0, 0, 0xb0, 0xc4, 0x12, 0,
+    0, 0, 0, 0, 2, 0, 0, 0, 0, 0, 0x7f, 0xf7, 3,
 ];
 
 const CHM: &[&str] = &["cmph", "-g", "keys"];

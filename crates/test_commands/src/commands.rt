@@ -3,32 +3,44 @@ use crate::cases::{Case, EMPTY_AND_A, ONE_EMPTY, changed, check_all};
 use std::test::Fail;
 
 /// The BDZ function of the empty key: nine vertices, of which the second is its own, and one rank.
-const BDZ_ONE: [u8; 31] = [
+pub(crate) const BDZ_ONE: [u8; 31] = [
+    0x43, 0x4d, 0x50, 0x48, 0x44, 0x4d, 0x50, 0x32, 2, 0, 7, 0, 1, 0, 0, 0, 0xb0, 0xc4, 0x12, 0, 0,
+    0, 0, 0, 0xf3, 0xff, 3, 0, 0, 0, 0,
+];
+
+/// The same in version 1.
+pub(crate) const BDZ_ONE_OLD: [u8; 31] = [
     0x43, 0x4d, 0x50, 0x48, 0x44, 0x4d, 0x50, 0x31, 2, 7, 0, 0, 1, 0, 0, 0, 0xb0, 0xc4, 0x12, 0, 0,
     0, 0, 0, 0xf3, 0xff, 3, 0, 0, 0, 0,
 ];
 
 /// The BDZ function of the empty key and `a`.
 const BDZ_TWO: [u8; 31] = [
-    0x43, 0x4d, 0x50, 0x48, 0x44, 0x4d, 0x50, 0x31, 2, 7, 0, 0, 2, 0, 0, 0, 0xb0, 0xc4, 0x12, 0, 0,
+    0x43, 0x4d, 0x50, 0x48, 0x44, 0x4d, 0x50, 0x32, 2, 0, 7, 0, 2, 0, 0, 0, 0xb0, 0xc4, 0x12, 0, 0,
     0, 0, 0, 0xc3, 0xff, 3, 0, 0, 0, 0,
 ];
 
 /// The BDZ_PH function of the empty key and `a`.
-const BDZ_PH_TWO: [u8; 26] = [
+pub(crate) const BDZ_PH_TWO: [u8; 26] = [
+    0x43, 0x4d, 0x50, 0x48, 0x44, 0x4d, 0x50, 0x32, 3, 0, 0, 0, 2, 0, 0, 0, 0xb0, 0xc4, 0x12, 0, 0,
+    0, 0, 0, 0, 0,
+];
+
+/// The same in version 1.
+pub(crate) const BDZ_PH_TWO_OLD: [u8; 26] = [
     0x43, 0x4d, 0x50, 0x48, 0x44, 0x4d, 0x50, 0x31, 3, 0, 0, 0, 2, 0, 0, 0, 0xb0, 0xc4, 0x12, 0, 0,
     0, 0, 0, 0, 0,
 ];
 
 /// The function of `a` and `b` with one vertex and a half for each: seed 1, cells 1 0 0.
 const HALVES: [u8; 25] = [
-    0x43, 0x4d, 0x50, 0x48, 0x44, 0x4d, 0x50, 0x31, 1, 0, 0, 0, 2, 0, 0, 0, 0x60, 0xe3, 0x16, 0, 1,
+    0x43, 0x4d, 0x50, 0x48, 0x44, 0x4d, 0x50, 0x32, 1, 0, 0, 0, 2, 0, 0, 0, 0x60, 0xe3, 0x16, 0, 1,
     0, 0, 0, 1,
 ];
 
 /// The function of the empty key under seed 1.
 const ONE_EMPTY_NEXT: [u8; 25] = [
-    0x43, 0x4d, 0x50, 0x48, 0x44, 0x4d, 0x50, 0x31, 1, 0, 0, 0, 1, 0, 0, 0, 0x10, 0xe4, 0x1f, 0, 1,
+    0x43, 0x4d, 0x50, 0x48, 0x44, 0x4d, 0x50, 0x32, 1, 0, 0, 0, 1, 0, 0, 0, 0x10, 0xe4, 0x1f, 0, 1,
     0, 0, 0, 0,
 ];
 
@@ -78,6 +90,7 @@ fn queries(rt: HostRuntime) -> Result<(), Fail> {
         Case::query(QUERY, b"\na\n", &BDZ_TWO, 0, b" -> 0\na -> 1\n", ""),
         Case::query(QUERY, b"\na\n", &BDZ_PH_TWO, 0, b" -> 1\na -> 2\n", ""),
         Case::query(QUERY, b"\n\n", &BDZ_ONE, 1, b" -> 0\n -> 0\n", repeated),
+        Case::query(QUERY, b"\n\n", &BDZ_ONE_OLD, 1, b" -> 0\n -> 0\n", repeated),
         Case::query(QUERY_FIRST, b"\na\n", &EMPTY_AND_A, 0, b" -> 0\n", ""),
         Case::query(
             QUERY_NAMED,
@@ -111,7 +124,7 @@ fn damaged_functions(rt: HostRuntime) -> Result<(), Fail> {
         (31, [(24, 0xf0), (26, 7)], "bad padding at 26"),
     ];
     for (len, changes, fault) in rows {
-        let dump = changed(alloc, &BDZ_ONE, len, &changes)?;
+        let dump = changed(alloc, &BDZ_ONE_OLD, len, &changes)?;
         let err = format!(in alloc; "cmph: keys.mph: bad dump: {fault}\n")?;
         Case::query(QUERY, b"\n", &dump, 3, b"", err.as_str()).check(&rt, alloc)?;
     }
@@ -182,10 +195,10 @@ fn refused_words(rt: HostRuntime) -> Result<(), Fail> {
 #[test]
 fn texts(rt: HostRuntime) -> Result<(), Fail> {
     let help =
-        "usage: cmph [-v] [-h] [-V] [-k nkeys] [-f hash] [-g [-c c] [-s seed] [-r seeds]] [-a algorithm] [-M MB] [-b b] [-d dir] [-m file.mph] keysfile\n       cmph -T nkeys [-s seed] [-r seeds] [-M MB] [-d dir]\nalgorithms: chm bdz bdz_ph brz\nhash functions: jenkins\n";
+        "usage: cmph [-v] [-h] [-V] [-z] [-k nkeys] [-f hash] [-g [-c c] [-s seed] [-r seeds]] [-a algorithm] [-M MB] [-b b] [-d dir] [-m file.mph] keysfile\n       cmph -T nkeys [-s seed] [-r seeds] [-M MB] [-d dir]\n       cmph -u [-m file.mph] [keysfile]\nalgorithms: chm bdz bdz_ph brz\nhash functions: jenkins\n";
     let rows: [(&[&str], &str); 3] = [
         (&["cmph", "-h"], help),
-        (&["cmph", "-V"], "cmph 1\n"),
+        (&["cmph", "-V"], "cmph 2\n"),
         (&["cmph", "-Vhg"], help),
     ];
     for (words, text) in rows {

@@ -23,3 +23,7 @@ mod real_files;
 mod reports;
 #[cfg(test)]
 mod tested;
+#[cfg(test)]
+mod upgrades;
+#[cfg(test)]
+mod zero_ended;

@@ -1,5 +1,7 @@
 //! Queries over a disk in memory: their answers, damaged and missing files, and sinks without room.
-use crate::cases::{Case, EMPTY_AND_A, ONE_EMPTY, changed, check_all};
+use crate::cases::{
+    Case, EMPTY_AND_A, EMPTY_AND_A_OLD, ONE_EMPTY, ONE_EMPTY_OLD, changed, check_all,
+};
 use std::test::Fail;
 
 const QUERY: &[&str] = &["cmph", "keys"];
@@ -9,9 +11,18 @@ fn answers(rt: HostRuntime) -> Result<(), Fail> {
     let repeated = "cmph: line 2: value 0 is repeated\n";
     let cases = [
         Case::query(QUERY, b"\na\n", &EMPTY_AND_A, 0, b" -> 0\na -> 1\n", ""),
+        Case::query(QUERY, b"\na\n", &EMPTY_AND_A_OLD, 0, b" -> 0\na -> 1\n", ""),
         // A last line without its end is a key.
         Case::query(QUERY, b"\na", &EMPTY_AND_A, 0, b" -> 0\na -> 1\n", ""),
         Case::query(QUERY, b"\n\n", &ONE_EMPTY, 1, b" -> 0\n -> 0\n", repeated),
+        Case::query(
+            QUERY,
+            b"\n\n",
+            &ONE_EMPTY_OLD,
+            1,
+            b" -> 0\n -> 0\n",
+            repeated,
+        ),
         Case::query(QUERY, b"", &ONE_EMPTY, 0, b"", ""),
         // The carriage return is part of its key, and any key of a function of one has the number 0.
         Case::query(
@@ -35,14 +46,14 @@ fn damaged_dumps(rt: HostRuntime) -> Result<(), Fail> {
         (26, 0, 0x43, "cmph: keys.mph: bad dump: trailing bytes\n"),
         (25, 24, 1, "cmph: keys.mph: bad dump: bad cell at 24\n"),
         (25, 24, 8, "cmph: keys.mph: bad dump: bad padding at 24\n"),
-        (25, 7, 0x32, "cmph: keys.mph: bad dump: bad magic\n"),
+        (25, 7, 0x33, "cmph: keys.mph: bad dump: bad magic\n"),
         (25, 8, 5, "cmph: keys.mph: bad dump: bad algorithm\n"),
         (25, 9, 1, "cmph: keys.mph: bad dump: bad field at 9\n"),
         (25, 12, 0, "cmph: keys.mph: bad dump: bad field at 12\n"),
         (25, 18, 0, "cmph: keys.mph: bad dump: bad field at 16\n"),
     ];
     for (len, at, byte, err) in rows {
-        let dump = changed(rt.alloc(), &ONE_EMPTY, len, &[(at, byte)])?;
+        let dump = changed(rt.alloc(), &ONE_EMPTY_OLD, len, &[(at, byte)])?;
         Case::query(QUERY, b"\n", &dump, 3, b"", err).check(&rt, rt.alloc())?;
     }
     Ok(())

@@ -1,4 +1,5 @@
-//! A build and queries over real files.
+//! A build, queries and an upgrade over real files.
+use crate::cases::{LETTERS, changed};
 use crate::equal::{expect_bytes, expect_equal};
 use cm_real::{FileDisk, StdSink};
 use cm_tool::run;
@@ -60,20 +61,17 @@ fn real_files(rt: HostRuntime) -> Result<(), Fail> {
     let built = status_on(&rt, &["-g", keys.as_str()])?;
     let dump = fs::read(&rt, function.as_str())?;
     let asked = run_on(&rt, &[keys.as_str()])?;
+    let older = changed(rt.alloc(), &LETTERS, LETTERS.len(), &[(7, b'1')])?;
+    fs::write(&rt, function.as_str(), older.as_slice())?;
+    let upgraded = status_on(&rt, &["-u", keys.as_str()])?;
+    let newer = fs::read(&rt, function.as_str())?;
     fs::write(&rt, function.as_str(), b"CMPHDMP1")?;
     let damaged = status_on(&rt, &[keys.as_str()])?;
     fs::remove_file(&rt, keys.as_str())?;
     fs::remove_file(&rt, function.as_str())?;
-    expect_equal(&rt, &built, &0);
-    expect_bytes(
-        &rt,
-        dump.as_slice(),
-        [
-            0x43, 0x4d, 0x50, 0x48, 0x44, 0x4d, 0x50, 0x31, 1, 0, 0, 0, 2, 0, 0, 0, 0x10, 0xe4,
-            0x1f, 0, 1, 0, 0, 0, 2,
-        ]
-        .as_slice(),
-    );
+    expect_equal(&rt, &(built, upgraded), &(0, 0));
+    expect_bytes(&rt, dump.as_slice(), &LETTERS);
+    expect_bytes(&rt, newer.as_slice(), &LETTERS);
     // Out is flushed by the end of the query.
     expect_equal(&rt, &asked.status, &0);
     expect_bytes(&rt, asked.out.as_slice(), b"a -> 0\nb -> 1\n");

@@ -11,7 +11,7 @@ const ONE: &[&str] = &["cmph", "-T", "1"];
 const ONE_IN_DIR: &[&str] = &["cmph", "-T", "1", "-d", "dir"];
 
 /// What a test of one key prints. The first three lines have 36 bytes.
-const LINES: &[u8] = b"chm 1 25 0\nbdz 1 31 0\nbdz_ph 1 26 2\nbrz 1 32 0\n";
+const LINES: &[u8] = b"chm 1 25 0\nbdz 1 31 0\nbdz_ph 1 26 2\nbrz 1 33 0\n";
 
 /// How a test of 100,000 keys begins.
 const FIRST: &[u8] =

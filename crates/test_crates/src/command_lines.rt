@@ -6,38 +6,38 @@ use std::process::Abort;
 use std::test::Fail;
 
 /// Lines, and the job that each asks for.
-const JOBS: [(&str, &str); 19] = [
+const JOBS: [(&str, &str); 25] = [
     (
         "cmph -vg -abdz -c1.5 -s=0 -r 7 -b 4 -M 1024 -dtmp -f jenkins -k 0000000002 -mf keys",
-        "Build(BuildJob { keys: Text { text: \"keys\" }, function: Text { text: \"f\" }, first: Some(2), algorithm: Bdz, c: 1500000, b: 4, seed: 0, count: 7, buffer: 1073741824, dir: Text { text: \"tmp\" }, verbose: true })",
+        "Build(BuildJob { keys: Text { text: \"keys\" }, function: Text { text: \"f\" }, first: Some(2), end: 10, algorithm: Bdz, c: 1500000, b: 4, seed: 0, count: 7, buffer: 1073741824, dir: Text { text: \"tmp\" }, verbose: true })",
     ),
     (
         "cmph -g keys",
-        "Build(BuildJob { keys: Text { text: \"keys\" }, function: Text { text: \"keys.mph\" }, first: None, algorithm: Chm, c: 2090000, b: 0, seed: 1, count: 100, buffer: 1048576, dir: Text { text: \".\" }, verbose: false })",
+        "Build(BuildJob { keys: Text { text: \"keys\" }, function: Text { text: \"keys.mph\" }, first: None, end: 10, algorithm: Chm, c: 2090000, b: 0, seed: 1, count: 100, buffer: 1048576, dir: Text { text: \".\" }, verbose: false })",
     ),
     (
         "cmph -g -b 11 keys",
-        "Build(BuildJob { keys: Text { text: \"keys\" }, function: Text { text: \"keys.mph\" }, first: None, algorithm: Chm, c: 2090000, b: 0, seed: 1, count: 100, buffer: 1048576, dir: Text { text: \".\" }, verbose: false })",
+        "Build(BuildJob { keys: Text { text: \"keys\" }, function: Text { text: \"keys.mph\" }, first: None, end: 10, algorithm: Chm, c: 2090000, b: 0, seed: 1, count: 100, buffer: 1048576, dir: Text { text: \".\" }, verbose: false })",
     ),
     (
         "cmph -g -a bdz keys",
-        "Build(BuildJob { keys: Text { text: \"keys\" }, function: Text { text: \"keys.mph\" }, first: None, algorithm: Bdz, c: 1230000, b: 7, seed: 1, count: 100, buffer: 1048576, dir: Text { text: \".\" }, verbose: false })",
+        "Build(BuildJob { keys: Text { text: \"keys\" }, function: Text { text: \"keys.mph\" }, first: None, end: 10, algorithm: Bdz, c: 1230000, b: 7, seed: 1, count: 100, buffer: 1048576, dir: Text { text: \".\" }, verbose: false })",
     ),
     (
         "cmph -g -a bdz_ph keys",
-        "Build(BuildJob { keys: Text { text: \"keys\" }, function: Text { text: \"keys.mph\" }, first: None, algorithm: BdzPh, c: 1230000, b: 0, seed: 1, count: 100, buffer: 1048576, dir: Text { text: \".\" }, verbose: false })",
+        "Build(BuildJob { keys: Text { text: \"keys\" }, function: Text { text: \"keys.mph\" }, first: None, end: 10, algorithm: BdzPh, c: 1230000, b: 0, seed: 1, count: 100, buffer: 1048576, dir: Text { text: \".\" }, verbose: false })",
     ),
     (
         "cmph -g -a brz keys",
-        "Build(BuildJob { keys: Text { text: \"keys\" }, function: Text { text: \"keys.mph\" }, first: None, algorithm: Brz, c: 1230000, b: 128, seed: 1, count: 100, buffer: 1048576, dir: Text { text: \".\" }, verbose: false })",
+        "Build(BuildJob { keys: Text { text: \"keys\" }, function: Text { text: \"keys.mph\" }, first: None, end: 10, algorithm: Brz, c: 1230000, b: 128, seed: 1, count: 100, buffer: 1048576, dir: Text { text: \".\" }, verbose: false })",
     ),
     (
         "cmph -g -a brz -b 64 keys",
-        "Build(BuildJob { keys: Text { text: \"keys\" }, function: Text { text: \"keys.mph\" }, first: None, algorithm: Brz, c: 1230000, b: 64, seed: 1, count: 100, buffer: 1048576, dir: Text { text: \".\" }, verbose: false })",
+        "Build(BuildJob { keys: Text { text: \"keys\" }, function: Text { text: \"keys.mph\" }, first: None, end: 10, algorithm: Brz, c: 1230000, b: 64, seed: 1, count: 100, buffer: 1048576, dir: Text { text: \".\" }, verbose: false })",
     ),
     (
-        "cmph -g -a brz -b 175 keys",
-        "Build(BuildJob { keys: Text { text: \"keys\" }, function: Text { text: \"keys.mph\" }, first: None, algorithm: Brz, c: 1230000, b: 175, seed: 1, count: 100, buffer: 1048576, dir: Text { text: \".\" }, verbose: false })",
+        "cmph -g -a brz -b 700 keys",
+        "Build(BuildJob { keys: Text { text: \"keys\" }, function: Text { text: \"keys.mph\" }, first: None, end: 10, algorithm: Brz, c: 1230000, b: 700, seed: 1, count: 100, buffer: 1048576, dir: Text { text: \".\" }, verbose: false })",
     ),
     (
         "cmph -T 1",
@@ -57,19 +57,43 @@ const JOBS: [(&str, &str); 19] = [
     ),
     (
         "cmph -k 1 keys",
-        "Query(QueryJob { keys: Text { text: \"keys\" }, function: Text { text: \"keys.mph\" }, first: Some(1) })",
+        "Query(QueryJob { keys: Text { text: \"keys\" }, function: Text { text: \"keys.mph\" }, first: Some(1), end: 10 })",
     ),
     (
         "cmph -k 4294967295 keys",
-        "Query(QueryJob { keys: Text { text: \"keys\" }, function: Text { text: \"keys.mph\" }, first: Some(4294967295) })",
+        "Query(QueryJob { keys: Text { text: \"keys\" }, function: Text { text: \"keys.mph\" }, first: Some(4294967295), end: 10 })",
     ),
     (
         "cmph -a bdz -b 11 keys",
-        "Query(QueryJob { keys: Text { text: \"keys\" }, function: Text { text: \"keys.mph\" }, first: None })",
+        "Query(QueryJob { keys: Text { text: \"keys\" }, function: Text { text: \"keys.mph\" }, first: None, end: 10 })",
     ),
     (
-        "cmph -a brz -b 176 keys",
-        "Query(QueryJob { keys: Text { text: \"keys\" }, function: Text { text: \"keys.mph\" }, first: None })",
+        "cmph -a brz -b 701 keys",
+        "Query(QueryJob { keys: Text { text: \"keys\" }, function: Text { text: \"keys.mph\" }, first: None, end: 10 })",
+    ),
+    (
+        "cmph -zg keys",
+        "Build(BuildJob { keys: Text { text: \"keys\" }, function: Text { text: \"keys.mph\" }, first: None, end: 0, algorithm: Chm, c: 2090000, b: 0, seed: 1, count: 100, buffer: 1048576, dir: Text { text: \".\" }, verbose: false })",
+    ),
+    (
+        "cmph -z keys",
+        "Query(QueryJob { keys: Text { text: \"keys\" }, function: Text { text: \"keys.mph\" }, first: None, end: 0 })",
+    ),
+    (
+        "cmph -T 5 -z -u",
+        "Test(TestJob { keys: 5, seed: 1, count: 100, buffer: 1048576, dir: Text { text: \".\" } })",
+    ),
+    (
+        "cmph -u -g -a brz -b 701 keys",
+        "Upgrade(UpgradeJob { function: Text { text: \"keys.mph\" } })",
+    ),
+    (
+        "cmph -zu -m f",
+        "Upgrade(UpgradeJob { function: Text { text: \"f\" } })",
+    ),
+    (
+        "cmph -u -m f keys",
+        "Upgrade(UpgradeJob { function: Text { text: \"f\" } })",
     ),
     ("cmph -s x -V -h", "Help"),
     ("cmph -V", "Version"),
@@ -77,9 +101,11 @@ const JOBS: [(&str, &str); 19] = [
 ];
 
 /// Lines that are refused, and the fault of each with its text.
-const REFUSED: [(&str, &str); 15] = [
+const REFUSED: [(&str, &str); 17] = [
     ("cmph", "NoFile: no keys file"),
     ("cmph -g", "NoFile: no keys file"),
+    ("cmph -u", "NoFile: no keys file"),
+    ("cmph -u -s x", "BadValue { letter: 115 }: bad value of -s"),
     (
         "cmph -t 2 keys",
         "Words: bad arguments; cmph -h shows the usage",
@@ -110,7 +136,7 @@ const REFUSED: [(&str, &str); 15] = [
         "BadValue { letter: 98 }: bad value of -b",
     ),
     (
-        "cmph -g -a brz -b 176 keys",
+        "cmph -g -a brz -b 701 keys",
         "BadValue { letter: 98 }: bad value of -b",
     ),
     (

@@ -6,6 +6,7 @@ use cm_io::{KeyBuf, KeyPass, MAX_KEY_LEN, MAX_KEYS};
 use cm_keys::{Keys, LINE_END};
 use cm_outer::MemSource;
 use std::alloc::{AllocError, Global};
+use std::process::Abort;
 use std::test::Fail;
 
 /// The bytes of a key, or how many they are if there are many.
@@ -153,9 +154,10 @@ fn shown_of(
 }
 
 /// Files, how many of their first lines are read, calls, and what the calls show.
-const FILES: [(&str, Option<u32>, &str, &str); 11] = [
-    // Lines are keys. A carriage return belongs to its key, and a last line needs no end.
+const FILES: [(&str, Option<u32>, &str, &str); 12] = [
+    // Lines are keys. A carriage return belongs to its key, and so does a byte 0. A last line needs no end.
     ("a\r\nb", None, "nnnn", "1=a\r; 2=b; end; end; "),
+    ("a\0b\n\0\n\0", None, "nnnn", "1=a\0b; 2=\0; 3=\0; end; "),
     ("\n\n", None, "nnn", "1=; 2=; end; "),
     ("", None, "n", "end; "),
     // The first lines alone.
@@ -222,35 +224,54 @@ fn lines_that_end_with_byte_0(rt: HostRuntime) -> Result<(), Fail> {
     Ok(())
 }
 
+/// A line of this byte alone, and one of it that is as long as a key, or longer by a byte: what the calls show of each file.
+fn check_longest(
+    rt: &impl Abort,
+    alloc: Global,
+    byte: u8,
+    end: u8,
+    texts: (&str, &str),
+) -> Result<(), AllocError>
+    requires end { (end ≡ LINE_END) ⊎ (end ≡ 0) }
+{
+    let mut bytes = vec![in alloc; byte; MAX_KEY_LEN + 2]?;
+    bytes[1] = end;
+    let shown = shown_of(alloc, bytes, NONE_FAIL, None, end, "nnn")?;
+    expect_text(rt, shown.as_str(), texts.0);
+    let mut bytes = vec![in alloc; byte; MAX_KEY_LEN + 4]?;
+    bytes[1] = end;
+    bytes[MAX_KEY_LEN + 3] = end;
+    let shown = shown_of(alloc, bytes, NONE_FAIL, None, end, "nnnrp")?;
+    expect_text(rt, shown.as_str(), texts.1);
+    Ok(())
+}
+
 #[test]
 fn the_longest_key(rt: HostRuntime) -> Result<(), Fail> {
-    let alloc = rt.alloc();
-    let mut bytes = vec![in alloc; b'a'; MAX_KEY_LEN + 2]?;
-    bytes[1] = b'\n';
-    let shown = shown_of(alloc, bytes, NONE_FAIL, None, LINE_END, "nnn")?;
-    expect_text(&rt, shown.as_str(), "1=a; 2=65535 bytes; end; ");
-    let mut bytes = vec![in alloc; b'a'; MAX_KEY_LEN + 4]?;
-    bytes[1] = b'\n';
-    bytes[MAX_KEY_LEN + 3] = b'\n';
-    let shown = shown_of(alloc, bytes, NONE_FAIL, None, LINE_END, "nnnrp")?;
-    expect_text(
-        &rt,
-        shown.as_str(),
+    let texts = (
+        "1=a; 2=65535 bytes; end; ",
         "1=a; line 2 is too long; unusable; start; 1 keys, line 2 is too long; ",
     );
+    check_longest(&rt, rt.alloc(), b'a', LINE_END, texts)?;
+    let texts = (
+        "1=\n; 2=65535 bytes; end; ",
+        "1=\n; line 2 is too long; unusable; start; 1 keys, line 2 is too long; ",
+    );
+    check_longest(&rt, rt.alloc(), b'\n', 0, texts)?;
     Ok(())
 }
 
 #[test]
 fn the_most_keys(rt: HostRuntime) -> Result<(), Fail> {
     let alloc = rt.alloc();
-    let bytes = vec![in alloc; b'\n'; MAX_KEYS as usize + 1]?;
-    let shown = shown_of(alloc, bytes, NONE_FAIL, None, LINE_END, "pn")?;
-    expect_text(
-        &rt,
-        shown.as_str(),
-        "16777216 keys, there are too many keys; unusable; ",
-    );
+    for (first, text) in [
+        (None, "67108864 keys, there are too many keys; unusable; "),
+        (Some(MAX_KEYS), "67108864 keys; end; "),
+    ] {
+        let bytes = vec![in alloc; b'\n'; MAX_KEYS as usize + 1]?;
+        let shown = shown_of(alloc, bytes, NONE_FAIL, first, LINE_END, "pn")?;
+        expect_text(&rt, shown.as_str(), text);
+    }
     Ok(())
 }
 

@@ -1,5 +1,8 @@
 //! Each call of the disk fails in turn.
-use crate::command::{Command, brz_build, chm_build, chm_query, one_key_test, over_older};
+use crate::command::{
+    Command, brz_build, brz_upgrade, chm_build, chm_query, chm_upgrade, one_key_test, over_older,
+    repeated_upgrade,
+};
 use crate::equal::expect_equal_at;
 use crate::faults::{
     FUNCTION_UNREAD, FUNCTION_UNWRITTEN, Faults, KEYS_UNREAD, SPILL_UNUSED, expect_done,
@@ -167,6 +170,32 @@ const ONE_KEY_TEST: [(DiskCall, Calls); 9] = [
     (DiskCall::ReadAt, Calls::AtLeastOne(SPILL_UNUSED)),
 ];
 
+/// The calls of an upgrade. It opens and reads its function file, and then creates, writes and closes it.
+const UPGRADE: [(DiskCall, Calls); 9] = [
+    (DiskCall::Open, Calls::Exactly(&[FUNCTION_UNREAD])),
+    (DiskCall::Create, Calls::Exactly(&[FUNCTION_UNWRITTEN])),
+    (DiskCall::Close, Calls::Exactly(&[FUNCTION_UNWRITTEN])),
+    (DiskCall::Spill, Calls::Exactly(&[])),
+    (DiskCall::Read, Calls::AtLeastOne(FUNCTION_UNREAD)),
+    (DiskCall::Rewind, Calls::Exactly(&[])),
+    (DiskCall::Write, Calls::AtLeastOne(FUNCTION_UNWRITTEN)),
+    (DiskCall::Append, Calls::Exactly(&[])),
+    (DiskCall::ReadAt, Calls::Exactly(&[])),
+];
+
+/// The calls of an upgrade of a file that is of version 2, which is only opened and read.
+const REPEATED_UPGRADE: [(DiskCall, Calls); 9] = [
+    (DiskCall::Open, Calls::Exactly(&[FUNCTION_UNREAD])),
+    (DiskCall::Create, Calls::Exactly(&[])),
+    (DiskCall::Close, Calls::Exactly(&[])),
+    (DiskCall::Spill, Calls::Exactly(&[])),
+    (DiskCall::Read, Calls::AtLeastOne(FUNCTION_UNREAD)),
+    (DiskCall::Rewind, Calls::Exactly(&[])),
+    (DiskCall::Write, Calls::Exactly(&[])),
+    (DiskCall::Append, Calls::Exactly(&[])),
+    (DiskCall::ReadAt, Calls::Exactly(&[])),
+];
+
 /// Each call of a build by CHM fails, with no older function file.
 #[test]
 fn chm_build_calls(rt: HostRuntime) -> Result<(), Fail> {
@@ -206,5 +235,14 @@ fn brz_build_calls_over_an_older_file(rt: HostRuntime) -> Result<(), Fail> {
 #[test]
 fn one_key_test_calls(rt: HostRuntime) -> Result<(), Fail> {
     fail_each(&rt, rt.alloc(), &one_key_test(), &ONE_KEY_TEST)?;
+    Ok(())
+}
+
+/// Each call of an upgrade fails. The function file stays as it was, unless it was created.
+#[test]
+fn upgrade_calls(rt: HostRuntime) -> Result<(), Fail> {
+    fail_each(&rt, rt.alloc(), &chm_upgrade(), &UPGRADE)?;
+    fail_each(&rt, rt.alloc(), &brz_upgrade(), &UPGRADE)?;
+    fail_each(&rt, rt.alloc(), &repeated_upgrade(), &REPEATED_UPGRADE)?;
     Ok(())
 }

@@ -2,12 +2,24 @@
 
 /// The function of the empty key and `a` by CHM: five vertices, seed 0, cells 0 0 1 0 0.
 pub(crate) const CHM_TWO: [u8; 25] = [
+    0x43, 0x4d, 0x50, 0x48, 0x44, 0x4d, 0x50, 0x32, 1, 0, 0, 0, 2, 0, 0, 0, 0x10, 0xe4, 0x1f, 0, 0,
+    0, 0, 0, 4,
+];
+
+/// The same in version 1.
+pub(crate) const CHM_TWO_OLD: [u8; 25] = [
     0x43, 0x4d, 0x50, 0x48, 0x44, 0x4d, 0x50, 0x31, 1, 0, 0, 0, 2, 0, 0, 0, 0x10, 0xe4, 0x1f, 0, 0,
     0, 0, 0, 4,
 ];
 
 /// The function of the empty key and `a` by BRZ: one bucket, seed 0 for the split and for the bucket.
-pub(crate) const BRZ_TWO: [u8; 32] = [
+pub(crate) const BRZ_TWO: [u8; 33] = [
+    0x43, 0x4d, 0x50, 0x48, 0x44, 0x4d, 0x50, 0x32, 4, 0, 0x80, 0, 2, 0, 0, 0, 0xb0, 0xc4, 0x12, 0,
+    0, 0, 0, 0, 2, 0, 0, 0, 0, 0, 0xc3, 0xff, 3,
+];
+
+/// The same in version 1.
+pub(crate) const BRZ_TWO_OLD: [u8; 32] = [
     0x43, 0x4d, 0x50, 0x48, 0x44, 0x4d, 0x50, 0x31, 4, 0x80, 0, 0, 2, 0, 0, 0, 0xb0, 0xc4, 0x12, 0,
     0, 0, 0, 0, 2, 0, 0, 0, 0, 0xc3, 0xff, 3,
 ];
@@ -89,6 +101,33 @@ pub(crate) fn chm_query() -> Command<'static> {
     Command::query(TWO_KEYS, &CHM_TWO, b" -> 0\na -> 1\n")
 }
 
+/// An upgrade of a function file, without a keys file.
+fn upgrade(old: &'static [u8], new: &'static [u8]) -> Command<'static> {
+    Command {
+        words: &["cmph", "-u", "keys"],
+        keys: None,
+        older: Some(old),
+        file: Some(new),
+        out: b"",
+        err: "",
+    }
+}
+
+/// An upgrade of the function of CHM.
+pub(crate) fn chm_upgrade() -> Command<'static> {
+    upgrade(&CHM_TWO_OLD, &CHM_TWO)
+}
+
+/// An upgrade of the function of BRZ.
+pub(crate) fn brz_upgrade() -> Command<'static> {
+    upgrade(&BRZ_TWO_OLD, &BRZ_TWO)
+}
+
+/// An upgrade of the function of BRZ that is done: the file is of version 2.
+pub(crate) fn repeated_upgrade() -> Command<'static> {
+    upgrade(&BRZ_TWO, &BRZ_TWO)
+}
+
 /// A test of one key by each algorithm.
 pub(crate) fn one_key_test() -> Command<'static> {
     Command {
@@ -96,7 +135,7 @@ pub(crate) fn one_key_test() -> Command<'static> {
         keys: None,
         older: None,
         file: None,
-        out: b"chm 1 25 0\nbdz 1 31 0\nbdz_ph 1 26 2\nbrz 1 32 0\n",
+        out: b"chm 1 25 0\nbdz 1 31 0\nbdz_ph 1 26 2\nbrz 1 33 0\n",
         err: "",
     }
 }

@@ -1,5 +1,5 @@
-//! Queries by hostile function files.
-use crate::command::{BRZ_TWO, CHM_TWO, Command};
+//! Queries by hostile function files, of version 1 except where it is said.
+use crate::command::{BRZ_TWO, BRZ_TWO_OLD, CHM_TWO, CHM_TWO_OLD, Command};
 use crate::equal::expect_equal_at;
 use crate::faults::{Faults, expect_file_kept, expect_stopped, run_with};
 use std::alloc::{AllocError, Global};
@@ -24,9 +24,21 @@ pub(crate) const CHM_ONE: [u8; 25] = [
     0, 0, 0, 0,
 ];
 
-/// The header of a function by CHM of 16,777,216 keys with ten vertices a key, the most that a function may have, and no cells.
+/// The header of a function by CHM of 16,777,216 keys with ten vertices a key, the most that a function of version 1 may have, and no
+/// cells.
 const GREATEST: [u8; 24] = [
     0x43, 0x4d, 0x50, 0x48, 0x44, 0x4d, 0x50, 0x31, 1, 0, 0, 0, 0, 0, 0, 1, 0x80, 0x96, 0x98, 0, 0,
+    0, 0, 0,
+];
+
+/// The same of 67,108,864 keys in version 2, by CHM and by BDZ.
+const GREATEST_CHM: [u8; 24] = [
+    0x43, 0x4d, 0x50, 0x48, 0x44, 0x4d, 0x50, 0x32, 1, 0, 0, 0, 0, 0, 0, 4, 0x80, 0x96, 0x98, 0, 0,
+    0, 0, 0,
+];
+
+const GREATEST_BDZ: [u8; 24] = [
+    0x43, 0x4d, 0x50, 0x48, 0x44, 0x4d, 0x50, 0x32, 2, 0, 3, 0, 0, 0, 0, 4, 0x80, 0x96, 0x98, 0, 0,
     0, 0, 0,
 ];
 
@@ -74,10 +86,17 @@ fn expect_changed(
     expect_fault(rt, alloc, &changed, fault)
 }
 
-/// Each proper prefix of a dump by each algorithm is rejected at its length.
+/// Each proper prefix of a dump by each algorithm is rejected at its length, and so is one of a dump of version 2.
 #[test]
 fn prefixes(rt: HostRuntime) -> Result<(), Fail> {
-    let dumps: [&[u8]; 4] = [&CHM_TWO, &BDZ_ONE, &BDZ_PH_TWO, &BRZ_TWO];
+    let dumps: [&[u8]; 6] = [
+        &CHM_TWO_OLD,
+        &BDZ_ONE,
+        &BDZ_PH_TWO,
+        &BRZ_TWO_OLD,
+        &CHM_TWO,
+        &BRZ_TWO,
+    ];
     for dump in dumps {
         expect_truncated(&rt, rt.alloc(), dump)?;
     }
@@ -94,7 +113,20 @@ fn buckets(rt: HostRuntime) -> Result<(), Fail> {
         (31, 7, "bad padding at 31"),
     ];
     for (place, byte, fault) in rows {
-        expect_changed(&rt, rt.alloc(), &BRZ_TWO, place, &[byte], fault)?;
+        expect_changed(&rt, rt.alloc(), &BRZ_TWO_OLD, place, &[byte], fault)?;
+    }
+    Ok(())
+}
+
+/// In version 2 a bucket of BRZ has 701 keys on average, or 1,024 keys.
+#[test]
+fn wide_buckets(rt: HostRuntime) -> Result<(), Fail> {
+    let rows = [
+        (10, [0xbd, 2], "bad field at 10"),
+        (24, [0, 4], "bad field at 24"),
+    ];
+    for (place, bytes, fault) in rows {
+        expect_changed(&rt, rt.alloc(), &BRZ_TWO, place, &bytes, fault)?;
     }
     Ok(())
 }
@@ -131,7 +163,9 @@ fn fields(rt: HostRuntime) -> Result<(), Fail> {
 
 /// A header that claims the most cells that there may be, with no cell after it, is cut off. No memory is taken for the claim.
 #[test]
-fn greatest_claim(rt: HostRuntime) -> Result<(), Fail> {
-    expect_fault(&rt, rt.alloc(), &GREATEST, "truncated at 24")?;
+fn greatest_claims(rt: HostRuntime) -> Result<(), Fail> {
+    for header in [&GREATEST, &GREATEST_CHM, &GREATEST_BDZ] {
+        expect_fault(&rt, rt.alloc(), header, "truncated at 24")?;
+    }
     Ok(())
 }

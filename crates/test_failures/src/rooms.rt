@@ -1,6 +1,7 @@
 //! A disk with too little room, and a keys file that isn't there.
 use crate::command::{
-    BRZ_TWO, CHM_TWO, Command, brz_build, chm_build, chm_query, one_key_test, over_older,
+    BRZ_TWO, CHM_TWO, Command, brz_build, brz_upgrade, chm_build, chm_query, one_key_test,
+    over_older, repeated_upgrade,
 };
 use crate::equal::expect_equal_at;
 use crate::faults::{
@@ -92,6 +93,16 @@ fn brz_rooms(rt: HostRuntime) -> Result<(), Fail> {
     cut_spill(&rt, alloc, &command, TWO_RECORDS)?;
     cut_file(&rt, alloc, &command, TWO_RECORDS, &BRZ_TWO)?;
     fill_disk(&rt, alloc, &command, BRZ_TWO.len())?;
+    Ok(())
+}
+
+/// An upgrade leaves as much of the function file as there is room for, and needs none for a file that is of version 2.
+#[test]
+fn upgrade_rooms(rt: HostRuntime) -> Result<(), Fail> {
+    let alloc = rt.alloc();
+    cut_file(&rt, alloc, &brz_upgrade(), 0, &BRZ_TWO)?;
+    fill_disk(&rt, alloc, &brz_upgrade(), BRZ_TWO.len())?;
+    fill_disk(&rt, alloc, &repeated_upgrade(), 0)?;
     Ok(())
 }
 

@@ -1,6 +1,7 @@
 //! Each write to out or err fails in turn, and each of them has too little room.
 use crate::command::{
-    Command, brz_build, chm_build, chm_query, one_key_test, verbose_brz_build, verbose_chm_build,
+    Command, brz_build, brz_upgrade, chm_build, chm_query, one_key_test, verbose_brz_build,
+    verbose_chm_build,
 };
 use crate::equal::{expect_equal_at, expect_prefix_at};
 use crate::faults::{
@@ -158,13 +159,14 @@ fn test_out(rt: HostRuntime) -> Result<(), Fail> {
     Ok(())
 }
 
-/// A build that is done writes nothing to out, so a failing out changes nothing.
+/// A build or an upgrade that is done writes nothing to out, so a failing out changes nothing.
 #[test]
 fn build_out(rt: HostRuntime) -> Result<(), Fail> {
     fill_out(&rt, rt.alloc(), &chm_build())?;
     fill_out(&rt, rt.alloc(), &brz_build())?;
     expect_no_out(&rt, rt.alloc(), &chm_build())?;
     expect_no_out(&rt, rt.alloc(), &brz_build())?;
+    expect_no_out(&rt, rt.alloc(), &brz_upgrade())?;
     Ok(())
 }
 
@@ -193,6 +195,8 @@ fn err_after_a_fault(rt: HostRuntime) -> Result<(), Fail> {
         (chm_build(), DiskCall::Rewind, KEYS_UNREAD),
         (chm_build(), DiskCall::Close, FUNCTION_UNWRITTEN),
         (chm_query(), DiskCall::Read, FUNCTION_UNREAD),
+        (brz_upgrade(), DiskCall::Open, FUNCTION_UNREAD),
+        (brz_upgrade(), DiskCall::Write, FUNCTION_UNWRITTEN),
         (brz_build(), DiskCall::ReadAt, SPILL_UNUSED),
         (one_key_test(), DiskCall::Append, SPILL_UNUSED),
     ];

@@ -1,14 +1,16 @@
-//! Functions by BRZ: a build through a spill in memory, and dumps.
+//! Functions by BRZ: builds through a spill in memory, and the dump of the widest bucket.
 ghost use Rattle.std.specs.Prelude.{◌≡◌, ◌<◌, ◌≤◌, []};
+ghost use Rattle.cm_spec.specs.declared.limits.TheConstants.{MAX_WIDTH, MIN_WIDTH};
 ghost use Rattle.cm_spill.specs.declared.runs.TheConstants.{MAX_BYTES, MIN_BYTES};
 
 use crate::answering::expect_answers;
-use crate::dumps::{check_changes, is_saved_again};
+use crate::dump_bytes::BRZ_TWO;
+use crate::dumps::{check_change, is_saved_as};
 use crate::equal::{expect_bytes, expect_equal, expect_true};
 use crate::listed::Listed;
 use cm_brz::build::brz;
 use cm_brz::{BrzFault, MIN_BYTES};
-use cm_dump::{Func, LoadFault, save};
+use cm_dump::{Func, LoadFault, Version, save};
 use cm_graph::Steps;
 use cm_io::Spill;
 use cm_outer::{MemSink, MemSpill};
@@ -17,33 +19,6 @@ use std::marker::Brand;
 use std::process::Abort;
 use std::sync::ledger::{Blank, Ledger};
 use std::test::Fail;
-
-/// The function of the empty key and `a`: one bucket, seed 0 for the split and for the bucket.
-const BRZ_TWO: [u8; 32] = [
-    0x43, 0x4d, 0x50, 0x48, 0x44, 0x4d, 0x50, 0x31, 4, 0x80, 0, 0, 2, 0, 0, 0, 0xb0, 0xc4, 0x12, 0,
-    0, 0, 0, 0, 2, 0, 0, 0, 0, 0xc3, 0xff, 3,
-];
-
-/// What a change of this dump causes: its length, the place of the changed byte, the byte and the fault.
-const CHANGES: [(usize, usize, u8, LoadFault); 14] = [
-    (32, 9, 63, LoadFault::BadField { at: 9 }),
-    (32, 9, 176, LoadFault::BadField { at: 9 }),
-    (24, 0, 0x43, LoadFault::Truncated { at: 24 }),
-    (28, 0, 0x43, LoadFault::Truncated { at: 28 }),
-    (31, 0, 0x43, LoadFault::Truncated { at: 31 }),
-    (33, 0, 0x43, LoadFault::Trailing),
-    // One key more than the function has, one less in the last bucket, and none.
-    (32, 24, 3, LoadFault::BadCount { at: 24 }),
-    (32, 24, 1, LoadFault::BadCount { at: 24 }),
-    (32, 24, 0, LoadFault::BadCount { at: 24 }),
-    // Two keys, but another number of cells that are not 3.
-    (32, 29, 0xcf, LoadFault::BadCount { at: 29 }),
-    (32, 29, 0xc0, LoadFault::BadCount { at: 29 }),
-    (32, 31, 7, LoadFault::BadPadding { at: 31 }),
-    // No key, and one more than may be.
-    (32, 12, 0, LoadFault::BadField { at: 12 }),
-    (32, 15, 2, LoadFault::BadField { at: 12 }),
-];
 
 /// The seeds of every build here.
 const SEEDS: [u32; 8] = [0, 1, 2, 3, 4, 5, 6, 7];
@@ -66,7 +41,7 @@ type Made = (Result<cm_brz::Brz, BrzFault>, MemSpill);
 fn build_by<L: Ledger>(
     alloc: Global,
     keys: &[&[u8]],
-    b: u8,
+    b: u16,
     buffer: u32,
     spill: MemSpill,
     blank: Blank,
@@ -74,7 +49,7 @@ fn build_by<L: Ledger>(
     requires name { blank.name ≡ L.name }
     requires parts { blank.parts ≡ L.parts }
     requires some { 0 < blank.parts }
-    requires width { (64 ≤ b) × (b ≤ 175) }
+    requires width { (MIN_WIDTH ≤ b) × (b ≤ MAX_WIDTH) }
     requires buffer { (MIN_BYTES ≤ buffer) × (buffer ≤ MAX_BYTES) }
     requires empty { spill.appended.bytes ≡ [] }
 {
@@ -85,8 +60,8 @@ fn build_by<L: Ledger>(
     )
 }
 
-fn built(alloc: Global, keys: &[&[u8]], b: u8, buffer: u32) -> Result<Made, AllocError>
-    requires width { (64 ≤ b) × (b ≤ 175) }
+fn built(alloc: Global, keys: &[&[u8]], b: u16, buffer: u32) -> Result<Made, AllocError>
+    requires width { (MIN_WIDTH ≤ b) × (b ≤ MAX_WIDTH) }
     requires buffer { (MIN_BYTES ≤ buffer) × (buffer ≤ MAX_BYTES) }
 {
     let spill = MemSpill::new(alloc, ROOM, Vec::new(alloc), Vec::new(alloc))?;
@@ -112,9 +87,9 @@ fn a_bucket_of_two(rt: HostRuntime) -> Result<(), Fail> {
         &(2, 1_230_000, 128, 0, 1),
     );
     expect_answers(&rt, &function, &(2, Some(0), Some(1)));
-    let mut out = MemSink::new(alloc, 32, Vec::new(alloc))?;
+    let mut out = MemSink::new(alloc, 33, Vec::new(alloc))?;
     expect_true(&rt, save(&Func::Brz(function), &mut out).is_ok());
-    expect_bytes(&rt, out.bytes(), &BRZ_TWO);
+    expect_bytes(&rt, out.bytes(), BRZ_TWO.two);
     let mut records = [0; 32];
     let Ok(n) = spill.read_at(0, &mut records) else {
         panic!(rt; "a failed read");
@@ -211,10 +186,54 @@ fn long_keys_by_two_buffers(rt: HostRuntime) -> Result<(), Fail> {
     Ok(())
 }
 
+/// The header of a function of 1,023 keys with ten vertices a key and 700 keys a bucket on average.
+const WIDEST: [u8; 24] = [
+    0x43, 0x4d, 0x50, 0x48, 0x44, 0x4d, 0x50, 0x32, 4, 0, 0xbc, 2, 0xff, 3, 0, 0, 0x80, 0x96, 0x98,
+    0, 0, 0, 0, 0,
+];
+
+/// How many bytes its dump has: the header, 6 bytes and 10,233 cells of its first bucket, which has all keys, and 6 bytes of its second.
+const WIDEST_LEN: usize = 24 + 6 + 2_559 + 6;
+
+/// Its dump. The first 1,023 cells are 0, and the others 3.
+fn widest_dump(alloc: Global) -> Result<Vec<u8>, AllocError> {
+    let mut bytes = WIDEST.to_vec(alloc)?;
+    bytes.extend_from_slice(&[0xff, 3, 0, 0, 0, 0])?;
+    bytes.resize(24 + 6 + 255, 0)?;
+    bytes.push(0xc0)?;
+    bytes.resize(24 + 6 + 2_558, 0xff)?;
+    bytes.push(3)?;
+    bytes.resize(WIDEST_LEN, 0)?;
+    Ok(bytes)
+}
+
+/// The bucket with the most bytes is read, and one with a key more isn't.
 #[test]
-fn dumps_of_brz(rt: HostRuntime) -> Result<(), Fail> {
+fn widest_bucket(rt: HostRuntime) -> Result<(), Fail> {
     let alloc = rt.alloc();
-    expect_true(&rt, is_saved_again(alloc, &BRZ_TWO)?);
-    check_changes(&rt, alloc, &BRZ_TWO, &CHANGES)?;
+    let bytes = widest_dump(alloc)?;
+    expect_true(&rt, is_saved_as(alloc, &bytes, Version::Two, &bytes)?);
+    for len in [26, 30, 2_588, 2_589, WIDEST_LEN - 1] {
+        let fault = LoadFault::Truncated { at: len as u64 };
+        check_change(&rt, alloc, &bytes, len, &[], fault)?;
+    }
+    let rows = [
+        (
+            [(2_588, 7), (2_589, 0)],
+            LoadFault::BadPadding { at: 2_588 },
+        ),
+        ([(30, 3), (2_589, 0)], LoadFault::BadCount { at: 30 }),
+        ([(30, 0), (2_589, 1)], LoadFault::BadCount { at: 2_589 }),
+        ([(30, 0), (2_591, 1)], LoadFault::BadField { at: 2_591 }),
+        // The function has a key more than its buckets.
+        ([(12, 0), (13, 4)], LoadFault::BadCount { at: 2_589 }),
+    ];
+    for (changes, fault) in &rows {
+        check_change(&rt, alloc, &bytes, WIDEST_LEN, changes, *fault)?;
+    }
+    // It is in the first bucket, so that the sum is right.
+    let more = [(12, 0), (13, 4), (24, 0), (25, 4)];
+    let fault = LoadFault::BadField { at: 24 };
+    check_change(&rt, alloc, &bytes, WIDEST_LEN, &more, fault)?;
     Ok(())
 }

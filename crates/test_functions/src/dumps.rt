@@ -1,121 +1,18 @@
-//! Dumps of functions by CHM, BDZ and BDZ_PH: whole, changed, cut off, and with reads that fail.
+//! Dumps of functions, in both versions: loaded and saved again, with reads that fail, and long images.
 ghost use Rattle.std.specs.Prelude.{◌≡◌, IfOk};
 
 use crate::answering::expect_answers;
+use crate::dump_bytes::{
+    BDZ_ONE, BDZ_TWO, BRZ_EMPTY_BUCKET, BRZ_TWO, CHM_FIVE, CHM_ONE, CHM_TWO, Dumps, PH_TWO,
+};
 use crate::equal::{expect_equal, expect_equal_at, expect_text, expect_true};
 use cm_bits::Cells;
 use cm_chm::Chm;
-use cm_dump::{Func, LoadFault, load, save, saved_len};
+use cm_dump::{Func, LoadFault, Version, load, load_versioned, save, saved_len};
 use cm_outer::{MemSink, MemSource};
 use std::alloc::{AllocError, Global};
 use std::process::Abort;
 use std::test::Fail;
-
-/// The CHM function of the empty key: three vertices, seed 0, cells 0 0 0.
-const CHM_ONE: [u8; 25] = [
-    0x43, 0x4d, 0x50, 0x48, 0x44, 0x4d, 0x50, 0x31, 1, 0, 0, 0, 1, 0, 0, 0, 0x10, 0xe4, 0x1f, 0, 0,
-    0, 0, 0, 0,
-];
-
-/// The CHM function of the empty key and `a`: five vertices, seed 0, cells 0 0 1 0 0.
-const CHM_TWO: [u8; 25] = [
-    0x43, 0x4d, 0x50, 0x48, 0x44, 0x4d, 0x50, 0x31, 1, 0, 0, 0, 2, 0, 0, 0, 0x10, 0xe4, 0x1f, 0, 0,
-    0, 0, 0, 4,
-];
-
-/// A CHM function of five keys with the seed 0x01020304: eleven cells of three bits, all 0.
-const CHM_FIVE: [u8; 29] = [
-    0x43, 0x4d, 0x50, 0x48, 0x44, 0x4d, 0x50, 0x31, 1, 0, 0, 0, 5, 0, 0, 0, 0x10, 0xe4, 0x1f, 0, 4,
-    3, 2, 1, 0, 0, 0, 0, 0,
-];
-
-/// The BDZ function of the empty key: nine vertices, seed 0, cell 1 is 0 and all others are 3, and one rank.
-pub(crate) const BDZ_ONE: [u8; 31] = [
-    0x43, 0x4d, 0x50, 0x48, 0x44, 0x4d, 0x50, 0x31, 2, 7, 0, 0, 1, 0, 0, 0, 0xb0, 0xc4, 0x12, 0, 0,
-    0, 0, 0, 0xf3, 0xff, 3, 0, 0, 0, 0,
-];
-
-/// The BDZ function of the empty key and `a`.
-pub(crate) const BDZ_TWO: [u8; 31] = [
-    0x43, 0x4d, 0x50, 0x48, 0x44, 0x4d, 0x50, 0x31, 2, 7, 0, 0, 2, 0, 0, 0, 0xb0, 0xc4, 0x12, 0, 0,
-    0, 0, 0, 0xc3, 0xff, 3, 0, 0, 0, 0,
-];
-
-/// The BDZ_PH function of the empty key and `a`: nine vertices, seed 0, all cells 0.
-const PH_TWO: [u8; 26] = [
-    0x43, 0x4d, 0x50, 0x48, 0x44, 0x4d, 0x50, 0x31, 3, 0, 0, 0, 2, 0, 0, 0, 0xb0, 0xc4, 0x12, 0, 0,
-    0, 0, 0, 0, 0,
-];
-
-/// What changes of `CHM_ONE` cause: rows of `check_changes`.
-const CHM_CHANGES: [(usize, usize, u8, LoadFault); 17] = [
-    (25, 0, b'c', LoadFault::BadMagic),
-    (25, 7, b'2', LoadFault::BadMagic),
-    (25, 8, 0, LoadFault::BadAlgorithm),
-    (25, 8, 2, LoadFault::BadField { at: 9 }),
-    (25, 8, 3, LoadFault::Truncated { at: 25 }),
-    (25, 8, 4, LoadFault::BadField { at: 9 }),
-    (25, 8, 5, LoadFault::BadAlgorithm),
-    (25, 9, 2, LoadFault::BadField { at: 9 }),
-    (25, 10, 1, LoadFault::BadField { at: 10 }),
-    (25, 11, 1, LoadFault::BadField { at: 11 }),
-    // No key, and one more than may be.
-    (25, 12, 0, LoadFault::BadField { at: 12 }),
-    (25, 15, 1, LoadFault::BadField { at: 12 }),
-    // A ratio below 1, and one above 10.
-    (25, 18, 0, LoadFault::BadField { at: 16 }),
-    (25, 19, 1, LoadFault::BadField { at: 16 }),
-    (25, 24, 1, LoadFault::BadCell { at: 24 }),
-    (25, 24, 8, LoadFault::BadPadding { at: 24 }),
-    (25, 24, 9, LoadFault::BadCell { at: 24 }),
-];
-
-/// The same of `BDZ_ONE`.
-const BDZ_CHANGES: [(usize, usize, u8, LoadFault); 23] = [
-    (31, 8, 0, LoadFault::BadAlgorithm),
-    (31, 8, 1, LoadFault::BadField { at: 9 }),
-    (31, 8, 3, LoadFault::BadField { at: 9 }),
-    (31, 8, 4, LoadFault::BadField { at: 9 }),
-    (31, 8, 5, LoadFault::BadAlgorithm),
-    (31, 9, 2, LoadFault::BadField { at: 9 }),
-    (31, 9, 11, LoadFault::BadField { at: 9 }),
-    (31, 10, 1, LoadFault::BadField { at: 10 }),
-    (31, 11, 1, LoadFault::BadField { at: 11 }),
-    (31, 12, 0, LoadFault::BadField { at: 12 }),
-    (31, 15, 1, LoadFault::BadField { at: 12 }),
-    (31, 18, 0, LoadFault::BadField { at: 16 }),
-    (31, 19, 1, LoadFault::BadField { at: 16 }),
-    // One key more than there are cells that aren't 3, and then one such cell more, or one less.
-    (31, 12, 2, LoadFault::BadCount { at: 24 }),
-    (31, 24, 0xf0, LoadFault::BadCount { at: 24 }),
-    (31, 25, 0xfc, LoadFault::BadCount { at: 24 }),
-    (31, 26, 0, LoadFault::BadCount { at: 24 }),
-    (31, 24, 0xff, LoadFault::BadCount { at: 24 }),
-    (31, 26, 7, LoadFault::BadPadding { at: 26 }),
-    (31, 26, 0x83, LoadFault::BadPadding { at: 26 }),
-    (31, 27, 1, LoadFault::BadRank { at: 27 }),
-    (31, 28, 1, LoadFault::BadRank { at: 27 }),
-    (31, 30, 1, LoadFault::BadRank { at: 27 }),
-];
-
-/// The same of `PH_TWO`.
-const PH_CHANGES: [(usize, usize, u8, LoadFault); 15] = [
-    (26, 8, 1, LoadFault::Trailing),
-    (26, 8, 2, LoadFault::BadField { at: 9 }),
-    (26, 8, 4, LoadFault::BadField { at: 9 }),
-    (26, 9, 1, LoadFault::BadField { at: 9 }),
-    (26, 9, 7, LoadFault::BadField { at: 9 }),
-    (26, 10, 1, LoadFault::BadField { at: 10 }),
-    (26, 11, 1, LoadFault::BadField { at: 11 }),
-    (26, 12, 0, LoadFault::BadField { at: 12 }),
-    (26, 15, 1, LoadFault::BadField { at: 12 }),
-    (26, 18, 0, LoadFault::BadField { at: 16 }),
-    (26, 19, 1, LoadFault::BadField { at: 16 }),
-    (26, 24, 243, LoadFault::BadCell { at: 24 }),
-    (26, 25, 255, LoadFault::BadCell { at: 25 }),
-    (26, 25, 81, LoadFault::BadPadding { at: 25 }),
-    (27, 25, 0, LoadFault::Trailing),
-];
 
 /// A source of these bytes, whose listed reads fail.
 pub(crate) fn source_of(alloc: Global, bytes: &[u8], fails: &[u64]) -> Result<MemSource, AllocError>
@@ -154,15 +51,21 @@ pub(crate) fn changed(
     Ok(all)
 }
 
-/// Whether the bytes are the dump of the function that is loaded from them.
-pub(crate) fn is_saved_again(alloc: Global, bytes: &[u8]) -> Result<bool, AllocError> {
+/// Whether a function is loaded from these bytes, in this version, and saved as those.
+pub(crate) fn is_saved_as(
+    alloc: Global,
+    bytes: &[u8],
+    version: Version,
+    saved: &[u8],
+) -> Result<bool, AllocError> {
     let mut source = source_of(alloc, bytes, &[])?;
-    let Ok(function) = load(alloc, &mut source) else {
+    let Ok(loaded) = load_versioned(alloc, &mut source) else {
         return Ok(false);
     };
-    let mut out = MemSink::new(alloc, bytes.len(), Vec::new(alloc))?;
-    let is_saved = save(&function, &mut out).is_ok();
-    Ok(is_saved && out.bytes() == bytes && saved_len(&function) == bytes.len() as u64)
+    let mut out = MemSink::new(alloc, saved.len(), Vec::new(alloc))?;
+    let is_saved = save(&loaded.func, &mut out).is_ok();
+    let is_long = saved_len(&loaded.func) == saved.len() as u64;
+    Ok(loaded.version == version && is_saved && is_long && out.bytes() == saved)
 }
 
 /// Compares the fault of a dump that is cut or extended to this length, with some bytes changed.
@@ -176,20 +79,7 @@ pub(crate) fn check_change(
 ) -> Result<(), AllocError> {
     let bytes = changed(alloc, dump, len, changes)?;
     let found = fault_of(alloc, &bytes, &[])?;
-    expect_equal_at(rt, &(len, changes), &found, &Some(fault));
-    Ok(())
-}
-
-/// Compares the faults of a dump with one byte changed: the length, the place, the byte and the fault of each row.
-pub(crate) fn check_changes(
-    rt: &impl Abort,
-    alloc: Global,
-    dump: &[u8],
-    rows: &[(usize, usize, u8, LoadFault)],
-) -> Result<(), AllocError> {
-    for (len, at, byte, fault) in rows {
-        check_change(rt, alloc, dump, *len, &[(*at, *byte)], *fault)?;
-    }
+    expect_equal_at(rt, &(dump, len, changes), &found, &Some(fault));
     Ok(())
 }
 
@@ -202,31 +92,64 @@ fn chm_of(alloc: Global, bytes: &[u8]) -> Result<Option<Chm>, AllocError> {
     }
 }
 
-#[test]
-fn parts_of_chm(rt: HostRuntime) -> Result<(), Fail> {
-    let Some(chm) = chm_of(rt.alloc(), &CHM_TWO)? else {
+/// Compares the parts of the function by CHM of the empty key and `a`.
+fn check_parts(rt: &impl Abort, alloc: Global, bytes: &[u8]) -> Result<(), AllocError> {
+    let Some(chm) = chm_of(alloc, bytes)? else {
         panic!(rt; "no function");
     };
-    expect_equal(&rt, &(chm.keys(), chm.c(), chm.seed()), &(2, 2_090_000, 0));
+    expect_equal(rt, &(chm.keys(), chm.c(), chm.seed()), &(2, 2_090_000, 0));
     let cells = chm.cells();
-    expect_equal(&rt, &cells.len(), &5);
+    expect_equal(rt, &cells.len(), &5);
     for i in 0..cells.len() {
-        expect_equal(&rt, &cells.get(i), &((i == 2) as u32));
+        expect_equal(rt, &cells.get(i), &((i == 2) as u32));
     }
-    let Some(chm) = chm_of(rt.alloc(), &CHM_FIVE)? else {
+    Ok(())
+}
+
+#[test]
+fn parts_of_chm(rt: HostRuntime) -> Result<(), Fail> {
+    check_parts(&rt, rt.alloc(), CHM_TWO.one)?;
+    check_parts(&rt, rt.alloc(), CHM_TWO.two)?;
+    let Some(chm) = chm_of(rt.alloc(), CHM_FIVE.two)? else {
         panic!(rt; "no function");
     };
     expect_equal(&rt, &chm.seed(), &0x0102_0304);
     Ok(())
 }
 
-const DUMPS: [&[u8]; 6] = [&CHM_ONE, &CHM_TWO, &CHM_FIVE, &BDZ_ONE, &BDZ_TWO, &PH_TWO];
+const ALL: [Dumps; 8] = [
+    CHM_ONE,
+    CHM_TWO,
+    CHM_FIVE,
+    BDZ_ONE,
+    BDZ_TWO,
+    PH_TWO,
+    BRZ_TWO,
+    BRZ_EMPTY_BUCKET,
+];
 
+/// Both dumps of a function name their version, and the function is saved in version 2.
 #[test]
 fn saved_again(rt: HostRuntime) -> Result<(), Fail> {
-    for dump in &DUMPS {
-        expect_true(&rt, is_saved_again(rt.alloc(), *dump)?);
+    for dumps in &ALL {
+        let first = is_saved_as(rt.alloc(), dumps.one, Version::One, dumps.two)?;
+        let second = is_saved_as(rt.alloc(), dumps.two, Version::Two, dumps.two)?;
+        expect_equal_at(&rt, &dumps.two, &(first, second), &(true, true));
     }
+    Ok(())
+}
+
+/// The greatest bytes of five digits and of four, and the greatest parameters of BRZ.
+#[test]
+fn greatest_values(rt: HostRuntime) -> Result<(), Fail> {
+    let alloc = rt.alloc();
+    let full = changed(alloc, PH_TWO.two, 26, &[(24, 242), (25, 80)])?;
+    expect_true(&rt, is_saved_as(alloc, &full, Version::Two, &full)?);
+    let wide = changed(alloc, BRZ_TWO.two, 33, &[(10, 0xbc), (11, 2)])?;
+    expect_true(&rt, is_saved_as(alloc, &wide, Version::Two, &wide)?);
+    let old = changed(alloc, BRZ_TWO.one, 32, &[(9, 175)])?;
+    let new = changed(alloc, BRZ_TWO.two, 33, &[(10, 175)])?;
+    expect_true(&rt, is_saved_as(alloc, &old, Version::One, &new)?);
     Ok(())
 }
 
@@ -247,75 +170,16 @@ fn check_answers(
 
 #[test]
 fn answers(rt: HostRuntime) -> Result<(), Fail> {
-    check_answers(&rt, rt.alloc(), &CHM_TWO, &(2, Some(0), Some(1)))?;
-    check_answers(&rt, rt.alloc(), &BDZ_TWO, &(2, Some(0), Some(1)))?;
-    check_answers(&rt, rt.alloc(), &PH_TWO, &(9, Some(1), Some(2)))?;
-    Ok(())
-}
-
-#[test]
-fn changed_bytes(rt: HostRuntime) -> Result<(), Fail> {
-    check_changes(&rt, rt.alloc(), &CHM_ONE, &CHM_CHANGES)?;
-    check_changes(&rt, rt.alloc(), &BDZ_ONE, &BDZ_CHANGES)?;
-    check_changes(&rt, rt.alloc(), &PH_TWO, &PH_CHANGES)?;
-    // The greatest byte of five digits, and the greatest of four.
-    let full = changed(rt.alloc(), &PH_TWO, 26, &[(24, 242), (25, 80)])?;
-    expect_true(&rt, is_saved_again(rt.alloc(), &full)?);
-    Ok(())
-}
-
-/// What two changes of `CHM_FIVE` cause: the length, the changes and the fault.
-const PAIRS: [(usize, [(usize, u8); 2], LoadFault); 7] = [
-    // Cell 5 has the bits 15 to 17 of the image, and cell 6 the next three.
-    (29, [(25, 0x80), (26, 0x1f)], LoadFault::BadCell { at: 25 }),
-    (29, [(25, 0), (26, 0x1c)], LoadFault::BadCell { at: 26 }),
-    (29, [(25, 0), (28, 2)], LoadFault::BadPadding { at: 28 }),
-    // A bad cell comes before padding, wherever they stand, and before a byte that follows.
-    (30, [(26, 0x1c), (28, 2)], LoadFault::BadCell { at: 26 }),
-    (30, [(25, 0), (28, 2)], LoadFault::BadPadding { at: 28 }),
-    // An image that is cut off is not checked.
-    (
-        28,
-        [(25, 0x80), (26, 0x1f)],
-        LoadFault::Truncated { at: 28 },
-    ),
-    (30, [(25, 0), (26, 0)], LoadFault::Trailing),
-];
-
-/// Headers that claim images of half a gigabyte and of 16,777,216 keys, of which a few bytes are there: the dump, the length and the
-/// changes.
-const CLAIMS: [(&[u8], usize, [(usize, u8); 2]); 3] = [
-    (&CHM_ONE, 25, [(14, 255), (18, 0x97)]),
-    (&BDZ_ONE, 30, [(12, 0), (15, 1)]),
-    (&PH_TWO, 30, [(12, 0), (15, 1)]),
-];
-
-#[test]
-fn changed_images(rt: HostRuntime) -> Result<(), Fail> {
-    for (len, changes, fault) in &PAIRS {
-        check_change(&rt, rt.alloc(), &CHM_FIVE, *len, changes, *fault)?;
+    let rows = [
+        (CHM_TWO, (2, Some(0), Some(1))),
+        (BDZ_TWO, (2, Some(0), Some(1))),
+        (PH_TWO, (9, Some(1), Some(2))),
+        (BRZ_TWO, (2, Some(0), Some(1))),
+    ];
+    for (dumps, expected) in &rows {
+        check_answers(&rt, rt.alloc(), dumps.one, expected)?;
+        check_answers(&rt, rt.alloc(), dumps.two, expected)?;
     }
-    for (dump, len, changes) in &CLAIMS {
-        let fault = LoadFault::Truncated { at: *len as u64 };
-        check_change(&rt, rt.alloc(), *dump, *len, changes, fault)?;
-    }
-    Ok(())
-}
-
-/// Each proper prefix of a dump is cut off at its end, and a byte after the dump is trailing.
-fn check_lengths(rt: &impl Abort, alloc: Global, dump: &[u8]) -> Result<(), AllocError> {
-    for n in 0..dump.len() {
-        let fault = LoadFault::Truncated { at: n as u64 };
-        check_change(rt, alloc, dump, n, &[], fault)?;
-    }
-    check_change(rt, alloc, dump, dump.len() + 1, &[], LoadFault::Trailing)
-}
-
-#[test]
-fn lengths(rt: HostRuntime) -> Result<(), Fail> {
-    check_lengths(&rt, rt.alloc(), &CHM_ONE)?;
-    check_lengths(&rt, rt.alloc(), &BDZ_ONE)?;
-    check_lengths(&rt, rt.alloc(), &PH_TWO)?;
     Ok(())
 }
 
@@ -329,18 +193,19 @@ fn check_reads(rt: &impl Abort, alloc: Global, dump: &[u8], reads: u64) -> Resul
     Ok(())
 }
 
-// Each item is one read here: eight of the header, the image, the ranks of BDZ, and the end.
+// Each item is one read here: those of the header, which has one more in version 1, the image, the ranks of BDZ, and the end.
 #[test]
 fn failing_reads(rt: HostRuntime) -> Result<(), Fail> {
-    check_reads(&rt, rt.alloc(), &CHM_ONE, 10)?;
-    check_reads(&rt, rt.alloc(), &BDZ_ONE, 11)?;
-    check_reads(&rt, rt.alloc(), &PH_TWO, 10)?;
+    for (dumps, one, two) in &[(CHM_ONE, 10, 9), (BDZ_ONE, 11, 10), (PH_TWO, 10, 9)] {
+        check_reads(&rt, rt.alloc(), dumps.one, *one)?;
+        check_reads(&rt, rt.alloc(), dumps.two, *two)?;
+    }
     Ok(())
 }
 
-/// The dump of a function by CHM of 65,536 keys: 136,971 cells of sixteen bits.
-fn long_dump(alloc: Global) -> Result<Vec<u8>, AllocError> {
-    let mut bytes = changed(alloc, &CHM_ONE, 24, &[(12, 0), (14, 1)])?;
+/// The dump of a function by CHM of 65,536 keys, 136,971 cells of sixteen bits, after the magic and the algorithm of this one.
+fn long_dump(alloc: Global, short: &[u8]) -> Result<Vec<u8>, AllocError> {
+    let mut bytes = changed(alloc, short, 24, &[(12, 0), (14, 1)])?;
     for i in 0..273_942u32 {
         bytes.push((i % 251) as u8)?;
     }
@@ -350,10 +215,12 @@ fn long_dump(alloc: Global) -> Result<Vec<u8>, AllocError> {
 #[test]
 fn long_images(rt: HostRuntime) -> Result<(), Fail> {
     let alloc = rt.alloc();
-    let bytes = long_dump(alloc)?;
-    expect_true(&rt, is_saved_again(alloc, &bytes)?);
-    // Eight reads of the header here, five of the image, and one of the end.
-    check_reads(&rt, alloc, &bytes, 14)?;
+    let older = long_dump(alloc, CHM_ONE.one)?;
+    let bytes = long_dump(alloc, CHM_ONE.two)?;
+    expect_true(&rt, is_saved_as(alloc, &older, Version::One, &bytes)?);
+    expect_true(&rt, is_saved_as(alloc, &bytes, Version::Two, &bytes)?);
+    // Seven reads of the header here, five of the image, and one of the end.
+    check_reads(&rt, alloc, &bytes, 13)?;
     let fault = LoadFault::Truncated { at: 100_000 };
     check_change(&rt, alloc, &bytes, 100_000, &[], fault)?;
     check_change(&rt, alloc, &bytes, 273_967, &[], LoadFault::Trailing)?;

@@ -1,8 +1,9 @@
 //! The parts of functions by BDZ that were read from dumps, and a dump with many ranks.
-use crate::dumps::{BDZ_ONE, BDZ_TWO, changed, check_change, is_saved_again, source_of};
+use crate::dump_bytes::{BDZ_ONE, BDZ_TWO};
+use crate::dumps::{changed, check_change, is_saved_as, source_of};
 use crate::equal::{expect_equal, expect_true};
 use cm_bits::Cells;
-use cm_dump::{Func, LoadFault, load};
+use cm_dump::{Func, LoadFault, Version, load};
 use std::alloc::{AllocError, Global};
 use std::test::Fail;
 
@@ -14,7 +15,7 @@ const LONG_LEN: usize = 24 + 20_154 + 4 * 10_077;
 
 /// A BDZ function of 65,536 keys with b = 3, whose first 65,536 cells are 0, and the others 3.
 fn long_dump(alloc: Global) -> Result<Vec<u8>, AllocError> {
-    let mut bytes = changed(alloc, &BDZ_ONE, 24, &[(9, 3), (12, 0), (14, 1)])?;
+    let mut bytes = changed(alloc, BDZ_ONE.two, 24, &[(10, 3), (12, 0), (14, 1)])?;
     bytes.resize(24 + 16_384, 0)?;
     bytes.resize(24 + 20_153, 255)?;
     bytes.push(3)?;
@@ -27,7 +28,7 @@ fn long_dump(alloc: Global) -> Result<Vec<u8>, AllocError> {
 #[test]
 fn parts_of_bdz(rt: HostRuntime) -> Result<(), Fail> {
     let alloc = rt.alloc();
-    let mut source = source_of(alloc, &BDZ_TWO, &[])?;
+    let mut source = source_of(alloc, BDZ_TWO.two, &[])?;
     match load(alloc, &mut source) {
         Ok(Func::Bdz(bdz)) => {
             expect_equal(
@@ -49,7 +50,7 @@ fn many_ranks(rt: HostRuntime) -> Result<(), Fail> {
     let alloc = rt.alloc();
     let long = long_dump(alloc)?;
     expect_equal(&rt, &long.len(), &LONG_LEN);
-    expect_true(&rt, is_saved_again(alloc, &long)?);
+    expect_true(&rt, is_saved_as(alloc, &long, Version::Two, &long)?);
     for rank in [0, 1023, 1024, 10_076usize] {
         let at = 24 + 20_154 + 4 * rank;
         let fault = LoadFault::BadRank { at: at as u64 };

@@ -1,4 +1,5 @@
-//! Worked examples of functions, as tests: their answers, dumps and queries, and certificates of keys that have none.
+//! Worked examples of functions, as tests: their answers, dumps and queries, certificates of keys that have none, and reports that are
+//! read back.
 #![tactic(auto)]
 
 #[cfg(test)]
@@ -10,9 +11,13 @@ mod brz;
 #[cfg(test)]
 mod certificates;
 #[cfg(test)]
+mod changed_dumps;
+#[cfg(test)]
 mod chm;
 #[cfg(test)]
 mod divisor;
+#[cfg(test)]
+mod dump_bytes;
 #[cfg(test)]
 mod dumps;
 #[cfg(test)]
@@ -27,5 +32,7 @@ mod generated;
 mod listed;
 #[cfg(test)]
 mod queries;
+#[cfg(test)]
+mod reports;
 #[cfg(test)]
 mod spills;
