@@ -116,7 +116,7 @@ def vertices(m: int) -> int:
 
 def read(path: Path) -> Function:
     data = path.read_bytes()
-    must(data[:12] == b"CMPHDMP1\x01\0\0\0", "the head of the function file")
+    must(data[:12] == b"CMPHDMP2\x01\0\0\0", "the head of the function file")
     m, ratio, seed = three(data[12:24])
     must(ratio == RATIO, "the ratio")
     n, width = vertices(m), max(1, (m - 1).bit_length())
