@@ -10,6 +10,7 @@
 #                 the same for packed tables, for peeling, for the buffer of brz, and beside bbhash
 # make bench-versions BEFORE=PROGRAM
 #                 the same beside the program of an earlier version
+# make bench-most the same over as many keys as a function may have: it needs three gigabytes of disk
 # make drawings   draws docs/chm.svg from a real run
 PREFIX ?= /usr/local
 SETS ?=
@@ -66,10 +67,13 @@ bench-bbhash: bin/cmph
 bench-versions: bin/cmph
 	python3 bench/tables.py --record versions python3 bench/versions.py $(BEFORE)
 
+bench-most: bin/cmph
+	python3 bench/tables.py --record most python3 bench/most.py
+
 drawings: bin/cmph
 	python3 docs/draw.py
 
 clean:
 	rm -rf bin out crates/*/out
 
-.PHONY: all demo check install uninstall bench bench-bits bench-peel bench-spill bench-bbhash bench-versions drawings clean
+.PHONY: all demo check install uninstall bench bench-bits bench-peel bench-spill bench-bbhash bench-versions bench-most drawings clean

@@ -87,7 +87,7 @@ fn ranks(cells: &Crumbs, n: u32) -> Vec<u32> {
 }
 
 impl Function<3> for Bdz {
-    const HEAD: [u8; 2] = [2, 7];
+    const HEAD: (u8, u16) = (2, 7);
 
     const RATIO: u32 = triples::RATIO;
 

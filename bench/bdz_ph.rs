@@ -48,7 +48,7 @@ struct BdzPh {
 }
 
 impl Function<3> for BdzPh {
-    const HEAD: [u8; 2] = [3, 0];
+    const HEAD: (u8, u16) = (3, 0);
 
     const RATIO: u32 = triples::RATIO;
 

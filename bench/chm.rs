@@ -49,7 +49,7 @@ struct Chm {
 }
 
 impl Function<2> for Chm {
-    const HEAD: [u8; 2] = [1, 0];
+    const HEAD: (u8, u16) = (1, 0);
 
     const RATIO: u32 = 2_090_000;
 

@@ -26,7 +26,7 @@ import traceback
 from pathlib import Path
 
 import compare
-from hostile_cases import files, memory, outputs, spilling  # noqa: F401  they list their cases
+from hostile_cases import arguments, files, memory, outputs, spilling  # noqa: F401  they list their cases
 from hostile_cases.runs import CASES, GIB, Machine, Row, get
 
 HERE = Path(__file__).resolve().parent

@@ -10,7 +10,7 @@ mod peel;
 
 pub use peel::{Edges, Peeled};
 
-use peel::link;
+use peel::{MOST_NARROW, Word, link};
 use std::env;
 use std::fs::{self, File};
 use std::io::{self, BufRead, BufReader, BufWriter, StdoutLock, Write};
@@ -39,10 +39,19 @@ pub fn gather<const K: usize>(
     }
 }
 
+/// What a function file begins with.
+pub fn heading(algorithm: u8, b: u16, numbers: [u32; 3]) -> Vec<u8> {
+    let mut bytes = b"CMPHDMP2".to_vec();
+    bytes.extend_from_slice(&[algorithm, 0]);
+    bytes.extend_from_slice(&b.to_le_bytes());
+    bytes.extend_from_slice(numbers.map(u32::to_le_bytes).as_flattened());
+    bytes
+}
+
 /// A function of one algorithm, over edges of K ends.
 pub trait Function<const K: usize> {
-    /// The algorithm and its parameter, as a function file has them.
-    const HEAD: [u8; 2];
+    /// The number of the algorithm, and its parameter b, as a function file has them.
+    const HEAD: (u8, u16);
 
     /// The vertices for each key, in millionths.
     const RATIO: u32;
@@ -265,13 +274,17 @@ fn tell(timed: bool, part: &str, start: &mut Instant) {
 
 fn save<F: Function<K>, const K: usize>(path: &str, m: u32, seed: u32, f: &F) -> io::Result<()> {
     let mut file = BufWriter::with_capacity(PIECE, File::create(path)?);
-    file.write_all(b"CMPHDMP1")?;
-    file.write_all(&[F::HEAD[0], F::HEAD[1], 0, 0])?;
-    for number in [m, F::RATIO, seed] {
-        file.write_all(&number.to_le_bytes())?;
-    }
+    file.write_all(&heading(F::HEAD.0, F::HEAD.1, [m, F::RATIO, seed]))?;
     f.save(&mut file)?;
     file.into_inner()?.sync_all()
+}
+
+fn peeled<W: Word, const K: usize>(edges: &Edges<K>, timed: bool, start: &mut Instant) -> Peeled {
+    let linked = link::<W, K>(edges);
+    tell(timed, "link", start);
+    let peeled = peel::peel(edges, linked);
+    tell(timed, "peel", start);
+    peeled
 }
 
 fn build<F: Function<K>, const K: usize>(path: &str, seed: u32, timed: bool) -> io::Result<()> {
@@ -284,11 +297,12 @@ fn build<F: Function<K>, const K: usize>(path: &str, seed: u32, timed: bool) -> 
     for_lines(path, |key| ends.push(F::edge(words(key, seed), &range)))?;
     let edges = Edges { vertices: n, ends };
     tell(timed, "hash", &mut start);
-    let linked = link(&edges);
-    tell(timed, "link", &mut start);
-    let peeled = peel::peel(&edges, linked);
+    let peeled = if m <= MOST_NARROW {
+        peeled::<u32, K>(&edges, timed, &mut start)
+    } else {
+        peeled::<u64, K>(&edges, timed, &mut start)
+    };
     assert_eq!(peeled.order.len(), m as usize, "the graph has a 2-core");
-    tell(timed, "peel", &mut start);
     let function = F::assign(&edges, &peeled);
     tell(timed, "assign", &mut start);
     save(&format!("{path}.mph"), m, seed, &function)?;

@@ -6,7 +6,8 @@
 BEFORE is the program of the earlier version: `git worktree add FOLDER COMMIT`, then `make` there. For each number of KEYS
 (100000 1000000 10000000) it generates that many keys of 14 bytes that seed 1 serves, and each version builds by CHM, BDZ and
 BDZ_PH over them in N interleaved runs (3): that is with the greatest number, and with fewer keys there are up to six times as many
-runs, since a short one is disturbed more. The function files of both versions have to be the same. Then each queries a file of one
+runs, since a short one is disturbed more. The function files of both versions have to be the same, once the
+present program has upgraded that of the earlier one (`-u`). Then each queries a file of one
 key with the function by CHM in N interleaved runs (100), as does the C tool with its own, if it is installed: the start of the
 program and the load of the function are nearly all of that. The least processor time counts, and the greatest memory. A ratio of
 times is the median of the ratios of runs that follow each other, so no program gains by a faster moment of the machine.
@@ -16,6 +17,7 @@ It needs bin/cmph (`make`).
 
 import argparse
 import filecmp
+import shutil
 import statistics
 import sys
 import tempfile
@@ -51,6 +53,14 @@ def ratio(runs: list[compare.Used], others: list[compare.Used]) -> str:
     return f"{statistics.median(used.seconds / other.seconds for used, other in zip(runs, others)):.2f}"
 
 
+def upgraded(function: Path) -> Path:
+    """A copy of a function file, in the version that the present program writes."""
+    copy = function.with_suffix(".upgraded")
+    shutil.copyfile(function, copy)
+    compare.must([compare.OURS, "-u", "-m", copy])
+    return copy
+
+
 def builds(before: str, algorithm: str, rounds: int, scratch: Path, count: int) -> str:
     """The row of an algorithm. The keys that seed 1 serves are in the file `keys` then."""
     keys = scratch / "keys"
@@ -60,7 +70,7 @@ def builds(before: str, algorithm: str, rounds: int, scratch: Path, count: int) 
     commands = {name: built_by(programs[name], algorithm, function, keys) for name, function in functions.items()}
     compare.note(f"builds of {count} keys by {algorithm}")
     found = in_turns(commands, rounds)
-    if not filecmp.cmp(*functions.values(), shallow=False):
+    if not filecmp.cmp(upgraded(functions["before"]), functions["now"], shallow=False):
         sys.exit(f"{count} keys by {algorithm}: the function files differ")
     old, new = found["before"], found["now"]
     cells = [f"{least(old):.3f}", f"{least(new):.3f}", ratio(new, old), f"{1e9 * least(new) / count:.0f}"]

@@ -11,19 +11,39 @@ from typing import NamedTuple
 sys.path.append(str(Path(__file__).resolve().parents[2] / "docs"))
 from draw import words  # noqa: E402  the hash lookup2
 
-MOST_KEYS, LONGEST = 16_777_216, 65_535
+MOST_KEYS, LONGEST = 67_108_864, 65_535
 NUMBERS = {"chm": 1, "bdz": 2, "bdz_ph": 3, "brz": 4}
 NAMES = {number: name for name, number in NUMBERS.items()}
 RATIOS = {"chm": 2_090_000, "bdz": 1_230_000, "bdz_ph": 1_230_000, "brz": 1_230_000}
 WIDTHS = {"bdz": 7, "brz": 128}  # what -b is if it isn't given
-MOST_IN_BUCKET = 255
 NO_SEED = "no seed of the list gives an empty core"
-NO_SPLIT = "every split has a bucket with more than 255 keys"
+NO_SPLIT = "every split has a bucket with more than 1023 keys"
 NO_SPILL = "cannot use the spill file"
 
 
 class Fault(Exception):
-    """Why a file is refused."""
+    """Why a function file is refused."""
+
+
+class Version(NamedTuple):
+    """What the versions of a function file differ in."""
+
+    magic: bytes
+    b_at: int  # where b stands, in so many bytes
+    b_bytes: int
+    zeros: tuple[int, ...]  # bytes that are zero
+    size_bytes: int  # of the number of keys of a bucket
+    most_keys: int
+    most_b: int  # by brz
+    most_in_bucket: int
+
+    def ranges(self, name: str) -> tuple[int, int]:
+        """The range of b."""
+        return {"bdz": (3, 10), "brz": (64, self.most_b)}.get(name, (0, 0))
+
+
+ONE = Version(b"CMPHDMP1", 9, 1, (10, 11), 1, 16_777_216, 175, 255)
+TWO = Version(b"CMPHDMP2", 10, 2, (9,), 2, MOST_KEYS, 700, 1023)
 
 
 class Ends(NamedTuple):
@@ -42,15 +62,18 @@ def said(text: str) -> bytes:
 # Keys
 
 
-def lines_of(content: bytes) -> list[bytes]:
-    """The keys of a file."""
-    lines = content.split(b"\n")
+def lines_of(content: bytes, end: int = 10, first: int | None = None) -> tuple[list[bytes], str | None]:
+    """The keys of a file, or of so many lines of it, before the first line at fault; and that fault."""
+    lines = content.split(bytes([end]))
     if not lines[-1]:
         lines.pop()
+    lines = lines[:first]
     for number, line in enumerate(lines, 1):
+        if number > MOST_KEYS:
+            return lines[: number - 1], f"more than {MOST_KEYS} keys"
         if len(line) > LONGEST:
-            raise Fault(f"line {number} is too long")
-    return lines
+            return lines[: number - 1], f"line {number} is too long"
+    return lines, None
 
 
 # Functions
@@ -126,17 +149,28 @@ def image_of(cells: list[int], base: int, each: int) -> bytes:
     return bytes(sum(cell * base**at for at, cell in enumerate(group)) for group in groups)
 
 
-def head_of(name: str, b: int, keys: int, ratio: int, seed: int) -> bytes:
-    return b"CMPHDMP1" + bytes([NUMBERS[name], b, 0, 0]) + b"".join(number.to_bytes(4, "little") for number in (keys, ratio, seed))
+def head_of(version: Version, name: str, b: int, keys: int, ratio: int, seed: int) -> bytes:
+    parameter = bytes([b, 0, 0]) if version is ONE else bytes([0]) + b.to_bytes(2, "little")
+    return version.magic + bytes([NUMBERS[name]]) + parameter + b"".join(number.to_bytes(4, "little") for number in (keys, ratio, seed))
 
 
-def dump_of_split(f: Split) -> bytes:
-    buckets = [bytes([each.keys]) + each.seed.to_bytes(4, "little") + image_of(each.cells, 4, 4) if each else bytes(5) for each in f.buckets]
-    return head_of("brz", f.b, f.keys, f.ratio, f.seed) + b"".join(buckets)
+def bucket_bytes(version: Version, f: Function | None) -> bytes:
+    if f is None:
+        return bytes(version.size_bytes + 4)
+    return f.keys.to_bytes(version.size_bytes, "little") + f.seed.to_bytes(4, "little") + image_of(f.cells, 4, 4)
 
 
-def dump_of(f: Function) -> bytes:
-    head = head_of(f.name, f.b, f.keys, f.ratio, f.seed)
+def is_of_one(f: Function | Split) -> bool:
+    """Whether version 1 has a file of this function."""
+    sizes = [each.keys for each in f.buckets if each] if isinstance(f, Split) else []
+    return f.keys <= ONE.most_keys and f.b <= ONE.most_b and all(size <= ONE.most_in_bucket for size in sizes)
+
+
+def dump_of(f: Function | Split, version: Version = TWO) -> bytes:
+    name = "brz" if isinstance(f, Split) else f.name
+    head = head_of(version, name, f.b, f.keys, f.ratio, f.seed)
+    if isinstance(f, Split):
+        return head + b"".join(bucket_bytes(version, each) for each in f.buckets)
     if f.name == "chm":
         width = width_of(f.keys)
         image = sum(cell << width * at for at, cell in enumerate(f.cells))
@@ -185,16 +219,17 @@ def digits(image: bytes, n: int, base: int, each: int, begin: int = 24) -> list[
     return cells[:n]
 
 
-def read_buckets(data: bytes, b: int, keys: int, ratio: int, seed: int) -> Split:
+def read_buckets(data: bytes, version: Version, b: int, keys: int, ratio: int, seed: int) -> Split:
     """The buckets of a function by BRZ."""
     buckets, at, held, count = [], 24, 0, -(-keys // b)
     for left in reversed(range(count)):
-        size = item(data, at, 1)[0]
+        size = number(data, at, version.size_bytes, 0, version.most_in_bucket)
         held += size
         if held > keys or (left == 0 and held < keys):
             raise Fault(f"bad count at {at}")
-        own = number(data, at + 1, 4, 0, 2**32 - 1 if size else 0)
-        at += 5
+        at += version.size_bytes
+        own = number(data, at, 4, 0, 2**32 - 1 if size else 0)
+        at += 4
         if not size:
             buckets.append(None)
             continue
@@ -210,21 +245,37 @@ def read_buckets(data: bytes, b: int, keys: int, ratio: int, seed: int) -> Split
     return Split(keys, ratio, seed, b, buckets)
 
 
+def read_parameter(data: bytes, version: Version, name: str) -> int:
+    """The parameter b. It and the zeros beside it are read in the order in which they stand."""
+    low, high = version.ranges(name)
+    for at in sorted((version.b_at, *version.zeros)):
+        if at == version.b_at:
+            b = number(data, at, version.b_bytes, low, high)
+        else:
+            number(data, at, 1, 0, 0)
+    return b
+
+
+def version_of(data: bytes) -> Version:
+    """The version that the magic names."""
+    magic = item(data, 0, 8)
+    if magic not in (ONE.magic, TWO.magic):
+        raise Fault("bad magic")
+    return ONE if magic == ONE.magic else TWO
+
+
 def read_dump(data: bytes) -> Function | Split:
     """The function that bytes spell, or their first fault."""
-    if item(data, 0, 8) != b"CMPHDMP1":
-        raise Fault("bad magic")
+    version = version_of(data)
     name = NAMES.get(item(data, 8, 1)[0])
     if name is None:
         raise Fault("bad algorithm")
-    b = number(data, 9, 1, *{"bdz": (3, 10), "brz": (64, 175)}.get(name, (0, 0)))
-    number(data, 10, 1, 0, 0)
-    number(data, 11, 1, 0, 0)
-    keys = number(data, 12, 4, 1, MOST_KEYS)
+    b = read_parameter(data, version, name)
+    keys = number(data, 12, 4, 1, version.most_keys)
     ratio = number(data, 16, 4, 1_000_000, 10_000_000)
     seed = number(data, 20, 4, 0, 2**32 - 1)
     if name == "brz":
-        return read_buckets(data, b, keys, ratio, seed)
+        return read_buckets(data, version, b, keys, ratio, seed)
     n = size_of(name, keys, ratio)
     each = {"bdz": 4, "bdz_ph": 5}.get(name)
     image = item(data, 24, -(-n // each) if each else (n * width_of(keys) + 7) // 8)
@@ -245,28 +296,33 @@ def read_dump(data: bytes) -> Function | Split:
 # Jobs
 
 
-def query(path: str, dump: bytes, keys_path: str, content: bytes) -> Ends:
+def upgrade(path: str, dump: bytes) -> Ends:
+    """What comes of `-u`. A file of version 2 stays as it is."""
     try:
         f = read_dump(dump)
     except Fault as fault:
         return Ends(3, b"", said(f"{path}: bad dump: {fault}"))
-    seen, out, err, ending = set(), b"", b"", None
+    return Ends(0, dump=dump_of(f) if version_of(dump) is ONE else None)
+
+
+def query(path: str, dump: bytes, keys_path: str, content: bytes, end: int = 10, first: int | None = None) -> Ends:
     try:
-        keys = lines_of(content)
+        f = read_dump(dump)
     except Fault as fault:
-        ending = Ends(8, b"", said(f"{keys_path}: {fault}"))
-        keys = content.split(b"\n")[: int(str(fault).split()[1]) - 1]
+        return Ends(3, b"", said(f"{path}: bad dump: {fault}"))
+    seen, out, err = set(), b"", b""
+    keys, fault = lines_of(content, end, first)
     for line, key in enumerate(keys, 1):
         value = answer_of(f, key)
         if value is None:
             err += said(f"line {line}: key is unknown")
             continue
-        out += key + b" -> %d\n" % value
+        out += key + b" -> %d" % value + bytes([end])
         if value in seen:
             err += said(f"line {line}: value {value} is repeated")
         seen.add(value)
-    if ending:
-        return Ends(8, out, err + ending.err)
+    if fault:
+        return Ends(8, out, err + said(f"{keys_path}: {fault}"))
     return Ends(1 if err else 0, out, err)
 
 
@@ -321,13 +377,11 @@ def function_over(name: str, what: str, lines: list[int], keys: list[bytes], see
     return first
 
 
-def build(name: str, keys_path: str, content: bytes, seed: int, seeds: int, ratio: int | None = None, b: int | None = None) -> Ends:
-    try:
-        keys = lines_of(content)
-        if not keys:
-            raise Fault("no keys")
-    except Fault as fault:
-        return Ends(8, b"", said(f"{keys_path}: {fault}"))
+def build(name: str, keys_path: str, content: bytes, seed: int, seeds: int, ratio: int | None = None, b: int | None = None, end: int = 10,
+          first: int | None = None) -> Ends:
+    keys, fault = lines_of(content, end, first)
+    if fault or not keys:
+        return Ends(8, b"", said(f"{keys_path}: {fault or 'no keys'}"))
     ratio, b, tried = ratio or RATIOS[name], b or WIDTHS.get(name), [each % 2**32 for each in range(seed, seed + seeds)]
     if name == "brz":
         return build_by_brz(keys, tried, ratio, b)
@@ -346,7 +400,7 @@ def build_by_brz(keys: list[bytes], seeds: list[int], ratio: int, b: int) -> End
     first = None
     for seed in seeds:
         lines = lines_by_bucket(keys, seed, -(-len(keys) // b))
-        over = next((at for at, mine in enumerate(lines) if len(mine) > MOST_IN_BUCKET), None)
+        over = next((at for at, mine in enumerate(lines) if len(mine) > TWO.most_in_bucket), None)
         if over is None:
             return build_buckets(keys, seed, lines, seeds, ratio, b)
         first = first or (over, lines[over])
@@ -366,7 +420,7 @@ def build_buckets(keys: list[bytes], seed: int, lines: list[list[int]], seeds: l
         if not isinstance(f, Function):
             return Ends(1, f, said(f"bucket {at} has no seed with an empty core"))
         buckets.append(f)
-    return Ends(0, b"", b"", dump_of_split(Split(len(keys), ratio, seed, b, buckets)))
+    return Ends(0, b"", b"", dump_of(Split(len(keys), ratio, seed, b, buckets)))
 
 
 def build_over_spill(keys_path: str, content: bytes, room: int | None, folder: str, *more, **named) -> Ends:
@@ -382,4 +436,4 @@ def build_over_spill(keys_path: str, content: bytes, room: int | None, folder: s
 
 def spilled_size(content: bytes) -> int:
     """How many bytes the spill file of these keys has at its end."""
-    return sum(10 + len(key) for key in lines_of(content))
+    return sum(10 + len(key) for key in lines_of(content)[0])

@@ -8,7 +8,8 @@ from typing import Callable
 
 from . import model
 from .model import Ends, said
-from .runs import NAMES, OLDER, PAGE, Left, Machine, Row, built, c_build, c_built, case, counts, equal_report, get, gone, numbered, numbers, put
+from .runs import (NAMES, OLDER, PAGE, Left, Machine, Row, built, c_build, c_built, case, counts, equal_report, get, gone, in_version_1, numbered,
+                   numbers, put)
 
 # A file system that fills
 
@@ -60,6 +61,19 @@ def _(machine: Machine, row: Row) -> None:
                 left = machine.theirs(*c_build(name, path), limits=limits)
                 cut = ", the file cut off" if left.status == 0 and get(path) != whole else ""
                 row.c_ends[left.ending() + cut] += 1
+
+
+@case("an upgrade of a function file with a limit of file size after each 4 KiB: 20,000 keys, each algorithm")
+def _(machine: Machine, row: Row) -> None:
+    put("keys", numbered(20_000))
+    for name in NAMES:
+        whole = built(machine, name)
+        older, needed = in_version_1(name, whole), -(-len(whole) // PAGE)
+        for pages in range(1, needed + 2):
+            put("g", older)
+            left = machine.ours("-u", "-m", "g", limits=(f"--fsize={pages * PAGE}",))
+            wanted = Ends(0) if pages >= needed else Ends(5, b"", said("g: cannot write"))
+            row.same(left, wanted, {"the function file": get("g") == whole[: pages * PAGE]})
 
 
 @case("a query and a report into a file system that fills after each 4 KiB: 5,000 keys")

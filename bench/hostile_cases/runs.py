@@ -201,6 +201,13 @@ def built(machine: Machine, name: str, *words: str) -> bytes:
     return get("f")
 
 
+def in_version_1(name: str, whole: bytes) -> bytes:
+    """The file of version 1 of a function. Except by BRZ only the place of the parameter differs."""
+    if name == "brz":
+        return model.dump_of(model.read_dump(whole), model.ONE)
+    return model.ONE.magic + whole[8:9] + whole[10:11] + bytes(2) + whole[12:]
+
+
 def c_build(name: str, to: str = "c", keys: str = "keys") -> list[str]:
     """The arguments for a build of the C tool. By brz it leaves files in its directory."""
     return ["-g", "-a", name, *(["-M", "1", "-d", "."] if name == "brz" else []), "-s", "1", "-m", to, keys]

@@ -77,7 +77,7 @@ def bad_folders() -> list[str]:
 @case("a build by BRZ whose spill directory isn't there, is a file, is a link to nothing or to itself, has too long a path, or can't be written or entered")
 def _(machine: Machine, row: Row) -> None:
     some, folders = numbered(300), bad_folders()
-    contents = [some, b"", b"a\na\n", b"\n" * 300, b"x" * 65_536, b"fine\n" + b"x" * 65_536 + b"\n"]
+    contents = [some, b"", b"a\na\n", b"\n" * 1100, b"x" * 65_536, b"fine\n" + b"x" * 65_536 + b"\n"]
     for folder in folders:
         for content in contents:
             put("keys", content)
@@ -131,7 +131,7 @@ TAKEN = {
 @case("a build by BRZ where the name of the spill file is taken by one of these: " + "; ".join(TAKEN))
 def _(machine: Machine, row: Row) -> None:
     victim, names = numbered(7), {"keys", "g", "victim", "out", "err", FOLDER}
-    contents = [numbered(300), b"a\na\n", b"\n" * 300, b""]
+    contents = [numbered(300), b"a\na\n", b"\n" * 1100, b""]
     for what, (script, goes) in TAKEN.items():
         for content in contents:
             fresh()
@@ -257,13 +257,43 @@ def _(machine: Machine, row: Row) -> None:
         row.wrong.append((left, ["no signal came"]))
 
 
+# Full buckets
+
+
+def keys_with(sizes: list[int], seed: int) -> bytes:
+    """Keys, so many for each bucket under a seed."""
+    missing, keys, number = list(sizes), [], 0
+    while any(missing):
+        key, number = b"key number %d" % number, number + 1
+        at = model.bucket_of(key, seed, len(sizes))
+        if missing[at]:
+            missing[at] -= 1
+            keys.append(key)
+    return b"".join(key + b"\n" for key in keys)
+
+
+@case("builds by BRZ with a bucket of 255, 256 and 1,021 to 1,025 keys under the first seed, and a query")
+def _(machine: Machine, row: Row) -> None:
+    for size in (255, 256, *range(1021, 1026)):
+        for first in (True, False):
+            content, b = keys_with([size, 230] if first else [230, size], 1), (size + 231) // 2
+            put("keys", content)
+            for seeds, ratio in ((1, 2), (2, 2), (50, 1.23)):
+                put("g", OLDER)
+                wanted = model.build("brz", "keys", content, 1, seeds, round(ratio * 1_000_000), b)
+                left = machine.ours("-g", "-a", "brz", "-b", str(b), "-c", str(ratio), "-r", str(seeds), "-m", "g", "keys")
+                row.same(left, wanted._replace(dump=None), {"the function file": is_kept(wanted), "no spill file": not spills()})
+                if wanted.dump:
+                    row.same(machine.ours("-m", "g", "keys"), model.query("g", wanted.dump, "keys", content))
+
+
 # Other ends
 
 
 @case("builds by BRZ with each other end: what stays in the spill directory")
 def _(machine: Machine, row: Row) -> None:
     some, long = numbered(300), b"x" * 65_536
-    jobs = [(content, "g", words) for content in (some, b"\n", b"a\na\n", some + some, b"\n" * 300, b"", long, some + long) for words in ([], ["-M", "1024"])]
+    jobs = [(content, "g", words) for content in (some, b"\n", b"a\na\n", some + some, b"\n" * 1100, b"", long, some + long) for words in ([], ["-M", "1024"])]
     jobs += [(some, "no folder/g", []), (some, ".", [])]
     for content, path, words in jobs:
         fresh()
