@@ -26,7 +26,7 @@ fn algorithms(rt: HostRuntime) -> Result<(), Fail> {
     ];
     for (old, new) in &functions {
         let mut again = upgrade(UPGRADE, *new, *new);
-        // A file of version 2 is not created anew.
+        // A file of version 2 is not created again.
         again.fails = &[(DiskCall::Create, 0)];
         check_all(&rt, rt.alloc(), &[upgrade(UPGRADE, *old, *new), again])?;
     }
