@@ -1,38 +1,33 @@
--- From the matches of the command to the job.
-use Rattle.std.specs.Prelude.{◌≡◌, ◌⊎◌, true, List, [], ◌∷◌, Ok, Err, IfErr, IfOk, IsErrAnd, refl, if◌then◌else◌}
-use Rattle.std.proofs.Common.{◌∙◌, ap, sym, inl, inr}
-use Rattle.clap.specs.Words.{App, HasKind, HasMatchesOf, IsAmong, Kinds, Text, fault_of, found_of, is_simple, is_simple_and_free, kind_of, matches_of, rows_of}
+-- From the matches of the command, which clap states, to the job.
+use Rattle.std.specs.Prelude.{◌≡◌, ◌⊎◌, true, List, [], Err, refl}
+use Rattle.clap.specs.Words.{App, HasKind, HasMatchesOf, Text, fault_of, found_of, is_simple, is_simple_and_free, kind_of, rows_of}
 use Rattle.clap.specs.declared.error.Error.{Error}
-use Rattle.clap.specs.declared.error.kind.ErrorKind.{ErrorKind}
-use Rattle.clap.specs.declared.error.kind.ErrorKind.TheVariants.{OutOfMemory}
 use Rattle.clap.specs.declared.parser.matches.ArgMatches.{ArgMatches}
-use Rattle.cm_words.specs.declared.fault.UsageFault.{UsageFault}
-use Rattle.cm_words.specs.declared.fault.UsageFault.TheVariants.{Memory, Words}
+use Rattle.clap.proofs.OnLiterals.{clap_on_literals}
+use Rattle.cm_words_arguments.specs.Command.{with_argument}
+use Rattle.cm_words_arguments.specs.Options.{Read}
+use Rattle.cm_words_arguments.specs.ReadingLaws.{read_by-err, read_by-ok}
+use Rattle.cm_words_arguments.specs.Refusals.{fault_of_kind}
+use Rattle.cm_words_arguments.specs.declared.fault.UsageFault.{UsageFault}
+use Rattle.cm_words_arguments.specs.declared.fault.UsageFault.TheVariants.{Memory}
 use Rattle.cm_words.specs.declared.jobs.Job.{Job}
 use Rattle.cm_words.specs.Command.{cmph_app}
-use Rattle.cm_words.specs.Refusals.{fault_of_kind}
-use Rattle.cm_words.specs.Meaning.{is_refused, job_of, job_of_rows}
-use Rattle.cm_words.specs.Options.{Read}
-use Rattle.cm_words.proofs.CommandLemmas.{is_free-cmph, is_simple-cmph}
+use Rattle.cm_words.specs.Meaning.{job_of, job_of_rows}
 
-among_some : (k : ErrorKind) (ks : Kinds) → IsAmong k ks → is_refused ks ≡ true
-among_some k [] h = absurd h
-among_some k (x ∷ xs) h = refl
+is_simple-cmph : is_simple cmph_app ≡ true
+unfolding with_argument clap_on_literals
+is_simple-cmph = refl
 
-fault_kinds : (k : ErrorKind) → (fault_of_kind k ≡ Memory) ⊎ (fault_of_kind k ≡ Words)
-fault_kinds OutOfMemory = inl refl
-fault_kinds _ = inr refl
+is_free-cmph : is_simple_and_free cmph_app ≡ true
+unfolding with_argument clap_on_literals
+is_free-cmph = refl
 
 -- the arguments that the command takes
 pub job_of-ok : (a : App) (words : List Text) (m : ArgMatches) → a ≡ cmph_app → HasMatchesOf a words m
     → (is_simple_and_free a ≡ true → fault_of a words ≡ [])
     → job_of_rows (rows_of (found_of m)) ≡ job_of words
 unfolding job_of
-job_of-ok a words m is has none =
-    let rows = (has (ap is_simple is ∙ is_simple-cmph)).0 ∙ ap (λ (b : App). matches_of b words) is in
-    let no_fault = sym (ap (λ (b : App). fault_of b words) is) ∙ none (ap is_simple_and_free is ∙ is_free-cmph) in
-    ap job_of_rows rows
-    ∙ sym (ap (λ (ks : Kinds). let R : Read Job = if is_refused ks then Err Words else job_of_rows (matches_of cmph_app words) in R) no_fault)
+job_of-ok a words m is has none = read_by-ok job_of_rows a cmph_app words m is is_simple-cmph is_free-cmph has none
 
 -- the arguments that it doesn't take
 pub job_of-err : (a : App) (words : List Text) (e : Error) → a ≡ cmph_app
@@ -40,26 +35,4 @@ pub job_of-err : (a : App) (words : List Text) (e : Error) → a ≡ cmph_app
     → (u : UsageFault) → u ≡ fault_of_kind (kind_of e)
     → (u ≡ Memory) ⊎ (let r : Read Job = Err u in r ≡ job_of words)
 unfolding job_of
-job_of-err a words e is fails u made =
-    elim (fails (ap is_simple_and_free is ∙ is_free-cmph)) [
-      | inl memory ↦ inl (made ∙ ap fault_of_kind memory)
-      | inr among ↦ elim (fault_kinds (kind_of e)) [
-        | inl memory ↦ inl (made ∙ memory)
-        | inr refused ↦
-            let some = sym (ap (λ (b : App). is_refused (fault_of b words)) is) ∙ among_some (kind_of e) (fault_of a words) among in
-            inr (ap (λ (w : UsageFault). let R : Read Job = Err w in R) (made ∙ refused)
-            ∙ sym (ap (λ b. let R : Read Job = if b then Err Words else job_of_rows (matches_of cmph_app words) in R) some))
-      ]
-    ]
-
-pub err_of : {A : Type 0} (r : Read A) (Q P : UsageFault → Type 0) → IsErrAnd r Q → ((u : UsageFault) → Q u → P u) → IfErr r P
-err_of (Ok x) Q P h g = absurd h
-err_of (Err u) Q P h g = g u h
-
-pub ok_along : (r x y : Read Job) → x ≡ y → IfOk r (λ j. let a : Read Job = Ok j in a ≡ x) → IfOk r (λ j. let a : Read Job = Ok j in a ≡ y)
-ok_along (Ok j) x y e h = h ∙ e
-ok_along (Err u) x y e h = h
-
-pub err_along : (r x y : Read Job) → x ≡ y → IfErr r (λ u. (u ≡ Memory) ⊎ (let a : Read Job = Err u in a ≡ x)) → IfErr r (λ u. (u ≡ Memory) ⊎ (let a : Read Job = Err u in a ≡ y))
-err_along (Ok j) x y e h = h
-err_along (Err u) x y e h = elim h [ inl m ↦ inl m | inr g ↦ inr (g ∙ e) ]
+job_of-err a words e is fails u made = read_by-err job_of_rows a cmph_app words e is is_free-cmph fails u made

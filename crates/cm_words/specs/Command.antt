@@ -1,42 +1,7 @@
--- The command that parses the arguments, in clap's terms.
-use Rattle.std.specs.Prelude.{ℕ, List, [], ◌∷◌, true, Some, codes}
-use Rattle.clap.specs.Words.{App, Rule, Text, new_app, new_rule, with_rule}
-use Rattle.clap.specs.declared.builder.action.ArgAction.{ArgAction}
-use Rattle.clap.specs.declared.builder.action.ArgAction.TheVariants.{Count, Set, SetTrue}
-
--- an option with a name within this crate and a letter
-abbrev pub option_rule : Text → ℕ → ArgAction → Rule
-option_rule id letter action = record (new_rule id) { short = Some letter; action = Some action }
-
--- a flag, given at most once
-abbrev pub flag_rule : Text → ℕ → Rule
-flag_rule id letter = option_rule id letter SetTrue
-
--- a flag that may be given again
-abbrev pub counted_rule : Text → ℕ → Rule
-counted_rule id letter = option_rule id letter Count
-
--- an option with one text as its value, given at most once
-abbrev pub value_rule : Text → ℕ → Rule
-value_rule id letter = option_rule id letter Set
-
--- an argument that belongs to no option
-abbrev pub file_rule : Text → Rule
-file_rule id = record (new_rule id) { action = Some Set }
-
--- The command with one argument more. It unfolds where that is asked for, so that goals show the list of arguments.
-unfoldable pub with_argument : App → Rule → App
-with_argument app rule = with_rule app rule
-
-abbrev pub with_arguments : App → List Rule → App
-with_arguments app [] = app
-with_arguments app (rule ∷ rules) = with_arguments (with_argument app rule) rules
-
--- the command without arguments: help and version by clap itself are off
-abbrev pub bare_app : App
-bare_app = let app = new_app (codes "cmph") in record app {
-  top = record app.top { disable_help_flag = true; disable_version_flag = true };
-}
+-- The command that parses the arguments of cmph, in clap's terms.
+use Rattle.std.specs.Prelude.{List, [], ◌∷◌, false, codes}
+use Rattle.clap.specs.Words.{App, Rule}
+use Rattle.cm_words_arguments.specs.Command.{app_for, counted_rule, file_rule, flag_rule, value_rule}
 
 abbrev pub options : List Rule
 options =
@@ -59,6 +24,6 @@ options =
     value_rule (codes "function") 109 ∷  -- m
     []
 
--- the whole command: the options, and the keys file
+-- the whole command: the options, and the keys file, which some jobs don't need
 abbrev pub cmph_app : App
-cmph_app = with_argument (with_arguments bare_app options) (file_rule (codes "keys"))
+cmph_app = app_for (codes "cmph") options (file_rule (codes "keys") false ∷ [])

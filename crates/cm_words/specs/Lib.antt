@@ -3,4 +3,3 @@ pub mod Examples
 pub mod Limits
 pub mod Meaning
 pub mod Options
-pub mod Refusals

@@ -1,10 +1,12 @@
 -- What arguments mean: a job, or a fault.
-use Rattle.std.specs.Prelude.{ℕ, ◌++◌, Bool, true, false, List, [], ◌∷◌, codes, Option, Some, None, Ok, Err, if◌then◌else◌, unwrap_or}
-use Rattle.clap.specs.Words.{Kinds, Row, Text, fault_of, first_of, matches_of}
+use Rattle.std.specs.Prelude.{ℕ, ◌++◌, List, codes, Option, Some, None, Ok, Err, if◌then◌else◌, unwrap_or}
+use Rattle.clap.specs.Words.{Row, Text, fault_of, first_of, matches_of}
 use Rattle.cm_words.specs.Command.{cmph_app}
 use Rattle.cm_words_values.specs.Options.{and_then}
-use Rattle.cm_words.specs.Options.{Read, as_usage, end_of, is_counted, is_set, values_of}
-use Rattle.cm_words.specs.declared.fault.UsageFault.TheVariants.{NoFile, Words}
+use Rattle.cm_words_arguments.specs.Options.{Read, as_usage, is_counted, is_set}
+use Rattle.cm_words_arguments.specs.Refusals.{is_refused}
+use Rattle.cm_words_arguments.specs.declared.fault.UsageFault.TheVariants.{NoFile, Words}
+use Rattle.cm_words.specs.Options.{end_of, values_of}
 use Rattle.cm_words.specs.declared.jobs.BuildJob.{BuildJob}
 use Rattle.cm_words.specs.declared.jobs.QueryJob.{QueryJob}
 use Rattle.cm_words.specs.declared.jobs.TestJob.{TestJob}
@@ -75,11 +77,6 @@ abbrev pub job_of_rows : List Row → Read Job
 job_of_rows rows = if is_set (codes "help") rows then Ok Help
     else (if is_set (codes "version") rows then Ok Version
     else and_then (as_usage (values_of rows)) (λ v. job_by v.test v rows))
-
--- clap has a fault for the arguments
-abbrev pub is_refused : Kinds → Bool
-is_refused [] = false
-is_refused (kind ∷ kinds) = true
 
 -- the job of the arguments, of which the first is the program's name
 unfoldable pub job_of : List Text → Read Job

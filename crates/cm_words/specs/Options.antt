@@ -1,29 +1,10 @@
 -- The values of the options among what clap found.
-use Rattle.std.specs.Prelude.{ℕ, Bool, false, nat_lt, List, codes, Result, Ok, Err, ◌&&◌, if◌then◌else◌, is_none, not}
-use Rattle.std.specs.Option.{option_map_or}
-use Rattle.std.specs.Str.{bytes_eq}
-use Rattle.clap.specs.Words.{Row, Text, count_of, first_of}
+use Rattle.std.specs.Prelude.{ℕ, Bool, List, codes, Ok, ◌&&◌, if◌then◌else◌, is_none, not}
+use Rattle.clap.specs.Words.{Row, first_of}
 use Rattle.cm_words_values.specs.Options.{Checked, algorithm_value, and_then, bits_value, buffer_value, count_value, first_value, hash_value, ratio_value, seed_value, test_value}
 use Rattle.cm_words_values.specs.declared.limits.TheConstants.{LINE_FEED, ZERO_BYTE}
-use Rattle.cm_words.specs.declared.fault.UsageFault.{UsageFault}
-use Rattle.cm_words.specs.declared.fault.UsageFault.TheVariants.{BadValue}
+use Rattle.cm_words_arguments.specs.Options.{is_set}
 use Rattle.cm_words.specs.declared.values.Values.{Values}
-
-abbrev pub Read : Type 0 → Type 0
-Read A = Result A UsageFault
-
--- a bad value as a fault of the arguments
-abbrev pub as_usage : {A : Type 0} → Checked A → Read A
-as_usage (Ok x) = Ok x
-as_usage (Err bad) = Err (BadValue bad.letter)
-
--- a flag is given
-abbrev pub is_set : Text → List Row → Bool
-is_set id rows = option_map_or (λ t. bytes_eq t (codes "true")) (first_of id rows) false
-
--- a flag is given once or more often
-abbrev pub is_counted : Text → List Row → Bool
-is_counted id rows = nat_lt 0 (count_of id rows)
 
 -- the job is a build: it generates a function file, and is neither a test nor an upgrade
 abbrev pub is_build : List Row → Bool

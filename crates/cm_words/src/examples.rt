@@ -1,5 +1,5 @@
 //! Worked examples of what arguments mean. Each function has an empty body, and its clauses are checked by the prover.
-#![tactic(auto, unfolding(crate::specs::Meaning::job_of, crate::specs::Command::with_argument, clap::proofs::OnLiterals::clap_on_literals))]
+#![tactic(auto, unfolding(crate::specs::Meaning::job_of, cm_words_arguments::specs::Command::with_argument, clap::proofs::OnLiterals::clap_on_literals))]
 
 ghost use Rattle.std.specs.Prelude.{◌≡◌, ◌∷◌, [], Ok, Err, Some, None, true, codes};
 ghost use Rattle.cm_algo_names.specs.declared.algorithm.Algorithm.TheVariants.{Bdz, BdzPh, Brz};
@@ -7,7 +7,7 @@ ghost use Rattle.cm_words_values.specs.Digits.{millionths_of, whole_of};
 ghost use Rattle.cm_words_values.specs.declared.limits.TheConstants.{LINE_FEED, ZERO_BYTE};
 ghost use Rattle.cm_words.specs.Examples.{plain_build, plain_query, plain_test, query_of_file, typed, upgrade_of_file};
 ghost use Rattle.cm_words.specs.Meaning.{job_of};
-ghost use Rattle.cm_words.specs.declared.fault.UsageFault.TheVariants.{BadValue, NoFile, Words};
+ghost use Rattle.cm_words_arguments.specs.declared.fault.UsageFault.TheVariants.{BadValue, NoFile, Words};
 ghost use Rattle.cm_words.specs.declared.jobs.Job.TheVariants.{Help, Version, Build, Query, Test, Upgrade};
 
 /// The program's name and files.

@@ -2,21 +2,17 @@
 ghost use Rattle.std.specs.Prelude.{◌≡◌, ◌⊎◌, Err, IfErr, IfOk, IsNone, IsOk, Ok, codes, false, map, option_map, string_bytes, true};
 ghost use Rattle.clap.specs.Words.{first_of, found_of, rows_of};
 ghost use Rattle.cm_words_values.specs.Limits.{IsFirst, IsTestSize};
+ghost use Rattle.cm_words_arguments.specs.Options.{is_set};
 ghost use Rattle.cm_words.specs.Limits.{AreValues, IsBuild, IsJob, IsQuery, IsTest};
 ghost use Rattle.cm_words.specs.Meaning.{build_of, directory_of, function_of, job_of, job_of_rows, job_over, query_of, test_of, upgrade_over};
-ghost use Rattle.cm_words.specs.Options.{is_build, is_set};
+ghost use Rattle.cm_words.specs.Options.{is_build};
 
 use crate::arguments::command;
-use crate::values::{Values, all_values, counted, end, flag, text};
+use crate::values::{Values, all_values, end};
 use crate::{BuildJob, Job, QueryJob, TestJob, Text, UpgradeJob, UsageFault};
 use clap::ArgMatches;
+use cm_words_arguments::{copy, counted, flag, text};
 use std::alloc::{AllocError, Global};
-
-fn copy(alloc: Global, text: &str) -> Result<Text, AllocError>
-    ensures { IfOk result (λ t. t ≡ text.now) }
-{
-    Ok(Text::new(String::from_str(alloc, text)?))
-}
 
 /// The path of the function file: the one that is given, or that of the keys file.
 fn function(alloc: Global, given: Option<&str>, keys: &str) -> Result<Text, AllocError>

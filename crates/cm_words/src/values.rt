@@ -1,12 +1,13 @@
 //! The values of the options.
-ghost use Rattle.std.specs.Prelude.{◌≡◌, IfOk, IsNone, codes, option_map};
+ghost use Rattle.std.specs.Prelude.{◌≡◌, IfOk, IsNone, codes};
 ghost use Rattle.clap.specs.Words.{found_of, first_of, rows_of};
 ghost use Rattle.cm_words.specs.Limits.{AreValues};
 ghost use Rattle.cm_words_values.specs.Limits.{IsEnd};
-ghost use Rattle.cm_words.specs.Options.{end_of, is_build, is_counted, is_set, values_of};
+ghost use Rattle.cm_words.specs.Options.{end_of, is_build, values_of};
 
 use clap::ArgMatches;
 use cm_algo_names::Algorithm;
+use cm_words_arguments::{flag, text};
 use cm_words_values::{
     BadValue, LINE_FEED, ZERO_BYTE, algorithm, bits, buffer, count, first, hash, ratio, seed, test,
 };
@@ -25,30 +26,6 @@ pub struct Values {
     pub seed: u32,
     /// How many keys a test generates, if it is one.
     pub test: Option<u32>,
-}
-
-/// The text of an option or a file, if it is given.
-pub fn text<'a>(matches: &ArgMatches<'a>, id: &str) -> Option<&'a str>
-    ensures { option_map (λ s. s.now) result ≡ first_of id.now (rows_of (found_of matches.now)) }
-{
-    matches.get_str(id)
-}
-
-/// Whether a flag is given.
-pub fn flag(matches: &ArgMatches<'_>, id: &str) -> bool
-    ensures { result ≡ is_set id.now (rows_of (found_of matches.now)) }
-{
-    match text(matches, id) {
-        Some(text) => text == "true",
-        None => false,
-    }
-}
-
-/// Whether a flag is given once or more often.
-pub fn counted(matches: &ArgMatches<'_>, id: &str) -> bool
-    ensures { result ≡ is_counted id.now (rows_of (found_of matches.now)) }
-{
-    matches.get_count(id) > 0
 }
 
 /// Whether the job is a build: it generates a function file, and is neither a test nor an upgrade.

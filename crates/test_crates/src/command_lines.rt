@@ -106,14 +106,8 @@ const REFUSED: [(&str, &str); 17] = [
     ("cmph -g", "NoFile: no keys file"),
     ("cmph -u", "NoFile: no keys file"),
     ("cmph -u -s x", "BadValue { letter: 115 }: bad value of -s"),
-    (
-        "cmph -t 2 keys",
-        "Words: bad arguments; cmph -h shows the usage",
-    ),
-    (
-        "cmph --help",
-        "Words: bad arguments; cmph -h shows the usage",
-    ),
+    ("cmph -t 2 keys", "Words: bad arguments"),
+    ("cmph --help", "Words: bad arguments"),
     ("cmph -T 0", "BadValue { letter: 84 }: bad value of -T"),
     (
         "cmph -T 16777217",
@@ -123,10 +117,7 @@ const REFUSED: [(&str, &str); 17] = [
         "cmph -T 1 -s x",
         "BadValue { letter: 115 }: bad value of -s",
     ),
-    (
-        "cmph -g keys more",
-        "Words: bad arguments; cmph -h shows the usage",
-    ),
+    ("cmph -g keys more", "Words: bad arguments"),
     (
         "cmph -f md5 keys",
         "BadValue { letter: 102 }: bad value of -f",

@@ -1,7 +1,8 @@
 use Rattle.std.proofs.Common.{◌≡◌, ◌∙◌, true, Bool, false, arith, codes, is_none, is_some, refl, sym, subst}
 use Rattle.clap.specs.Words.{first_of, found_of, rows_of}
 use Rattle.cm_words.specs.Limits.{AreValues}
-use Rattle.cm_words.specs.Options.{is_build, is_set}
+use Rattle.cm_words_arguments.specs.Options.{is_set}
+use Rattle.cm_words.specs.Options.{is_build}
 use Rattle.cm_words.proofs.reading.file_job.Goals as goal
 
 pub build_job-requires : goal.build_job-requires

@@ -2,7 +2,8 @@ use Rattle.std.proofs.Common.{map}
 use Rattle.std.specs.Prelude.{string_bytes}
 use Rattle.clap.specs.Words.{app_of, found_of, rows_of}
 use Rattle.cm_words.specs.Meaning.{job_of, job_of_rows}
-use Rattle.cm_words.proofs.JobLemmas.{err_along, err_of, job_of-err, job_of-ok, ok_along}
+use Rattle.cm_words_arguments.specs.ReadingLaws.{err_along, err_of, ok_along}
+use Rattle.cm_words.proofs.JobLemmas.{job_of-err, job_of-ok}
 use Rattle.cm_words.proofs.reading.read_words.Goals as goal
 
 pub returns-in_err-matches-clause-fault : goal.returns-in_err-matches-clause-fault

@@ -1,7 +1,7 @@
 use Rattle.std.proofs.Common.{◌≡◌, ◌∙◌, Bool, Option, None, Some, ap, codes, is_none, is_some, sym, true, false}
 use Rattle.std.specs.Prelude.{not, option_map}
 use Rattle.clap.specs.Words.{first_of, found_of, rows_of}
-use Rattle.cm_words.specs.Options.{is_set}
+use Rattle.cm_words_arguments.specs.Options.{is_set}
 use Rattle.cm_words.proofs.values.builds.Goals as goal
 use Rattle.cm_words.proofs.values.builds.Goals.{then-flag, else-flag}
 

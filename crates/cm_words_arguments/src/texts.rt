@@ -1,6 +1,7 @@
 //! A text that contracts see as its bytes.
-ghost use Rattle.std.specs.Prelude.{◌≡◌, string_bytes};
+ghost use Rattle.std.specs.Prelude.{◌≡◌, IfOk, string_bytes};
 
+use std::alloc::{AllocError, Global};
 use std::marker::Model;
 
 /// A text, such as a path. Contracts see it as the list of its bytes.
@@ -31,4 +32,11 @@ impl Text {
     {
         self.text.as_str()
     }
+}
+
+/// A text of its own. It fails if memory runs out.
+pub fn copy(alloc: Global, text: &str) -> Result<Text, AllocError>
+    ensures { IfOk result (λ t. t ≡ text.now) }
+{
+    Ok(Text::new(String::from_str(alloc, text)?))
 }

@@ -1,13 +1,12 @@
--- The command, argument by argument, and that clap states its matches and its faults.
-use Rattle.std.proofs.Common.{◌≡◌, ◌∙◌, ℕ, ◌+◌, ◌<◌, Some, true, false, refl, sym, ap, List, [], ◌∷◌, ◌++◌, length, get_or, map, take}
+-- The command, argument by argument.
+use Rattle.std.proofs.Common.{◌≡◌, ◌∙◌, ℕ, ◌+◌, ◌<◌, Some, Bool, false, refl, sym, ap, List, [], ◌∷◌, ◌++◌, length, get_or, map, take}
 use Rattle.std.proofs.lemmas.List.{map-append, take_more}
-use Rattle.clap.specs.Words.{AddsArg, App, Rule, Text, app_of, is_simple, is_simple_and_free, new_rule, rule_of}
+use Rattle.clap.specs.Words.{AddsArg, App, Rule, Text, app_of, new_rule, rule_of}
 use Rattle.clap.specs.declared.builder.action.ArgAction.{ArgAction}
 use Rattle.clap.specs.declared.builder.action.ArgAction.TheVariants.{Set}
 use Rattle.clap.specs.declared.builder.arg.Arg.{Arg}
 use Rattle.clap.specs.declared.builder.command.Command.{Command}
-use Rattle.clap.proofs.OnLiterals.{clap_on_literals}
-use Rattle.cm_words.specs.Command.{cmph_app, file_rule, option_rule, with_argument, with_arguments}
+use Rattle.cm_words_arguments.specs.Command.{file_rule, option_rule, with_argument, with_arguments}
 
 -- a command that was given an argument, by the argument's rule
 added : {old new : Command} {arg : Arg} {rule : Rule} → arg.global ≡ false → rule_of arg ≡ rule → AddsArg old arg new → app_of new ≡ with_argument (app_of old) rule
@@ -20,9 +19,11 @@ option_added {letter = letter} {action = action} named is local fresh_is adds =
     let same = is ∙ ap (λ (a : Arg). record a { action = Some action }) named in
     added (ap (λ (a : Arg). a.global) same ∙ local) (ap rule_of same ∙ ap (λ (r : Rule). record r { short = Some letter; action = Some action }) fresh_is) adds
 
-pub file_added : {old new : Command} {fresh arg : Arg} {id : Text} → arg ≡ record fresh { action = Some Set }
-    → fresh.global ≡ false → rule_of fresh ≡ new_rule id → AddsArg old arg new → app_of new ≡ with_argument (app_of old) (file_rule id)
-file_added is local fresh_is adds = added (ap (λ (a : Arg). a.global) is ∙ local) (ap rule_of is ∙ ap (λ (r : Rule). record r { action = Some Set }) fresh_is) adds
+pub file_added : {old new : Command} {fresh needed arg : Arg} {id : Text} {required : Bool} → needed ≡ record fresh { required = required } → arg ≡ record needed { action = Some Set }
+    → fresh.global ≡ false → rule_of fresh ≡ new_rule id → AddsArg old arg new → app_of new ≡ with_argument (app_of old) (file_rule id required)
+file_added {required = required} named is local fresh_is adds =
+    let same = is ∙ ap (λ (a : Arg). record a { action = Some Set }) named in
+    added (ap (λ (a : Arg). a.global) same ∙ local) (ap rule_of same ∙ ap (λ (r : Rule). record r { required = required; action = Some Set }) fresh_is) adds
 
 -- one argument more, over the same command
 pub along : {app old new : App} (rule : Rule) → app ≡ with_argument old rule → old ≡ new → app ≡ with_argument new rule
@@ -43,11 +44,3 @@ option_more app old new rule options i d inside before last =
 
 pub all_along : (app old new : App) (rules : List Rule) → app ≡ with_arguments old rules → old ≡ new → app ≡ with_arguments new rules
 all_along app old new rules is same = is ∙ ap (λ (a : App). with_arguments a rules) same
-
-pub is_simple-cmph : is_simple cmph_app ≡ true
-unfolding with_argument clap_on_literals
-is_simple-cmph = refl
-
-pub is_free-cmph : is_simple_and_free cmph_app ≡ true
-unfolding with_argument clap_on_literals
-is_free-cmph = refl

@@ -1,8 +1,8 @@
 //! What is wrong with arguments.
 ghost use Rattle.std.specs.Prelude.{◌≡◌};
 ghost use Rattle.clap.specs.Words.{kind_of};
-ghost use Rattle.cm_words.specs.Refusals.{fault_of_kind};
-ghost use Rattle.cm_words.specs.declared.fault.UsageFault.TheVariants.{BadValue, Memory};
+ghost use Rattle.cm_words_arguments.specs.Refusals.{fault_of_kind};
+ghost use Rattle.cm_words_arguments.specs.declared.fault.UsageFault.TheVariants.{BadValue, Memory};
 
 use clap::error::ErrorKind;
 use cm_words_values::BadValue as BadOption;
@@ -15,9 +15,9 @@ pub enum UsageFault {
     /// Out of memory.
     #[error("out of memory")]
     Memory,
-    /// They aren't arguments that the command takes: an option that it doesn't have, one without its value or given twice, or a second
-    /// file.
-    #[error("bad arguments; cmph -h shows the usage")]
+    /// They aren't arguments that the command takes: an option that it doesn't have, one without its value or given twice, a file too
+    /// many, or none where one is required.
+    #[error("bad arguments")]
     Words,
     /// The value of the option with this letter, in ASCII, is out of form or out of its range.
     #[error("bad value of -{}", *letter as char)]

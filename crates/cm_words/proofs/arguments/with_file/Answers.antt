@@ -1,6 +1,0 @@
-use Rattle.std.proofs.lemmas.Result.{IfOk-weaker}
-use Rattle.cm_words.proofs.CommandLemmas.{file_added}
-use Rattle.cm_words.proofs.arguments.with_file.Goals as goal
-
-pub returns : goal.returns
-returns c = IfOk-weaker c.arg.result _ _ (λ last adds. file_added c.action-file.ensures c.new.ensures.optional.1 c.new.ensures.rule adds) c.arg.ensures

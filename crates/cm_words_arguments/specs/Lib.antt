@@ -1,0 +1,4 @@
+pub mod Command
+pub mod Options
+pub mod ReadingLaws
+pub mod Refusals

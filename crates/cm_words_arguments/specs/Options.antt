@@ -1,0 +1,24 @@
+-- What clap found of an option, and how a bad value is reported.
+use Rattle.std.specs.Prelude.{Bool, false, nat_lt, List, codes, Result, Ok, Err}
+use Rattle.std.specs.Option.{option_map_or}
+use Rattle.std.specs.Str.{bytes_eq}
+use Rattle.clap.specs.Words.{Row, Text, count_of, first_of}
+use Rattle.cm_words_values.specs.Options.{Checked}
+use Rattle.cm_words_arguments.specs.declared.fault.UsageFault.{UsageFault}
+use Rattle.cm_words_arguments.specs.declared.fault.UsageFault.TheVariants.{BadValue}
+
+abbrev pub Read : Type 0 → Type 0
+Read A = Result A UsageFault
+
+-- a bad value as a fault of the arguments
+abbrev pub as_usage : {A : Type 0} → Checked A → Read A
+as_usage (Ok x) = Ok x
+as_usage (Err bad) = Err (BadValue bad.letter)
+
+-- a flag is given
+abbrev pub is_set : Text → List Row → Bool
+is_set id rows = option_map_or (λ t. bytes_eq t (codes "true")) (first_of id rows) false
+
+-- a flag is given once or more often
+abbrev pub is_counted : Text → List Row → Bool
+is_counted id rows = nat_lt 0 (count_of id rows)
