@@ -10,9 +10,9 @@ use Rattle.cm_spec.specs.Lists.{has}
 use Rattle.cm_tool_stops.specs.Ends.{usage_status_of}
 use Rattle.cm_tool.specs.Run.{ForBuild, ForQuery, ForTest, ForText, ForUpgrade, UnlessBrz, UnlessPrinting, UnlessQuery, UnlessStoring, UnlessTest}
 use Rattle.cm_tool_builds.specs.Spills.{UnlessSpilled}
-use Rattle.cm_words.specs.Options.{Read as Reading}
-use Rattle.cm_words.specs.declared.fault.UsageFault.{UsageFault}
-use Rattle.cm_words.specs.declared.fault.UsageFault.TheVariants as usage
+use Rattle.cm_words_arguments.specs.Options.{Read as Reading}
+use Rattle.cm_words_arguments.specs.declared.fault.UsageFault.{UsageFault}
+use Rattle.cm_words_arguments.specs.declared.fault.UsageFault.TheVariants as usage
 use Rattle.cm_words.specs.declared.jobs.BuildJob.{BuildJob}
 use Rattle.cm_words.specs.declared.jobs.QueryJob.{QueryJob}
 use Rattle.cm_words.specs.declared.jobs.TestJob.{TestJob}

@@ -18,9 +18,9 @@ use Rattle.cm_tool.proofs.Asks.{query_message_is}
 use Rattle.cm_tool.proofs.Outcomes.{message_is, none_some}
 use Rattle.cm_tool.proofs.Tests.{got_nothing, test_message}
 use Rattle.cm_tool.proofs.Upgrades.{upgrade_message_is}
-use Rattle.cm_words.specs.Options.{Read as Reading}
-use Rattle.cm_words.specs.declared.fault.UsageFault.{UsageFault}
-use Rattle.cm_words.specs.declared.fault.UsageFault.TheVariants as usage
+use Rattle.cm_words_arguments.specs.Options.{Read as Reading}
+use Rattle.cm_words_arguments.specs.declared.fault.UsageFault.{UsageFault}
+use Rattle.cm_words_arguments.specs.declared.fault.UsageFault.TheVariants as usage
 use Rattle.cm_words.specs.declared.jobs.Job.{Job}
 use Rattle.cm_words.specs.declared.jobs.Job.TheVariants.{Help, Version, Build, Query, Test, Upgrade}
 

@@ -23,7 +23,7 @@ use Rattle.cm_tool.specs.Tested.{test_outcome}
 use Rattle.cm_tool_builds.specs.Results.{FailureReport}
 use Rattle.cm_tool.specs.Jobs.{result_of}
 use Rattle.cm_words.specs.Meaning.{job_of}
-use Rattle.cm_words.specs.Options.{Read as Reading}
+use Rattle.cm_words_arguments.specs.Options.{Read as Reading}
 use Rattle.cm_words.specs.declared.jobs.BuildJob.{BuildJob}
 use Rattle.cm_words.specs.declared.jobs.QueryJob.{QueryJob}
 use Rattle.cm_words.specs.declared.jobs.UpgradeJob.{UpgradeJob}

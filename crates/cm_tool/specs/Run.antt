@@ -33,8 +33,8 @@ use Rattle.cm_tool.specs.TestEnds.{IsTestMessage}
 use Rattle.cm_tool_builds.specs.Results.{FailureReport}
 use Rattle.cm_algo_names.specs.declared.algorithm.Algorithm.{Algorithm}
 use Rattle.cm_algo_names.specs.declared.algorithm.Algorithm.TheVariants.{Chm, Bdz, BdzPh, Brz}
-use Rattle.cm_words.specs.Options.{Read as Reading}
-use Rattle.cm_words.specs.declared.fault.UsageFault.{UsageFault}
+use Rattle.cm_words_arguments.specs.Options.{Read as Reading}
+use Rattle.cm_words_arguments.specs.declared.fault.UsageFault.{UsageFault}
 use Rattle.cm_words.specs.declared.jobs.BuildJob.{BuildJob}
 use Rattle.cm_words.specs.declared.jobs.QueryJob.{QueryJob}
 use Rattle.cm_words.specs.declared.jobs.TestJob.{TestJob}

@@ -10,8 +10,8 @@ use Rattle.cm_spec.specs.declared.limits.TheConstants.{MAX_BUCKET, MAX_KEYS}
 use Rattle.cm_tool_stops.specs.declared.built.Summary.{Summary}
 use Rattle.cm_func.specs.declared.failure.SeedFailure.{SeedFailure}
 use Rattle.cm_func.specs.declared.failure.SeedFailure.TheVariants.{NoSeed, NoSeedFor, NoSplit}
-use Rattle.cm_words.specs.declared.fault.UsageFault.{UsageFault}
-use Rattle.cm_words.specs.declared.fault.UsageFault.TheVariants as usage
+use Rattle.cm_words_arguments.specs.declared.fault.UsageFault.{UsageFault}
+use Rattle.cm_words_arguments.specs.declared.fault.UsageFault.TheVariants as usage
 use Rattle.cm_words.specs.declared.jobs.BuildJob.{BuildJob}
 
 -- the name of the program, with which each message begins
