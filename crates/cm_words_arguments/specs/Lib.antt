@@ -1,4 +1,5 @@
 pub mod Command
+pub mod Examples
 pub mod Options
 pub mod ReadingLaws
 pub mod Refusals

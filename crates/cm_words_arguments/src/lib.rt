@@ -2,6 +2,7 @@
 #![tactic(auto)]
 
 mod arguments;
+pub mod examples;
 mod fault;
 mod texts;
 mod values;
