@@ -18,12 +18,13 @@ use Rattle.cm_query.specs.declared.tally.Tally.{Tally}
 use Rattle.cm_tool_files.specs.Asked.{AskedAll, AskedPart, EndsQuery, IsBadDump, Question, Spells, question_of, question_over}
 use Rattle.cm_tool_stops.specs.EndLaws.{says_all}
 use Rattle.cm_tool_stops.specs.Ends.{Says, query_message_of, query_status_of}
-use Rattle.cm_tool_stops.specs.Messages.{bad_dump}
+use Rattle.cm_tool.specs.Said.{bad_dump}
 use Rattle.cm_tool_stops.specs.declared.stop.QueryStop.TheVariants.{Memory, NoFunction, BadDump, Read, Write, TooLong, TooMany}
 use Rattle.cm_tool_stops.specs.declared.stop.QueryStop.{QueryStop}
 use Rattle.cm_tool.specs.Outcome as outcomes
 use Rattle.cm_tool.specs.Outcome.{Outcome, dump_outcome, fault_message, job_outcome, keys_in, loaded_outcome, noted_status, query_over, refusal}
 use Rattle.cm_tool.specs.Run.{IsCutShort, IsQueryMessage, LacksFile, Reaches}
+use Rattle.cm_tool.proofs.Naming.{naming}
 use Rattle.cm_tool.proofs.Outcomes.{none_some}
 use Rattle.cm_words.specs.declared.jobs.QueryJob.{QueryJob}
 use Rattle.cm_words.specs.declared.jobs.Job.TheVariants.{Query}
@@ -84,7 +85,7 @@ stopped_at_line job files old new notes function fault spells all says same =
 
 -- a query that stopped, but not for memory or a fault of a file or of out
 pub query_stopped : (job : QueryJob) (files : Files) (old new : Outside) (notes : List ℕ) (stop : QueryStop) → EndsQuery files job old.out.written new.out.written notes (Err stop)
-    → Says old.err new.err (notes ++ query_message_of job stop) → query_status_of stop ≢ 4 → query_status_of stop ≢ 5 → query_status_of stop ≢ 6 → new.disk.files ≡ Some files → Reaches old new (job_outcome files (Ok (Query job))) (query_status_of stop)
+    → Says old.err new.err (notes ++ query_message_of (naming job.keys job.function) stop) → query_status_of stop ≢ 4 → query_status_of stop ≢ 5 → query_status_of stop ≢ 6 → new.disk.files ≡ Some files → Reaches old new (job_outcome files (Ok (Query job))) (query_status_of stop)
 query_stopped job files old new notes Memory ends says a b d same = absurd (d refl)
 query_stopped job files old new notes NoFunction ends says a b d same = absurd (a refl)
 query_stopped job files old new notes (BadDump fault) ends says a b d same = record {
@@ -121,7 +122,7 @@ lacking job files old new notes (TooLong line) ends same none = absurd (none_som
 lacking job files old new notes TooMany ends same none = absurd (none_some (sym none ∙ asked_outcome job files ends.0 ends.2.bytes _ _ ends.1 ends.2.there refl refl))
 
 -- the message of a query that stopped goes with its status
-pub query_message_is : (job : QueryJob) (stop : QueryStop) → IsQueryMessage job (query_status_of stop) (query_message_of job stop)
+pub query_message_is : (job : QueryJob) (stop : QueryStop) → IsQueryMessage job (query_status_of stop) (query_message_of (naming job.keys job.function) stop)
 query_message_is job Memory = record { done = λ e. absurd (omega arith); noted = λ e. absurd (omega arith); dump = λ e. absurd (omega arith); read = λ e. absurd (omega arith); write = λ e. absurd (omega arith); memory = λ e. refl; keys = λ e. absurd (omega arith) }
 query_message_is job NoFunction = record { done = λ e. absurd (omega arith); noted = λ e. absurd (omega arith); dump = λ e. absurd (omega arith); read = λ e. inr refl; write = λ e. absurd (omega arith); memory = λ e. absurd (omega arith); keys = λ e. absurd (omega arith) }
 query_message_is job (BadDump fault) = record { done = λ e. absurd (omega arith); noted = λ e. absurd (omega arith); dump = λ e. (fault, refl); read = λ e. absurd (omega arith); write = λ e. absurd (omega arith); memory = λ e. absurd (omega arith); keys = λ e. absurd (omega arith) }
@@ -135,13 +136,13 @@ pub answered_is : (job : QueryJob) (status : ℕ) → status ≤ 1 → IsQueryMe
 answered_is job status small = record { done = λ e. refl; noted = λ e. refl; dump = λ e. absurd (omega (arith, small, e)); read = λ e. absurd (omega (arith, small, e)); write = λ e. absurd (omega (arith, small, e)); memory = λ e. absurd (omega (arith, small, e)); keys = λ e. absurd (omega (arith, small, e)) }
 
 -- a query that a fault cut short, or for which memory ran out
-pub cut_short : (job : QueryJob) (files : Files) (old new : Outside) (notes : List ℕ) (stop : QueryStop) → EndsQuery files job old.out.written new.out.written notes (Err stop) → Says old.err new.err (notes ++ query_message_of job stop)
+pub cut_short : (job : QueryJob) (files : Files) (old new : Outside) (notes : List ℕ) (stop : QueryStop) → EndsQuery files job old.out.written new.out.written notes (Err stop) → Says old.err new.err (notes ++ query_message_of (naming job.keys job.function) stop)
     → (query_status_of stop ≡ 4) ⊎ (query_status_of stop ≡ 5) ⊎ (query_status_of stop ≡ 6) → IsCutShort old new files (query_status_of stop) job
-cut_short job files old new notes Memory ends says either = record { notes = notes; text = query_message_of job Memory; says = says; read = λ e. absurd (omega arith); write = λ e. absurd (omega arith); memory = λ e. (ends, refl) }
-cut_short job files old new notes NoFunction ends says either = record { notes = notes; text = query_message_of job NoFunction; says = says; read = λ e. inl (ends, refl); write = λ e. absurd (omega arith); memory = λ e. absurd (omega arith) }
+cut_short job files old new notes Memory ends says either = record { notes = notes; text = query_message_of (naming job.keys job.function) Memory; says = says; read = λ e. absurd (omega arith); write = λ e. absurd (omega arith); memory = λ e. (ends, refl) }
+cut_short job files old new notes NoFunction ends says either = record { notes = notes; text = query_message_of (naming job.keys job.function) NoFunction; says = says; read = λ e. inl (ends, refl); write = λ e. absurd (omega arith); memory = λ e. absurd (omega arith) }
 cut_short job files old new notes (BadDump fault) ends says either = absurd (omega (arith, either))
-cut_short job files old new notes Read ends says either = record { notes = notes; text = query_message_of job Read; says = says; read = λ e. inr (ends.0, ends.2.0, ends.1, ends.2.1, refl); write = λ e. absurd (omega arith); memory = λ e. absurd (omega arith) }
-cut_short job files old new notes Write ends says either = record { notes = notes; text = query_message_of job Write; says = says; read = λ e. absurd (omega arith); write = λ e. (ends.0, ends.2.1, ends.2.2, ends.1, ends.2.4, refl); memory = λ e. absurd (omega arith) }
+cut_short job files old new notes Read ends says either = record { notes = notes; text = query_message_of (naming job.keys job.function) Read; says = says; read = λ e. inr (ends.0, ends.2.0, ends.1, ends.2.1, refl); write = λ e. absurd (omega arith); memory = λ e. absurd (omega arith) }
+cut_short job files old new notes Write ends says either = record { notes = notes; text = query_message_of (naming job.keys job.function) Write; says = says; read = λ e. absurd (omega arith); write = λ e. (ends.0, ends.2.1, ends.2.2, ends.1, ends.2.4, refl); memory = λ e. absurd (omega arith) }
 cut_short job files old new notes (TooLong line) ends says either = absurd (omega (arith, either))
 cut_short job files old new notes TooMany ends says either = absurd (omega (arith, either))
 

@@ -1,7 +1,9 @@
+mod Naming
 mod Asks
-mod Stops
+mod Makes
 mod Clauses
 mod Outcomes
+mod Builds
 mod Words
 mod Tests
 mod Upgrades

@@ -23,13 +23,14 @@ use Rattle.cm_query.specs.Stops.{StopsAt}
 use Rattle.cm_query.specs.Sums.{answer_sum}
 use Rattle.cm_query.specs.declared.fault.QueryFault.TheVariants.{Key}
 use Rattle.cm_tool_stops.specs.Ends.{Says, message_of, status_of}
-use Rattle.cm_tool_stops.specs.Messages.{seed_failure_message}
+use Rattle.cm_tool.specs.Said.{seed_failure_message}
 use Rattle.cm_tool_stops.specs.declared.stop.Stop.TheVariants.{Memory, Read, Write, WriteOut, Refused, Changed, Spill, SpillDamaged, NoKeys, TooLong, TooMany}
 use Rattle.cm_tool_stops.specs.declared.stop.Stop.{Stop}
 use Rattle.cm_tool_builds.specs.Faults.{FailsFunc, HasFuncCause, HasFuncForm, IsChangeBy, IsSeedFailureBy, UsesSpill, shown_core, shown_overfull}
 use Rattle.cm_tool.specs.Jobs.{seeds_of}
 use Rattle.cm_tool_builds.specs.FuncOf.{IsFuncOf}
-use Rattle.cm_tool.specs.Leaves.{GotReport, IsOutCause, KeepsOut, StopsFor}
+use Rattle.cm_tool_building.specs.Leaves.{GotReport, IsOutCause, KeepsOut}
+use Rattle.cm_tool.specs.Building.{StopsFor}
 use Rattle.cm_tool.specs.Ending.{Outcome, printing, reporting}
 use Rattle.cm_tool.specs.Run.{IsStatus, Reaches}
 use Rattle.cm_tool.specs.Spills.{TestSpilled, TestsSpilled}
@@ -40,6 +41,7 @@ use Rattle.cm_tool_builds.specs.Results.{FailureReport}
 use Rattle.cm_tool_builds.specs.declared.fault.FuncFault.{FuncFault}
 use Rattle.cm_tool_builds.specs.declared.fault.FuncFault.TheVariants as func_fault
 use Rattle.cm_tool_builds.specs.declared.plan.Plan.{Plan}
+use Rattle.cm_tool.proofs.Naming.{naming}
 use Rattle.cm_tool.proofs.Outcomes.{nothing_said}
 use Rattle.cm_words.specs.declared.jobs.Job.TheVariants.{Test}
 use Rattle.cm_words.specs.declared.jobs.TestJob.{TestJob}
@@ -64,7 +66,7 @@ fails_test job algorithm func_fault.Spill k k' w w' made some start end cause fa
 fails_test job algorithm (func_fault.SpillDamaged offset expected found) k k' w w' made some start end cause fails = fails
 
 -- a report ends a test
-report_ends : (files : Files) (shown : FailureReport) (old new : Option (List ℕ)) (stop : Stop) → GotReport shown old new stop → EndsTest (reporting files shown) old new (Err stop)
+report_ends : (files : Files) (shown : FailureReport) (old new : Option (List ℕ)) (stop : Stop) → GotReport shown.failure shown.report old new stop → EndsTest (reporting files shown) old new (Err stop)
 report_ends files shown old new Memory got = absurd got
 report_ends files shown old new Read got = absurd got
 report_ends files shown old new Write got = absurd got
@@ -82,7 +84,7 @@ by_result : (job : TestJob) (algorithm : Algorithm) (files : Files) (v : Result 
     → EndsTest (tested_by job files (algorithm ∷ [])) old new r
 by_result job algorithm files v old new r is ends = subst (λ (w : Result Func FailureReport). EndsTest (tested_then job algorithm files w (printing [] files)) old new r) (sym is) ends
 
-shown_ends : (job : TestJob) (algorithm : Algorithm) (files : Files) (shown : FailureReport) (old new : Option (List ℕ)) (stop : Stop) → tested.test_result job algorithm ≡ Err shown → GotReport shown old new stop → EndsTest (tested_by job files (algorithm ∷ [])) old new (Err stop)
+shown_ends : (job : TestJob) (algorithm : Algorithm) (files : Files) (shown : FailureReport) (old new : Option (List ℕ)) (stop : Stop) → tested.test_result job algorithm ≡ Err shown → GotReport shown.failure shown.report old new stop → EndsTest (tested_by job files (algorithm ∷ [])) old new (Err stop)
 shown_ends job algorithm files shown old new stop result_is got = by_result job algorithm files (Err shown) old new (Err stop) result_is (report_ends files shown old new stop got)
 
 -- and so does any fault of a build
@@ -97,7 +99,7 @@ fault_ends job algorithm files func_fault.Spill old new stop fails stops = rw st
 fault_ends job algorithm files (func_fault.SpillDamaged offset expected found) old new stop fails stops = absurd fails
 
 -- what such a stop has, whether the files are known or not
-report_form : (algorithm : Algorithm) (shown : FailureReport) (old new : Option (List ℕ)) (stop : Stop) → IsSeedFailureBy algorithm shown.failure → GotReport shown old new stop → HasTestForm algorithm stop
+report_form : (algorithm : Algorithm) (shown : FailureReport) (old new : Option (List ℕ)) (stop : Stop) → IsSeedFailureBy algorithm shown.failure → GotReport shown.failure shown.report old new stop → HasTestForm algorithm stop
 report_form algorithm shown old new Memory failure got = tt
 report_form algorithm shown old new Read failure got = got
 report_form algorithm shown old new Write failure got = got
@@ -233,7 +235,7 @@ tested_files job files (algorithm ∷ next) = then_files job algorithm files (te
 
 -- a test that stopped
 outcome_stopped : (o : Outcome) (files : Files) (stop : Stop) (old new : Outside) (dir : List ℕ) → o.files ≡ files → EndsTest o old.out.written new.out.written (Err stop)
-    → Says old.err new.err (message_of test_name [] dir stop) → status_of stop ≢ 5 → status_of stop ≢ 6 → new.disk.files ≡ Some files → Reaches old new (Some o) (status_of stop)
+    → Says old.err new.err (message_of (naming test_name []) dir stop) → status_of stop ≢ 5 → status_of stop ≢ 6 → new.disk.files ≡ Some files → Reaches old new (Some o) (status_of stop)
 outcome_stopped o files Memory old new dir same ends says a b left = absurd (b refl)
 outcome_stopped o files Read old new dir same ends says a b left = absurd ends
 outcome_stopped o files Write old new dir same ends says a b left = absurd ends
@@ -254,7 +256,7 @@ outcome_stopped o files (TooLong line) old new dir same ends says a b left = abs
 outcome_stopped o files TooMany old new dir same ends says a b left = absurd ends
 
 pub test_stopped : (job : TestJob) (files : Files) (stop : Stop) (old new : Outside) → EndsTest (tested.test_outcome job files) old.out.written new.out.written (Err stop)
-    → Says old.err new.err (message_of test_name [] job.dir stop) → status_of stop ≢ 5 → status_of stop ≢ 6 → new.disk.files ≡ Some files → Reaches old new (Some (tested.test_outcome job files)) (status_of stop)
+    → Says old.err new.err (message_of (naming test_name []) job.dir stop) → status_of stop ≢ 5 → status_of stop ≢ 6 → new.disk.files ≡ Some files → Reaches old new (Some (tested.test_outcome job files)) (status_of stop)
 test_stopped job files stop old new ends says a b left =
     outcome_stopped (tested.test_outcome job files) files stop old new job.dir (tested_files job files algorithms) ends says a b left
 
@@ -303,7 +305,7 @@ part_of_test o old new TooMany ends either = absurd ends
 
 -- a test that could not write
 pub unfinished_test : (job : TestJob) (files : Files) (old new : Outside) (stop : Stop) → EndsTest (tested.test_outcome job files) old.out.written new.out.written (Err stop) → StopsSpilling job files algorithms old.out.written new.out.written stop → IsOutCause old.out.faults new.out.faults stop
-    → Says old.err new.err (message_of test_name [] job.dir stop) → status_of stop ≡ 5 → IsUnfinishedTest old new files job
+    → Says old.err new.err (message_of (naming test_name []) job.dir stop) → status_of stop ≡ 5 → IsUnfinishedTest old new files job
 unfinished_test job files old new Memory ends spilling count says five = absurd (omega arith)
 unfinished_test job files old new Read ends spilling count says five = absurd ends
 unfinished_test job files old new Write ends spilling count says five = absurd ends
@@ -326,7 +328,7 @@ differs_by Bdz first again change = change.differs
 differs_by BdzPh first again change = change.differs
 differs_by Brz first again change = change
 
-pub test_message : (job : TestJob) (algorithm : Algorithm) (before now : ℕ) (stop : Stop) → HasTestForm algorithm stop → IsOutCause before now stop → IsTestMessage job before now (status_of stop) (message_of test_name [] job.dir stop)
+pub test_message : (job : TestJob) (algorithm : Algorithm) (before now : ℕ) (stop : Stop) → HasTestForm algorithm stop → IsOutCause before now stop → IsTestMessage job before now (status_of stop) (message_of (naming test_name []) job.dir stop)
 test_message job algorithm before now Memory form count = record { done = λ e. absurd (omega arith); refused = λ e. absurd (omega arith); write = λ e. absurd (omega arith); memory = λ e. refl; changed = λ e. absurd (omega arith); keys = λ e. absurd (omega arith) }
 test_message job algorithm before now Read form count = absurd form
 test_message job algorithm before now Write form count = absurd form

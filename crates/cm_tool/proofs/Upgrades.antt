@@ -10,11 +10,12 @@ use Rattle.cm_io.specs.States.{DiskState, Outside, SinkState, outside}
 use Rattle.cm_io.specs.WritingLaws.{then_nothing}
 use Rattle.cm_tool_files.specs.Upgrades.{EndsUpgrade, SpellsOld}
 use Rattle.cm_tool_stops.specs.Ends.{Says, upgrade_message_of, upgrade_status_of}
-use Rattle.cm_tool_stops.specs.Messages.{bad_dump}
+use Rattle.cm_tool.specs.Said.{bad_dump}
 use Rattle.cm_tool_stops.specs.declared.stop.UpgradeStop.{UpgradeStop}
 use Rattle.cm_tool_stops.specs.declared.stop.UpgradeStop.TheVariants.{Memory, Read, BadDump, Write}
 use Rattle.cm_tool.specs.Outcome.{Outcome, job_outcome, refusal, upgrade_outcome, upgrade_over, upgrading}
 use Rattle.cm_tool.specs.Run.{IsEmptiedByUpgrade, IsHalfUpgraded, IsUpgradeMessage, LacksFile, Reaches}
+use Rattle.cm_tool.proofs.Naming.{naming}
 use Rattle.cm_tool.proofs.Outcomes.{none_some}
 use Rattle.cm_words.specs.declared.jobs.Job.TheVariants.{Upgrade}
 use Rattle.cm_words.specs.declared.jobs.UpgradeJob.{UpgradeJob}
@@ -50,7 +51,7 @@ never_lacks job old new files ends is none =
     absurd (none_some (sym none ∙ there job files end.0 _ end.2 refl))
 
 -- an upgrade that stopped, but not for memory or a fault of a file
-pub upgrade_stopped : (job : UpgradeJob) (old : Outside) (disk : DiskState) (err : SinkState) (stop : UpgradeStop) (files : Files) → EndsUpgrade job.function old.disk.files disk.files (Err stop) → Says old.err err (upgrade_message_of job.function stop)
+pub upgrade_stopped : (job : UpgradeJob) (old : Outside) (disk : DiskState) (err : SinkState) (stop : UpgradeStop) (files : Files) → EndsUpgrade job.function old.disk.files disk.files (Err stop) → Says old.err err (upgrade_message_of (naming [] job.function) stop)
     → upgrade_status_of stop ≢ 4 → upgrade_status_of stop ≢ 5 → upgrade_status_of stop ≢ 6 → old.disk.files ≡ Some files → Reaches old (outside disk old.out err) (job_outcome files (Ok (Upgrade job))) (upgrade_status_of stop)
 upgrade_stopped job old disk err Memory files ends says a b d is = absurd (d refl)
 upgrade_stopped job old disk err Read files ends says a b d is = absurd (a refl)
@@ -93,7 +94,7 @@ upgrade_kept job old new (BadDump fault) ends a b = ends.0
 upgrade_kept job old new Write ends a b = absurd (a refl)
 
 -- in writing
-pub half_upgraded : (job : UpgradeJob) (old : Outside) (disk : DiskState) (err : SinkState) (stop : UpgradeStop) (files : Files) → EndsUpgrade job.function old.disk.files disk.files (Err stop) → Says old.err err (upgrade_message_of job.function stop) → upgrade_status_of stop ≡ 5 → old.disk.files ≡ Some files
+pub half_upgraded : (job : UpgradeJob) (old : Outside) (disk : DiskState) (err : SinkState) (stop : UpgradeStop) (files : Files) → EndsUpgrade job.function old.disk.files disk.files (Err stop) → Says old.err err (upgrade_message_of (naming [] job.function) stop) → upgrade_status_of stop ≡ 5 → old.disk.files ≡ Some files
     → IsHalfUpgraded old (outside disk old.out err) files job
 half_upgraded job old disk err Memory files ends says five is = absurd (omega arith)
 half_upgraded job old disk err Read files ends says five is = absurd (omega arith)
@@ -114,7 +115,7 @@ upgrade_emptied job old new (BadDump fault) ends six = absurd (omega arith)
 upgrade_emptied job old new Write ends six = absurd (omega arith)
 
 -- the message of an upgrade goes with its status
-pub upgrade_message_is : (job : UpgradeJob) (stop : UpgradeStop) → IsUpgradeMessage job (upgrade_status_of stop) (upgrade_message_of job.function stop)
+pub upgrade_message_is : (job : UpgradeJob) (stop : UpgradeStop) → IsUpgradeMessage job (upgrade_status_of stop) (upgrade_message_of (naming [] job.function) stop)
 upgrade_message_is job Memory = record { done = λ e. absurd (omega arith); dump = λ e. absurd (omega arith); read = λ e. absurd (omega arith); write = λ e. absurd (omega arith); memory = λ e. refl }
 upgrade_message_is job Read = record { done = λ e. absurd (omega arith); dump = λ e. absurd (omega arith); read = λ e. refl; write = λ e. absurd (omega arith); memory = λ e. absurd (omega arith) }
 upgrade_message_is job (BadDump fault) = record { done = λ e. absurd (omega arith); dump = λ e. (fault, refl); read = λ e. absurd (omega arith); write = λ e. absurd (omega arith); memory = λ e. absurd (omega arith) }

@@ -6,7 +6,7 @@ use Rattle.cm_io.specs.States.{Outside, SinkState, outside}
 use Rattle.cm_io.specs.Writing.{then_bytes}
 use Rattle.cm_io.specs.WritingLaws.{then_nothing}
 use Rattle.cm_tool_stops.specs.Ends.{Says, usage_status_of}
-use Rattle.cm_tool_stops.specs.Messages.{out_of_memory, usage_message}
+use Rattle.cm_tool.specs.Said.{out_of_memory, usage_message}
 use Rattle.cm_tool_stops.specs.declared.stop.QueryStop.TheVariants as query_stop
 use Rattle.cm_tool_stops.specs.declared.stop.Stop.TheVariants as stop
 use Rattle.cm_tool_stops.specs.declared.stop.UpgradeStop.TheVariants as upgrade_stop

@@ -1,10 +1,11 @@
 pub mod Jobs
 pub mod Stops
 pub mod Spills
+pub mod Said
 pub mod Ending
 pub mod Tested
 pub mod Outcome
 pub mod TestEnds
-pub mod Leaves
+pub mod Building
 pub mod Run
 pub mod Runs

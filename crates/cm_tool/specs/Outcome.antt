@@ -15,7 +15,7 @@ use Rattle.cm_io.specs.declared.key_pass.KeyFault.TheVariants.{Read, TooLong, To
 use Rattle.cm_query.specs.Texts.{notes_of, text_of}
 pub use Rattle.cm_tool_files.specs.Asked.{keys_in}
 use Rattle.cm_tool_files.specs.Upgrades.{upgraded}
-use Rattle.cm_tool_stops.specs.Messages.{bad_dump, built_message, cannot_read, line_too_long, no_keys, too_many_keys, usage_message}
+use Rattle.cm_tool.specs.Said.{bad_dump, built_message, cannot_read, line_too_long, no_keys, too_many_keys, usage_message}
 use Rattle.cm_tool_stops.specs.Summaries.{summary_of}
 use Rattle.cm_tool_stops.specs.Texts.{help_text, version_text}
 pub use Rattle.cm_tool.specs.Ending.{Outcome, printing, refusal, reporting}

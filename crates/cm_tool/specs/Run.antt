@@ -18,15 +18,16 @@ use Rattle.cm_io.specs.States.{Outside}
 use Rattle.cm_io.specs.Writing.{then_bytes}
 use Rattle.cm_spec.specs.Lists.{has}
 use Rattle.cm_tool_files.specs.Asked.{AskedPart, GotNothing, Spells, question_of}
-use Rattle.cm_tool_files.specs.Stores.{IsPart}
+use Rattle.cm_tool_building.specs.Stores.{IsPart}
 use Rattle.cm_tool_stops.specs.Ends.{IsPrintMessage, Says}
-use Rattle.cm_tool_stops.specs.Messages.{bad_dump, built_message, out_of_memory, cannot_read, cannot_use_spill, cannot_write, cannot_write_out, keys_changed, no_keys, line_too_long, seed_failure_message, spill_damaged, too_many_keys, usage_message}
+use Rattle.cm_tool.specs.Said.{bad_dump, built_message, cmph, out_of_memory, cannot_read, cannot_use_spill, cannot_write, cannot_write_out, keys_changed, no_keys, line_too_long, seed_failure_message, spill_damaged, too_many_keys, usage_message}
+pub use Rattle.cm_tool_stops.specs.Ending.{LacksFile, Reaches}
 use Rattle.cm_tool_stops.specs.Texts.{help_text, version_text}
 use Rattle.cm_tool_stops.specs.declared.built.Summary.{Summary}
 use Rattle.cm_func.specs.declared.failure.SeedFailure.{SeedFailure}
 use Rattle.cm_tool_builds.specs.Faults.{IsChangeBy, IsSeedFailureBy, UsesSpill}
 use Rattle.cm_tool.specs.Jobs.{seeds_tried}
-use Rattle.cm_tool.specs.Outcome.{Outcome, job_outcome, keys_in, reporting, saving, upgrading}
+use Rattle.cm_tool.specs.Outcome.{job_outcome, keys_in, reporting, saving, upgrading}
 use Rattle.cm_tool_builds.specs.Seeds.{IsMadeBy, NoneWorks}
 use Rattle.cm_tool_builds.specs.Spills.{HasSpilled, UnlessSpilled}
 use Rattle.cm_tool.specs.TestEnds.{IsTestMessage}
@@ -115,21 +116,6 @@ abbrev pub UnlessPrinting : Reading Job → Type 0 → Type 0
 UnlessPrinting (Err fault) P = P
 UnlessPrinting (Ok (Upgrade job)) P = P
 UnlessPrinting asked P = Unit {0}
-
--- the outcome is what came
-pub record Reaches (old new : Outside) (found : Option Outcome) (status : ℕ) : Type 0 where
-  pub outcome : Outcome
-  pub is : found ≡ Some outcome
-  pub status_is : status ≡ outcome.status
-  pub out : new.out.written ≡ then_bytes old.out.written outcome.out
-  pub err : Says old.err new.err outcome.err
-  pub files_are : new.disk.files ≡ Some outcome.files
-
--- a file that is needed isn't there: nothing was done
-pub record LacksFile (old new : Outside) (status : ℕ) : Type 0 where
-  pub status_is : (status ≡ 4) ⊎ (status ≡ 6)
-  pub files_are : new.disk.files ≡ old.disk.files
-  pub out : new.out.written ≡ old.out.written
 
 -- a build saved a function under the first seed whose graph of the keys has an empty 2-core; by BRZ under the first that splits the
 -- keys, and in each bucket with keys under the first whose graph of those has an empty 2-core
@@ -266,8 +252,8 @@ pub record IsUsageMessage (fault : UsageFault) (status : ℕ) (text : List ℕ) 
 -- the message of what the arguments ask for, with the count of out before and now
 abbrev pub IsMessage : Reading Job → ℕ → ℕ → ℕ → List ℕ → Type 0
 IsMessage (Err fault) before now status text = IsUsageMessage fault status text
-IsMessage (Ok Help) before now status text = IsPrintMessage status text
-IsMessage (Ok Version) before now status text = IsPrintMessage status text
+IsMessage (Ok Help) before now status text = IsPrintMessage cmph status text
+IsMessage (Ok Version) before now status text = IsPrintMessage cmph status text
 IsMessage (Ok (Build job)) before now status text = IsBuildMessage job before now status text
 IsMessage (Ok (Query job)) before now status text = IsQueryMessage job status text
 IsMessage (Ok (Test job)) before now status text = IsTestMessage job before now status text

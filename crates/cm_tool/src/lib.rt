@@ -4,11 +4,14 @@
 mod building;
 mod laws;
 mod plan;
+mod program;
 mod querying;
+mod reports;
 mod testing;
 mod top;
 mod upgrading;
 
+pub use crate::program::report_no_memory;
 pub use crate::top::run;
 pub use cm_keys_made::MadeKeys;
-pub use cm_tool_stops::{print_help, print_version, report_no_memory};
+pub use cm_tool_stops::{print_help, print_version};

@@ -8,10 +8,11 @@ ghost use Rattle.cm_tool.specs.Run.{IsCutShort, IsQueryMessage, IsStatus, LacksF
 ghost use Rattle.cm_words.specs.Limits.{IsQuery};
 ghost use Rattle.cm_words.specs.declared.jobs.Job.TheVariants.{Query};
 
+use crate::program::PROGRAM;
 use cm_io::{Disk, Notes, Sink};
 use cm_query::{Tally, noted_exactly};
 use cm_tool_files::answer_file;
-use cm_tool_stops::report_query;
+use cm_tool_stops::{Names, report_query};
 use cm_words::QueryJob;
 use std::alloc::Global;
 
@@ -48,7 +49,14 @@ pub(crate) fn run_query<D: Disk, O: Sink, E: Sink>(
             noted_exactly();
             noted_status(tally)
         }
-        Err(stop) => report_query(job, stop, err, &mut notes),
+        Err(stop) => {
+            let names = Names {
+                program: PROGRAM,
+                keys: job.keys.as_str(),
+                function: job.function.as_str(),
+            };
+            report_query(stop, &names, err, &mut notes)
+        }
     }
 }
 

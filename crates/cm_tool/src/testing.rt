@@ -13,7 +13,7 @@ ghost use Rattle.cm_spec.specs.declared.limits.TheConstants.{MAX_KEYS};
 ghost use Rattle.cm_query.specs.Sums.{answer_sum};
 ghost use Rattle.cm_tool_stops.specs.Ends.{Says};
 ghost use Rattle.cm_tool_builds.specs.Faults.{HasFuncCause, HasFuncForm};
-ghost use Rattle.cm_tool.specs.Leaves.{HasOutCause, HasStopCause, KeepsOut};
+ghost use Rattle.cm_tool_building.specs.Leaves.{HasOutCause, HasStopCause, KeepsOut};
 ghost use Rattle.cm_tool_builds.specs.Plans.{IsPlan};
 ghost use Rattle.cm_tool.specs.Run.{IsStatus, Reaches};
 ghost use Rattle.cm_tool_builds.specs.Spills.{HasSpilled, UnlessSpilled};
@@ -23,7 +23,9 @@ ghost use Rattle.cm_tool.specs.Tested.{generated, line_text, test_outcome, test_
 ghost use Rattle.cm_words.specs.Limits.{IsTest};
 ghost use Rattle.cm_words.specs.declared.jobs.Job.TheVariants.{Test};
 
-use crate::building::{seeds, stop_of};
+use crate::building::seeds;
+use crate::program::PROGRAM;
+use crate::reports::fault_of;
 use cm_algo_names::Algorithm;
 use cm_dump::saved_len;
 use cm_func::Func;
@@ -31,9 +33,10 @@ use cm_io::{Disk, Failed, KeyPass, Sink, write_pieces};
 use cm_keys::{Keys, LINE_END};
 use cm_keys_made::MadeKeys;
 use cm_query::sum_answers;
+use cm_tool_building::stop_of;
 use cm_tool_builds::{FuncFault, Plan, func_of};
 use cm_tool_files::reload;
-use cm_tool_stops::{Stop, report, send_text};
+use cm_tool_stops::{Names, Stop, report, send_text};
 use cm_words::TestJob;
 use itoa::Buffer;
 use std::alloc::Global;
@@ -194,7 +197,7 @@ fn test_algorithm<D: Disk, O: Sink>(
 {
     let function = match build_generated(alloc, job, algorithm, disk) {
         Ok(function) => function,
-        Err(fault) => return Err(stop_of(fault, out)),
+        Err(fault) => return Err(stop_of(fault_of(fault), out)),
     };
     let bytes = saved_len(&function);
     let Ok(loaded) = reload(alloc, function) else {
@@ -269,6 +272,13 @@ pub(crate) fn run_test<D: Disk, O: Sink, E: Sink>(
     ];
     match test_each(alloc, job, &algorithms, disk, out) {
         Ok(()) => 0,
-        Err(stop) => report(stop, "-T", "", job.dir.as_str(), err),
+        Err(stop) => {
+            let names = Names {
+                program: PROGRAM,
+                keys: "-T",
+                function: "",
+            };
+            report(stop, &names, job.dir.as_str(), err)
+        }
     }
 }

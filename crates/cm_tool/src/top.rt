@@ -4,6 +4,7 @@ ghost use Rattle.cm_io.specs.States.{outside};
 ghost use Rattle.cm_tool.specs.Runs.{Runs};
 
 use crate::building::run_build;
+use crate::program::PROGRAM;
 use crate::querying::run_query;
 use crate::testing::run_test;
 use crate::upgrading::run_upgrade;
@@ -30,16 +31,16 @@ pub fn run<D: Disk, O: Sink, E: Sink>(
     match read_words(alloc, words) {
         Ok(Job::Help) => {
             let printed = print_help(out);
-            end_of_text(printed, out, err)
+            end_of_text(PROGRAM, printed, out, err)
         }
         Ok(Job::Version) => {
             let printed = print_version(out);
-            end_of_text(printed, out, err)
+            end_of_text(PROGRAM, printed, out, err)
         }
-        Ok(Job::Build(job)) => run_build(alloc, &job, disk, out, err),
+        Ok(Job::Build(job)) => run_build(alloc, job, disk, out, err),
         Ok(Job::Query(job)) => run_query(alloc, &job, disk, out, err),
         Ok(Job::Test(job)) => run_test(alloc, &job, disk, out, err),
         Ok(Job::Upgrade(job)) => run_upgrade(alloc, &job, disk, err),
-        Err(fault) => report_usage(fault, err),
+        Err(fault) => report_usage(PROGRAM, fault, err),
     }
 }

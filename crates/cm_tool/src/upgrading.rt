@@ -7,9 +7,10 @@ ghost use Rattle.cm_tool.specs.Outcome.{job_outcome};
 ghost use Rattle.cm_tool.specs.Run.{IsEmptiedByUpgrade, IsHalfUpgraded, IsStatus, IsUpgradeMessage, LacksFile, Reaches};
 ghost use Rattle.cm_words.specs.declared.jobs.Job.TheVariants.{Upgrade};
 
+use crate::program::PROGRAM;
 use cm_io::{Disk, Sink};
 use cm_tool_files::upgrade_file;
-use cm_tool_stops::report_upgrade;
+use cm_tool_stops::{Names, report_upgrade};
 use cm_words::UpgradeJob;
 use std::alloc::Global;
 
@@ -37,6 +38,13 @@ pub(crate) fn run_upgrade<D: Disk, E: Sink>(
 {
     match upgrade_file(alloc, job.function.as_str(), disk) {
         Ok(()) => 0,
-        Err(stop) => report_upgrade(stop, job.function.as_str(), err),
+        Err(stop) => {
+            let names = Names {
+                program: PROGRAM,
+                keys: "",
+                function: job.function.as_str(),
+            };
+            report_upgrade(stop, &names, err)
+        }
     }
 }

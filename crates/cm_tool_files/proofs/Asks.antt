@@ -23,7 +23,7 @@ use Rattle.cm_query.specs.declared.fault.QueryFault.{QueryFault}
 use Rattle.cm_query.specs.declared.fault.QueryFault.TheVariants as query_fault
 use Rattle.cm_query.specs.declared.tally.Tally.{Tally}
 use Rattle.cm_tool_files.specs.Asked.{EndsKeys, EndsQuery, IsStopCause, RefusesDump, Spells, SpellsAs, keys_in, question_of, question_over, stop_from_load, stop_from_query}
-use Rattle.cm_tool_files.specs.Stores.{Stores}
+use Rattle.cm_tool_building.specs.Stores.{Stores}
 use Rattle.cm_tool_files.specs.Upgrades.{EndsUpgrade, HasUpgradeCause, upgrade_stop_from}
 use Rattle.cm_tool_stops.specs.EndLaws.{collected}
 use Rattle.cm_tool_stops.specs.declared.stop.QueryStop.{QueryStop}

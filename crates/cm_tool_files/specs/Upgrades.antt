@@ -14,7 +14,7 @@ use Rattle.cm_io.specs.Causes.{Rose}
 use Rattle.cm_io.specs.Files.{Files, file_at, with_file}
 use Rattle.cm_io.specs.States.{DiskState}
 use Rattle.cm_tool_files.specs.Asked.{IsBadDump}
-use Rattle.cm_tool_files.specs.Stores.{IsPart}
+use Rattle.cm_tool_building.specs.Stores.{IsPart}
 use Rattle.cm_tool_stops.specs.declared.stop.UpgradeStop.{UpgradeStop}
 use Rattle.cm_tool_stops.specs.declared.stop.UpgradeStop.TheVariants.{Memory, Read, BadDump, Write}
 

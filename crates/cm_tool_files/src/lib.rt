@@ -10,5 +10,5 @@ mod upgrading;
 
 pub use crate::answering::answer_file;
 pub use crate::reloading::reload;
-pub use crate::storing::store;
+pub use crate::storing::FuncFile;
 pub use crate::upgrading::upgrade_file;

@@ -1,28 +1,21 @@
-//! A function, saved as a file.
-ghost use Rattle.std.specs.Prelude.{◌≡◌};
+//! What a function file holds.
 ghost use Rattle.cm_dump.specs.Dumps.{dump_of};
-ghost use Rattle.cm_io.specs.Causes.{HasDiskCause};
-ghost use Rattle.cm_tool_files.specs.Stores.{Stores};
 
 use cm_dump::{Func, save};
-use cm_io::{Disk, DiskFault, Failed};
+use cm_io::{Failed, Sink};
+use cm_tool_building::Saved;
 
-/// Makes the path hold the dump of a function.
-pub fn store<D: Disk>(path: &str, function: &Func, disk: &mut D) -> Result<(), DiskFault>
-    ensures files { Stores path.now (dump_of function.now) (D.state disk.old).files (D.state disk.new).files result }
-    ensures spilled { (D.state disk.new).spilled ≡ (D.state disk.old).spilled }
-    ensures read_faults { (D.state disk.new).read_faults ≡ (D.state disk.old).read_faults }
-    ensures cause { HasDiskCause (D.state disk.old).write_faults (D.state disk.new).write_faults result }
-{
-    let mut writer = disk.create(path)?;
-    match save(function, &mut writer) {
-        Ok(()) => match disk.close(path, writer) {
-            Ok(()) => Ok(()),
-            Err(Failed) => Err(DiskFault::Failed),
-        },
-        Err(Failed) => {
-            let _ = disk.close(path, writer);
-            Err(DiskFault::Failed)
-        }
+/// A function, as its file holds it.
+#[derive(Drop)]
+pub struct FuncFile {
+    /// The function.
+    pub func: Func,
+}
+
+impl Saved for FuncFile {
+    ghost bytes = { λ file. dump_of file.func };
+
+    fn save<O: Sink>(&self, out: &mut O) -> Result<(), Failed> {
+        save(&self.func, out)
     }
 }

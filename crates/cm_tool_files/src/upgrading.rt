@@ -3,9 +3,10 @@ ghost use Rattle.std.specs.Prelude.{◌≡◌};
 ghost use Rattle.cm_tool_files.specs.Upgrades.{EndsUpgrade, HasUpgradeCause, upgrade_stop_from};
 
 use crate::loading::load_file;
-use crate::storing::store;
+use crate::storing::FuncFile;
 use cm_dump::{LoadFault, Version};
 use cm_io::{Disk, DiskFault};
+use cm_tool_building::store_file;
 use cm_tool_stops::UpgradeStop;
 use std::alloc::Global;
 
@@ -32,10 +33,13 @@ pub fn upgrade_file<D: Disk>(alloc: Global, path: &str, disk: &mut D) -> Result<
     };
     match loaded.version {
         Version::Two => Ok(()),
-        Version::One => match store(path, &loaded.func, disk) {
-            Ok(()) => Ok(()),
-            Err(DiskFault::Memory) => Err(UpgradeStop::Memory),
-            Err(DiskFault::Failed) => Err(UpgradeStop::Write),
-        },
+        Version::One => {
+            let file = FuncFile { func: loaded.func };
+            match store_file(path, &file, disk) {
+                Ok(()) => Ok(()),
+                Err(DiskFault::Memory) => Err(UpgradeStop::Memory),
+                Err(DiskFault::Failed) => Err(UpgradeStop::Write),
+            }
+        }
     }
 }

@@ -1,4 +1,4 @@
--- What is said on err.
+-- What is said on err. Each message begins with the name of the program that is given.
 use Rattle.std.specs.Prelude.{ℕ, List, [], ◌∷◌, Option, None, Some, codes, decimal, if◌then◌else◌}
 use Rattle.cm_algo_names.specs.Names.{name_of}
 use Rattle.cm_algo_names.specs.declared.algorithm.Algorithm.{Algorithm}
@@ -14,40 +14,36 @@ use Rattle.cm_words_arguments.specs.declared.fault.UsageFault.{UsageFault}
 use Rattle.cm_words_arguments.specs.declared.fault.UsageFault.TheVariants as usage
 use Rattle.cm_words.specs.declared.jobs.BuildJob.{BuildJob}
 
--- the name of the program, with which each message begins
-abbrev pub program : List ℕ
-program = codes "cmph"
-
-abbrev pub out_of_memory : List ℕ
-out_of_memory = joined (program ∷ codes ": out of memory\n" ∷ [])
+abbrev pub out_of_memory : List ℕ → List ℕ
+out_of_memory program = joined (program ∷ codes ": out of memory\n" ∷ [])
 
 -- what is wrong with arguments that ask for no job
-abbrev pub usage_message : UsageFault → List ℕ
-usage_message usage.Memory = out_of_memory
-usage_message usage.Words = joined (program ∷ codes ": bad arguments; " ∷ program ∷ codes " -h shows the usage\n" ∷ [])
-usage_message (usage.BadValue letter) = joined (program ∷ codes ": bad value of -" ∷ (letter ∷ []) ∷ codes "\n" ∷ [])
-usage_message usage.NoFile = joined (program ∷ codes ": no keys file\n" ∷ [])
+abbrev pub usage_message : List ℕ → UsageFault → List ℕ
+usage_message program usage.Memory = out_of_memory program
+usage_message program usage.Words = joined (program ∷ codes ": bad arguments; " ∷ program ∷ codes " -h shows the usage\n" ∷ [])
+usage_message program (usage.BadValue letter) = joined (program ∷ codes ": bad value of -" ∷ (letter ∷ []) ∷ codes "\n" ∷ [])
+usage_message program usage.NoFile = joined (program ∷ codes ": no keys file\n" ∷ [])
 
 -- why keys have no function
-abbrev pub seed_failure_message : SeedFailure → List ℕ
-seed_failure_message NoSeed = joined (program ∷ codes ": no seed of the list gives an empty core\n" ∷ [])
-seed_failure_message (NoSeedFor bucket) = joined (program ∷ codes ": bucket " ∷ decimal bucket ∷ codes " has no seed with an empty core\n" ∷ [])
-seed_failure_message NoSplit = joined (program ∷ codes ": every split has a bucket with more than " ∷ decimal MAX_BUCKET ∷ codes " keys\n" ∷ [])
+abbrev pub seed_failure_message : List ℕ → SeedFailure → List ℕ
+seed_failure_message program NoSeed = joined (program ∷ codes ": no seed of the list gives an empty core\n" ∷ [])
+seed_failure_message program (NoSeedFor bucket) = joined (program ∷ codes ": bucket " ∷ decimal bucket ∷ codes " has no seed with an empty core\n" ∷ [])
+seed_failure_message program NoSplit = joined (program ∷ codes ": every split has a bucket with more than " ∷ decimal MAX_BUCKET ∷ codes " keys\n" ∷ [])
 
-abbrev pub cannot_read : List ℕ → List ℕ
-cannot_read file = joined (program ∷ codes ": " ∷ file ∷ codes ": cannot read\n" ∷ [])
+abbrev pub cannot_read : List ℕ → List ℕ → List ℕ
+cannot_read program file = joined (program ∷ codes ": " ∷ file ∷ codes ": cannot read\n" ∷ [])
 
-abbrev pub cannot_write : List ℕ → List ℕ
-cannot_write file = joined (program ∷ codes ": " ∷ file ∷ codes ": cannot write\n" ∷ [])
+abbrev pub cannot_write : List ℕ → List ℕ → List ℕ
+cannot_write program file = joined (program ∷ codes ": " ∷ file ∷ codes ": cannot write\n" ∷ [])
 
-abbrev pub cannot_write_out : List ℕ
-cannot_write_out = joined (program ∷ codes ": cannot write standard output\n" ∷ [])
+abbrev pub cannot_write_out : List ℕ → List ℕ
+cannot_write_out program = joined (program ∷ codes ": cannot write standard output\n" ∷ [])
 
-abbrev pub cannot_use_spill : List ℕ → List ℕ
-cannot_use_spill dir = joined (program ∷ codes ": " ∷ dir ∷ codes ": cannot use the spill file\n" ∷ [])
+abbrev pub cannot_use_spill : List ℕ → List ℕ → List ℕ
+cannot_use_spill program dir = joined (program ∷ codes ": " ∷ dir ∷ codes ": cannot use the spill file\n" ∷ [])
 
-abbrev pub spill_damaged : List ℕ → ℕ → ℕ → ℕ → List ℕ
-spill_damaged dir offset expected found = joined (program ∷ codes ": " ∷ dir ∷ codes ": spill damaged at " ∷ decimal offset ∷ codes ": expected " ∷ decimal expected ∷ codes ", found " ∷ decimal found ∷ codes "\n" ∷ [])
+abbrev pub spill_damaged : List ℕ → List ℕ → ℕ → ℕ → ℕ → List ℕ
+spill_damaged program dir offset expected found = joined (program ∷ codes ": " ∷ dir ∷ codes ": spill damaged at " ∷ decimal offset ∷ codes ": expected " ∷ decimal expected ∷ codes ", found " ∷ decimal found ∷ codes "\n" ∷ [])
 
 -- what is wrong with bytes that are no dump
 abbrev pub fault_words : LoadFault → List ℕ
@@ -82,20 +78,20 @@ abbrev pub place_text : Option ℕ → List ℕ
 place_text None = []
 place_text (Some at) = decimal at
 
-abbrev pub bad_dump : List ℕ → LoadFault → List ℕ
-bad_dump file fault = joined (program ∷ codes ": " ∷ file ∷ codes ": bad dump: " ∷ fault_words fault ∷ place_text (fault_place fault) ∷ codes "\n" ∷ [])
+abbrev pub bad_dump : List ℕ → List ℕ → LoadFault → List ℕ
+bad_dump program file fault = joined (program ∷ codes ": " ∷ file ∷ codes ": bad dump: " ∷ fault_words fault ∷ place_text (fault_place fault) ∷ codes "\n" ∷ [])
 
-abbrev pub keys_changed : List ℕ → ℕ → ℕ → List ℕ
-keys_changed file first again = joined (program ∷ codes ": " ∷ file ∷ codes ": keys changed: " ∷ decimal first ∷ codes ", then " ∷ decimal again ∷ codes "\n" ∷ [])
+abbrev pub keys_changed : List ℕ → List ℕ → ℕ → ℕ → List ℕ
+keys_changed program file first again = joined (program ∷ codes ": " ∷ file ∷ codes ": keys changed: " ∷ decimal first ∷ codes ", then " ∷ decimal again ∷ codes "\n" ∷ [])
 
-abbrev pub no_keys : List ℕ → List ℕ
-no_keys file = joined (program ∷ codes ": " ∷ file ∷ codes ": no keys\n" ∷ [])
+abbrev pub no_keys : List ℕ → List ℕ → List ℕ
+no_keys program file = joined (program ∷ codes ": " ∷ file ∷ codes ": no keys\n" ∷ [])
 
-abbrev pub line_too_long : List ℕ → ℕ → List ℕ
-line_too_long file line = joined (program ∷ codes ": " ∷ file ∷ codes ": line " ∷ decimal line ∷ codes " is too long\n" ∷ [])
+abbrev pub line_too_long : List ℕ → List ℕ → ℕ → List ℕ
+line_too_long program file line = joined (program ∷ codes ": " ∷ file ∷ codes ": line " ∷ decimal line ∷ codes " is too long\n" ∷ [])
 
-abbrev pub too_many_keys : List ℕ → List ℕ
-too_many_keys file = joined (program ∷ codes ": " ∷ file ∷ codes ": more than " ∷ decimal MAX_KEYS ∷ codes " keys\n" ∷ [])
+abbrev pub too_many_keys : List ℕ → List ℕ → List ℕ
+too_many_keys program file = joined (program ∷ codes ": " ∷ file ∷ codes ": more than " ∷ decimal MAX_KEYS ∷ codes " keys\n" ∷ [])
 
 -- what is counted beside the keys
 abbrev pub counted : Algorithm → List ℕ
@@ -103,8 +99,8 @@ counted Brz = codes " buckets "
 counted algorithm = codes " cells "
 
 -- what is said of a function that was built, if that is asked for
-abbrev pub built : BuildJob → Summary → List ℕ
-built job s = joined (program ∷ codes ": " ∷ name_of job.algorithm ∷ codes " keys " ∷ decimal s.keys ∷ counted job.algorithm ∷ decimal s.cells ∷ codes " seed " ∷ decimal s.seed ∷ codes "\n" ∷ [])
+abbrev pub built : List ℕ → BuildJob → Summary → List ℕ
+built program job s = joined (program ∷ codes ": " ∷ name_of job.algorithm ∷ codes " keys " ∷ decimal s.keys ∷ counted job.algorithm ∷ decimal s.cells ∷ codes " seed " ∷ decimal s.seed ∷ codes "\n" ∷ [])
 
-abbrev pub built_message : BuildJob → Summary → List ℕ
-built_message job s = if job.verbose then built job s else []
+abbrev pub built_message : List ℕ → BuildJob → Summary → List ℕ
+built_message program job s = if job.verbose then built program job s else []

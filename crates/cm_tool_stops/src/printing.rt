@@ -6,7 +6,7 @@ ghost use Rattle.cm_io.specs.Writing.{Writes, then_bytes};
 ghost use Rattle.cm_tool_stops.specs.Ends.{IsPrintMessage, Says};
 ghost use Rattle.cm_tool_stops.specs.Texts.{help_text, version_text};
 
-use crate::reporting::{PROGRAM, say};
+use crate::reporting::say;
 use cm_io::{Failed, Sink, write_pieces};
 
 /// Prints how the program is used. Fails exactly if out does, which has then taken a prefix of the text. Allocates no memory.
@@ -46,8 +46,13 @@ pub fn send_text<O: Sink>(printed: Result<(), Failed>, out: &mut O) -> Result<()
     }
 }
 
-/// Flushes out after a text was printed, and returns the status.
-pub fn end_of_text<O: Sink, E: Sink>(printed: Result<(), Failed>, out: &mut O, err: &mut E) -> u8
+/// Flushes out after a program has printed a text, and returns the status.
+pub fn end_of_text<O: Sink, E: Sink>(
+    program: &str,
+    printed: Result<(), Failed>,
+    out: &mut O,
+    err: &mut E,
+) -> u8
     ensures status { (result ≡ 0) ⊎ (result ≡ 5) }
     ensures front { (text : List ℕ) (old : Option (List ℕ)) → Writes old (O.state out.old).written text printed → (n : ℕ) × ((O.state out.new).written ≡ then_bytes old (take n text)) }
     ensures whole { result ≡ 0 → (text : List ℕ) (old : Option (List ℕ)) → Writes old (O.state out.old).written text printed → (O.state out.new).written ≡ then_bytes old text }
@@ -55,12 +60,15 @@ pub fn end_of_text<O: Sink, E: Sink>(printed: Result<(), Failed>, out: &mut O, e
     ensures sent { (before : SinkState) → HasCause before.faults (O.state out.old).faults printed → IsSent before (O.state out.new) }
     ensures err_sent { (E.state err.old).waits ≡ 0 → IsSent (E.state err.old) (E.state err.new) }
     ensures done { result ≡ 0 → ((E.state err.new).written ≡ (E.state err.old).written) × ((E.state err.new).faults ≡ (E.state err.old).faults) }
-    ensures err { (text : List ℕ) × IsPrintMessage result text × Says (E.state err.old) (E.state err.new) text }
+    ensures err { (text : List ℕ) × IsPrintMessage program.now result text × Says (E.state err.old) (E.state err.new) text }
 {
     match send_text(printed, out) {
         Ok(()) => 0,
         Err(Failed) => {
-            say(err, &[&PROGRAM, b": cannot write standard output\n"]);
+            say(
+                err,
+                &[program.as_bytes(), b": cannot write standard output\n"],
+            );
             5
         }
     }

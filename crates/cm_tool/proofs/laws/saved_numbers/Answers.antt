@@ -1,4 +1,4 @@
-use Rattle.std.proofs.Common.{◌≡◌, ◌∙◌, ℕ, ◌≤◌, List, [], length, Some, refl, ap, sym, subst, arith}
+use Rattle.std.proofs.Common.{◌≡◌, ℕ, ◌≤◌, List, [], length, Some, refl, sym, subst, arith}
 use Rattle.std.specs.FinMap as map
 use Rattle.cm_algo_names.specs.declared.algorithm.Algorithm.{Algorithm}
 use Rattle.cm_algo_names.specs.declared.algorithm.Algorithm.TheVariants.{Bdz, BdzPh, Brz, Chm}
@@ -9,10 +9,9 @@ use Rattle.cm_brz.specs.BrzOf.{IsBrzOf}
 use Rattle.cm_brz_func.specs.Functions as buckets
 use Rattle.cm_brz_func.specs.Functions.{brz_answer}
 use Rattle.cm_chm.specs.Numbering.{AnswersNumbers}
-use Rattle.cm_dump.specs.Spelling.{spelling_of}
+use Rattle.cm_dump.specs.Dumps.{dump_of}
 use Rattle.cm_func.specs.declared.function.Func.{Func}
 use Rattle.cm_func.specs.declared.function.Func.TheVariants as func
-use Rattle.cm_io.specs.Files.{with_file}
 use Rattle.cm_spec.specs.Bdz.{bdz_ph_rule, bdz_rule}
 use Rattle.cm_spec.specs.Built.{cells_under, chm_under, graph_of}
 use Rattle.cm_spec.specs.Chm.{chm_rule}
@@ -55,10 +54,8 @@ answers_of Brz b keys c seeds (func.BdzPh f) wide laws made = absurd made
 answers_of Brz b keys c seeds (func.Brz f) wide laws made = (tt, laws.brz_apart f (wide refl) made)
 
 pub returns : goal.returns
-returns c = λ job old new out_old out_new s files build leaves is.
-    let saves = (leaves.2 files is).0 in
-    let made = saves.made in
-    let keys = (keys_in job.first job.end saves.bytes).keys in
+returns c = λ job files bytes f build there made valid.
+    let keys = (keys_in job.first job.end bytes).keys in
     let laws : Laws keys job.c job.b (seeds_tried job) = record {
       empty = c.empty_rest.ensures.rest;
       chm_numbers = λ seed. c.answers_numbers.ensures keys job.c seed made.many build.numbers.ratio;
@@ -67,6 +64,5 @@ returns c = λ job old new out_old out_new s files build leaves is.
       brz_apart = λ f wide of. c.numbers_apart.ensures.apart keys job.c job.b (seeds_tried job) f made.many.0 made.many.1 build.numbers.ratio wide of;
     } in
     let wide : job.algorithm ≡ Brz → 1 ≤ job.b = λ by. omega (arith, (build.numbers.width by).0) in
-    let answers = answers_of job.algorithm job.b keys job.c (seeds_tried job) saves.f wide laws made.made in
-    let spells = ap spelling_of saves.dump_is ∙ c.dumps_spell.ensures.spelling saves.f saves.valid in
-    (saves.bytes, leaves.0, saves.f, map.insert files job.function leaves.0, saves.there, leaves.1 ∙ ap (with_file job.function leaves.0) is, written_at files job.function leaves.0, spells, answers.0, answers.1)
+    let answers = answers_of job.algorithm job.b keys job.c (seeds_tried job) f wide laws made.made in
+    (bytes, dump_of f, f, map.insert files job.function (dump_of f), there, refl, written_at files job.function (dump_of f), c.dumps_spell.ensures.spelling f valid, answers.0, answers.1)

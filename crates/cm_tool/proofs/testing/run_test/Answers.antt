@@ -3,7 +3,9 @@ use Rattle.cm_io.specs.States.{outside}
 use Rattle.cm_tool_stops.specs.Ends.{message_of}
 use Rattle.cm_tool.specs.TestEnds.{test_name}
 use Rattle.cm_tool.specs.Tested.{test_outcome}
-use Rattle.cm_tool.proofs.Outcomes.{nothing_said, stop_failed, stop_write}
+use Rattle.cm_tool.proofs.Naming.{naming}
+use Rattle.cm_tool_building.specs.StopLaws.{stop_failed, stop_write}
+use Rattle.cm_tool.proofs.Outcomes.{nothing_said}
 use Rattle.cm_tool.proofs.Tests.{done_message, last_spilled, never_changed, part_of_test, test_done, test_known, test_message, test_status, test_stopped, unfinished_test}
 use Rattle.cm_tool.proofs.testing.run_test.Goals as goal
 
@@ -40,7 +42,7 @@ returns-in-Err-clause-unfinished g c = λ five files is.
 pub returns-in-Err-clause-err : goal.returns-in-Err-clause-err
 returns-in-Err-clause-err g c =
     let form = c.in-Err.ensures.form in
-    (message_of test_name [] c.args.job.now.dir c.in-Err.stop, rw c.report.ensures.status (test_message c.args.job.now form.0 _ _ c.in-Err.stop form.1 c.in-Err.ensures.out_cause), rw c.as_str.ensures.bytes at c.report.ensures.says)
+    (message_of (naming test_name []) c.args.job.now.dir c.in-Err.stop, rw c.report.ensures.status (test_message c.args.job.now form.0 _ _ c.in-Err.stop form.1 c.in-Err.ensures.out_cause), rw c.as_str.ensures.bytes at c.report.ensures.says)
 
 pub returns-in-Err-clause-write : goal.returns-in-Err-clause-write
 returns-in-Err-clause-write g c = λ low few. rw c.report.ensures.status (stop_write c.in-Err.stop _ _ _ _ _ _ c.in-Err.ensures.cause c.in-Err.ensures.out_cause low few)

@@ -2,10 +2,10 @@ use Rattle.cm_tool.proofs.Tests.{fault_ends, line_cut, line_ends, test_form}
 use Rattle.cm_tool.proofs.testing.test_algorithm.Goals as goal
 
 pub returns-in-Err-clause-form : goal.returns-in-Err-clause-form
-returns-in-Err-clause-form g c = test_form c.args.algorithm c.in-Err.fault _ _ _ _ c.stop_of.result c.in-Err.ensures.cause c.in-Err.ensures.form c.stop_of.ensures.stops
+returns-in-Err-clause-form g c = test_form c.args.algorithm c.in-Err.fault _ _ _ _ c.stop_of.result c.in-Err.ensures.cause c.in-Err.ensures.form (rw c.fault_of.ensures.fault at c.stop_of.ensures.stops)
 
 pub returns-in-Err-clause-ends : goal.returns-in-Err-clause-ends
-returns-in-Err-clause-ends g c = λ files is. fault_ends c.args.job.now c.args.algorithm files c.in-Err.fault _ _ c.stop_of.result (c.in-Err.ensures.fault files is) c.stop_of.ensures.stops
+returns-in-Err-clause-ends g c = λ files is. fault_ends c.args.job.now c.args.algorithm files c.in-Err.fault _ _ c.stop_of.result (c.in-Err.ensures.fault files is) (rw c.fault_of.ensures.fault at c.stop_of.ensures.stops)
 
 pub returns-in-Ok-print_line-clause-ends : goal.returns-in-Ok-print_line-clause-ends
 returns-in-Ok-print_line-clause-ends g c = λ files is.

@@ -5,11 +5,8 @@ use Rattle.cm_tool_stops.proofs.reporting.report.Goals as goal
 
 pub returns-clause-says : goal.returns-clause-says
 returns-clause-says g c =
-    let keys : c.as_bytes.result.now ≡ c.args.keys.now = c.as_bytes.ensures.value in
-    let function : c.as_bytes-2.result.now ≡ c.args.function.now = c.as_bytes-2.ensures.value in
-    let dir : c.as_bytes-3.result.now ≡ c.args.dir.now = c.as_bytes-3.ensures.value in
-    let noted = rw (keys, function, dir) at c.explain.ensures.noted in
-    says_all (noted_first c.new-notes.ensures.fresh noted)
+    let dir : c.as_bytes.result.now ≡ c.args.dir.now = c.as_bytes.ensures.value in
+    says_all (noted_first c.new-notes.ensures.fresh (rw dir at c.explain.ensures.noted))
 
 pub returns-clause-sent : goal.returns-clause-sent
 returns-clause-sent g c = noted_sent (noted_first c.new-notes.ensures.fresh c.explain.ensures.noted) c.explain.ensures.sent

@@ -1,7 +1,6 @@
 use Rattle.std.proofs.Common.{List, ℕ, take, inr}
-use Rattle.cm_dump.specs.Dumps.{dump_of}
 use Rattle.cm_io.specs.FilesLaws.{is_there, holds, front_closed, holds_front}
-use Rattle.cm_tool_files.proofs.storing.store.Goals as goal
+use Rattle.cm_tool_building.proofs.storing.store_file.Goals as goal
 
 pub close-requires : goal.close-requires
 close-requires g c = record { there = is_there _ _ _ _ c.in_ok-writer.ensures.files }
@@ -14,7 +13,7 @@ returns-in-Ok-close-clause-files g c = holds _ _ (λ l. l) _ _ _ _ _ c.in_ok-wri
 
 pub returns-in-Err-clause-files : goal.returns-in-Err-clause-files
 returns-in-Err-clause-files g c =
-    let bytes : List ℕ = dump_of c.args.function.now in
+    let bytes : List ℕ = g.S.Saved.bytes c.args.saved.now in
     let m = c.in-Err.ensures.bytes.0 in
     let closed = front_closed c.args.path.now (g.D.Writer.Sink.state c.save.new.out).written (g.D.Disk.state c.create.new.self).files _ c.close-in-Err.result c.close-in-Err.ensures.files in
     let n = closed.0 in

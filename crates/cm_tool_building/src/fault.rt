@@ -1,0 +1,33 @@
+//! Why nothing was made of keys.
+
+use cm_func::SeedFailure;
+use cm_io::KeyFault;
+
+/// Why nothing was made of keys.
+#[derive(Drop)]
+pub enum Fault<R> {
+    /// Out of memory.
+    Memory,
+    /// There are no keys.
+    NoKeys,
+    /// The keys are refused, as the report shows.
+    Refused {
+        failure: SeedFailure,
+        report: R,
+    },
+    /// A pass over the keys failed.
+    Key(KeyFault),
+    /// The first pass yielded `first` keys, and a later one `now` keys.
+    Changed {
+        first: u32,
+        now: u32,
+    },
+    /// The spill can't be made, written or read.
+    Spill,
+    /// What was read from the spill is not what was put into it: an offset in bytes, and the expected and the found number.
+    SpillDamaged {
+        offset: u64,
+        expected: u64,
+        found: u64,
+    },
+}
