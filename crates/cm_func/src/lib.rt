@@ -1,9 +1,7 @@
-//! The functions of all algorithms, and their answers; and why keys have none.
+//! The functions of all algorithms, and their answers.
 #![tactic(auto)]
 
 mod answers;
-mod failure;
 mod function;
 
-pub use crate::failure::SeedFailure;
 pub use crate::function::Func;

@@ -2,6 +2,8 @@
 use Rattle.std.specs.Prelude.{◌==◌, ◌+◌, ℕ, List, length, Option, None, Some, [], ◌∷◌, take, if◌then◌else◌, nat_lt}
 use Rattle.cm_io.specs.Passes.{Told}
 use Rattle.cm_io.specs.declared.key_pass.KeyFault.TheVariants.{TooLong, TooMany}
+use Rattle.cm_io.specs.declared.key_pass.TheConstants.{MAX_KEY_LEN}
+use Rattle.cm_spec.specs.declared.limits.TheConstants.{MAX_KEYS}
 
 -- a byte before the first piece; if there is none, the byte is a piece
 abbrev pub push_first : ℕ → List (List ℕ) → List (List ℕ)
@@ -34,3 +36,8 @@ keys_from max longest line (p ∷ ps) =
 -- The numbered keys of a text, and the fault at their end.
 unfoldable pub lines_of : ℕ → ℕ → ℕ → Option ℕ → List ℕ → Told
 lines_of max longest end first bytes = keys_from max longest 1 (looked_at first (pieces end bytes))
+
+-- the keys in the bytes of a keys file: its lines without their ends, the first ones or all, at most `MAX_KEYS` of them, of at most
+-- `MAX_KEY_LEN` bytes each
+abbrev pub keys_in : Option ℕ → ℕ → List ℕ → Told
+keys_in first end bytes = lines_of MAX_KEYS MAX_KEY_LEN end first bytes

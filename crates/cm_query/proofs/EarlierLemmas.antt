@@ -1,22 +1,17 @@
 -- One key more, after keys that each see those before them.
-use Rattle.std.proofs.Common.{◌≡◌, ◌∙◌, ℕ, ◌+◌, cond, List, [], ◌∷◌, ◌++◌, Option, None, Some, Bool, ap, sym, arith, append_assoc, append-nil}
+use Rattle.std.proofs.Common.{◌≡◌, ◌∙◌, ℕ, ◌+◌, cond, List, [], ◌∷◌, ◌++◌, Option, None, Some, Bool, ap, arith, append-nil}
 use Rattle.std.specs.Prelude.{is_none}
 use Rattle.std.specs.List.{count_by}
 use Rattle.std.proofs.lemmas.List.{length-append}
 use Rattle.std.proofs.lemmas.List.Sums.{sum_by-append}
 use Rattle.cm_io.specs.WritingLaws.{joined-append}
 use Rattle.cm_io.specs.Writing.{joined}
-use Rattle.cm_query.specs.Repeats.{is_repeated, repeats_of, with_earlier}
+use Rattle.cm_query.specs.Repeats.{is_repeated, repeats_of}
+use Rattle.cm_query_batch.specs.Earlier.{with_earlier}
+use Rattle.cm_query_batch.specs.EarlierLaws.{with_earlier-more}
 use Rattle.cm_query.specs.Tallies.{counted, tally_of}
 use Rattle.cm_query.specs.Texts.{note_of, notes_of}
 use Rattle.cm_query.specs.declared.tally.Tally.{Tally}
-
-pub with_earlier-more : {A : Type 0} (give : List (ℕ × List ℕ) → ℕ × List ℕ → A) (earlier keys : List (ℕ × List ℕ)) (k : ℕ × List ℕ)
-    → with_earlier give earlier (keys ++ k ∷ []) ≡ with_earlier give earlier keys ++ give (earlier ++ keys) k ∷ []
-with_earlier-more give earlier [] k = ap (λ (e : List (ℕ × List ℕ)). give e k ∷ []) (sym (append-nil earlier))
-with_earlier-more {A = A} give earlier (x ∷ xs) k =
-    ap (λ (l : List A). give earlier x ∷ l) (with_earlier-more give (earlier ++ x ∷ []) xs k)
-    ∙ ap (λ (e : List (ℕ × List ℕ)). give earlier x ∷ (with_earlier give (earlier ++ x ∷ []) xs ++ give e k ∷ [])) (append_assoc earlier (x ∷ []) xs)
 
 -- the notes
 pub notes_of-more : (f : List ℕ → Option ℕ) (keys : List (ℕ × List ℕ)) (k : ℕ × List ℕ) → notes_of f (keys ++ k ∷ []) ≡ notes_of f keys ++ note_of k.0 (f k.1) (is_repeated f keys (f k.1))

@@ -4,7 +4,8 @@ use Rattle.std.specs.Prelude.{is_none}
 use Rattle.std.specs.List.{count_by}
 use Rattle.std.proofs.lemmas.List.Sums.{sum_by-cons}
 use Rattle.cm_io.specs.Writing.{joined}
-use Rattle.cm_query.specs.Repeats.{is_repeated, with_earlier}
+use Rattle.cm_query.specs.Repeats.{is_repeated}
+use Rattle.cm_query_batch.specs.Earlier.{with_earlier}
 use Rattle.cm_query.specs.Tallies.{tally_of}
 use Rattle.cm_query.specs.Texts.{note_of, notes_of}
 

@@ -18,10 +18,10 @@ use Rattle.cm_io.specs.NotingLaws.{noted_nothing}
 use Rattle.cm_io.specs.WritingLaws.{then_nothing}
 use Rattle.cm_query.specs.Marks.{is_marked, marked}
 use Rattle.cm_query.specs.Repeats.{is_repeated}
-use Rattle.cm_query.specs.Stops.{StopsAt, TextAfter}
+use Rattle.cm_query_batch.specs.Stops.{StopsAt, TextAfter}
 use Rattle.cm_query.specs.Tallies.{counted, tally_of}
 use Rattle.cm_query.specs.Texts.{line_of, note_of, notes_of, text_of}
-use Rattle.cm_query.specs.declared.fault.QueryFault.TheVariants.{Key, Write}
+use Rattle.cm_query_batch.specs.declared.fault.QueryFault.TheVariants.{Key, Write}
 use Rattle.cm_query.specs.declared.tally.Tally.{Tally}
 
 -- the keys given so far are answered: their text on out, their notes on err, their marks and their tally
@@ -88,7 +88,7 @@ stops_at_key told place now line key TooMany within gives = gives
 -- where a write failed, at the key after some
 pub text_at_write : (end : ℕ) (f : List ℕ → Option ℕ) (keys : List (ℕ × List ℕ)) (place : ℕ) (k : ℕ × List ℕ) (a : Option ℕ) (out_old out_mid out_new : Option (List ℕ))
     → drop place keys ≡ k ∷ drop (place + 1) keys → f k.1 ≡ a → out_mid ≡ then_bytes out_old (text_of end f (take place keys)) → ((n : ℕ) × (out_new ≡ then_bytes out_mid (take n (line_of end k.1 a))))
-    → TextAfter end f keys (place + 1) out_old out_new Write
+    → TextAfter (text_of end f) keys (place + 1) out_old out_new Write
 text_at_write end f keys place k a out_old out_mid out_new next is so_far wrote =
     let less : place + 1 - 1 ≡ place = omega arith in
     let old = text_of end f (take place keys) in

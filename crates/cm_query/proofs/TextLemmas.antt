@@ -5,10 +5,10 @@ use Rattle.std.proofs.lemmas.List.{take_at, take_min, take-append-le}
 use Rattle.std.proofs.Math.Seq.{take-append-add}
 use Rattle.cm_io.specs.Writing.{then_bytes}
 use Rattle.cm_io.specs.WritingLaws.{then_nothing}
-use Rattle.cm_query.specs.Stops.{TextAfter}
+use Rattle.cm_query_batch.specs.Stops.{TextAfter}
 use Rattle.cm_query.specs.Texts.{line_of, text_of}
-use Rattle.cm_query.specs.declared.fault.QueryFault.{QueryFault}
-use Rattle.cm_query.specs.declared.fault.QueryFault.TheVariants.{Memory, Key, Write}
+use Rattle.cm_query_batch.specs.declared.fault.QueryFault.{QueryFault}
+use Rattle.cm_query_batch.specs.declared.fault.QueryFault.TheVariants.{Memory, Key, Write}
 
 pub text_of-append : (end : ℕ) (f : List ℕ → Option ℕ) (xs ys : List (ℕ × List ℕ)) → text_of end f (xs ++ ys) ≡ text_of end f xs ++ text_of end f ys
 text_of-append end f xs ys = flat_map-append (λ (k : ℕ × List ℕ). line_of end k.1 (f k.1)) xs ys
@@ -43,7 +43,7 @@ front_of_next end f keys before i old new is =
     )
 
 -- After a failure out has a prefix of the text of all keys.
-pub front_after : (end : ℕ) (f : List ℕ → Option ℕ) (keys : List (ℕ × List ℕ)) (given : ℕ) (old new : Option (List ℕ)) (fault : QueryFault) → TextAfter end f keys given old new fault → (n : ℕ) × (new ≡ then_bytes old (take n (text_of end f keys)))
+pub front_after : (end : ℕ) (f : List ℕ → Option ℕ) (keys : List (ℕ × List ℕ)) (given : ℕ) (old new : Option (List ℕ)) (fault : QueryFault) → TextAfter (text_of end f) keys given old new fault → (n : ℕ) × (new ≡ then_bytes old (take n (text_of end f keys)))
 front_after end f keys given old new Memory is = (0, is ∙ then_nothing old)
 front_after end f keys given old new (Key fault) is = front_of_given end f keys given old new is
 front_after end f keys given old new Write is = front_of_next end f keys (given - 1) is.0 old new is.1

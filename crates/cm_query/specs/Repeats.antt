@@ -1,6 +1,7 @@
--- Keys with their lines, each with those before it, under a function from the bytes of a key to its answer.
-use Rattle.std.specs.Prelude.{ℕ, ◌==◌, List, [], ◌∷◌, ◌++◌, Option, None, Some, Bool, false}
+-- Answers that an earlier key has, under a function from the bytes of a key to its answer.
+use Rattle.std.specs.Prelude.{ℕ, ◌==◌, List, [], Option, None, Some, Bool, false}
 use Rattle.std.specs.List.{list_any}
+use Rattle.cm_query_batch.specs.Earlier.{with_earlier}
 
 -- the answer is there and is this number
 abbrev pub is_number : ℕ → Option ℕ → Bool
@@ -11,11 +12,6 @@ is_number v (Some w) = w == v
 abbrev pub is_repeated : (List ℕ → Option ℕ) → List (ℕ × List ℕ) → Option ℕ → Bool
 is_repeated f earlier None = false
 is_repeated f earlier (Some v) = list_any (λ k. is_number v (f k.1)) earlier
-
--- what each key gives with all keys before it, some of which are given first
-abbrev pub with_earlier : {A : Type 0} → (List (ℕ × List ℕ) → ℕ × List ℕ → A) → List (ℕ × List ℕ) → List (ℕ × List ℕ) → List A
-with_earlier give earlier [] = []
-with_earlier give earlier (k ∷ keys) = give earlier k ∷ with_earlier give (earlier ++ k ∷ []) keys
 
 -- whether the answer of each key is that of an earlier one
 abbrev pub repeats_of : (List ℕ → Option ℕ) → List (ℕ × List ℕ) → List Bool

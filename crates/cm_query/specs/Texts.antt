@@ -2,7 +2,8 @@
 use Rattle.std.specs.Prelude.{ℕ, List, [], ◌∷◌, Option, None, Some, Bool, if◌then◌else◌, codes, decimal}
 use Rattle.std.specs.List.{flat_map}
 use Rattle.cm_io.specs.Writing.{joined}
-use Rattle.cm_query.specs.Repeats.{is_repeated, with_earlier}
+use Rattle.cm_query.specs.Repeats.{is_repeated}
+use Rattle.cm_query_batch.specs.Earlier.{with_earlier}
 
 -- the line of a key with an answer: the key, an arrow, the answer in decimal, and the byte that ends a line
 abbrev pub line_of : ℕ → List ℕ → Option ℕ → List ℕ

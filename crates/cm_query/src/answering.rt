@@ -4,18 +4,17 @@ ghost use Rattle.std.specs.Option.{ForSome};
 ghost use Rattle.cm_io.specs.States.{IsSent};
 ghost use Rattle.cm_io.specs.Noting.{Noted};
 ghost use Rattle.cm_io.specs.Writing.{then_bytes};
-ghost use Rattle.cm_query.specs.Stops.{HasQueryCause, HasQueryFailure, IsReached, is_usable_after, StopsAt, TextAfter, noted_keys};
+ghost use Rattle.cm_query_batch.specs.Stops.{HasQueryCause, HasQueryFailure, IsReached, is_usable_after, StopsAt, TextAfter, noted_keys};
 ghost use Rattle.cm_query.specs.Tallies.{tally_of};
 ghost use Rattle.cm_query.specs.Texts.{text_of, notes_of};
 
-use crate::fault::QueryFault;
 use crate::marks::mark;
 use crate::tally::Tally;
 use crate::writing::{note_key, write_line};
 use cm_algo_scheme::Answers;
 use cm_bits::{Bits, Cells};
 use cm_io::{Failed, KeyBuf, KeyPass, Notes, Sink};
-use cm_query_batch::Batch;
+use cm_query_batch::{Batch, QueryFault};
 use itoa::Buffer;
 use std::alloc::Global;
 
@@ -64,7 +63,7 @@ pub fn query<A: Answers, P: KeyPass, O: Sink, E: Sink>(
     // A failure over known keys. After `Write` the pass may have yielded more keys than were reached.
     ensures stops { IfErr result (λ fault. ForSome (P.told keys.old) (λ told. StopsAt told (P.place keys.new) fault)) }
     ensures after { IfErr result (λ fault. ForSome (P.told keys.old) (λ told. (reached : ℕ) × IsReached (P.place keys.new) reached fault
-        × TextAfter end (A.answer_of function.now) told.keys reached (O.state out.old).written (O.state out.new).written fault
+        × TextAfter (text_of end (A.answer_of function.now)) told.keys reached (O.state out.old).written (O.state out.new).written fault
         × Noted notes.old notes.new (E.state err.old) (E.state err.new) (notes_of (A.answer_of function.now) (noted_keys told.keys reached fault)))) }
 {
     let Ok(mut marks) = Bits::zeroed(alloc, function.span(), 2) else {

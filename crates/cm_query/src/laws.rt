@@ -2,10 +2,10 @@
 ghost use Rattle.std.specs.Prelude.{◌≡◌, ◌+◌, ◌↔◌, ℕ, List, [], take, Option, codes};
 ghost use Rattle.cm_io.specs.Writing.{then_bytes};
 ghost use Rattle.cm_query.specs.Examples.{zero, known_a, two_empty, a_between};
-ghost use Rattle.cm_query.specs.Stops.{TextAfter};
+ghost use Rattle.cm_query_batch.specs.Stops.{TextAfter};
 ghost use Rattle.cm_query.specs.Tallies.{tally_of};
 ghost use Rattle.cm_query.specs.Texts.{notes_of, text_of};
-ghost use Rattle.cm_query.specs.declared.fault.QueryFault.{QueryFault};
+ghost use Rattle.cm_query_batch.specs.declared.fault.QueryFault.{QueryFault};
 
 /// There is a note exactly if the tally has a key that is repeated or unknown.
 pub fn noted_exactly()
@@ -15,7 +15,7 @@ pub fn noted_exactly()
 /// After a failure out has a prefix of the text of all keys.
 pub fn front_of_text()
     ensures { (end : ℕ) (f : List ℕ → Option ℕ) (keys : List (ℕ × List ℕ)) (given : ℕ) (old new : Option (List ℕ)) (fault : QueryFault)
-        → TextAfter end f keys given old new fault → (n : ℕ) × (new ≡ then_bytes old (take n (text_of end f keys))) }
+        → TextAfter (text_of end f) keys given old new fault → (n : ℕ) × (new ≡ then_bytes old (take n (text_of end f keys))) }
 {}
 
 /// Two empty keys under a function that answers every key with 0; and `a` at lines 1 and 12 beside two unknown keys.

@@ -2,7 +2,6 @@
 #![tactic(auto)]
 
 mod answering;
-mod fault;
 mod laws;
 mod marks;
 mod summing;
@@ -10,7 +9,7 @@ mod tally;
 mod writing;
 
 pub use crate::answering::query;
-pub use crate::fault::QueryFault;
 pub use crate::laws::{front_of_text, noted_exactly, worked_rows};
 pub use crate::summing::sum_answers;
 pub use crate::tally::Tally;
+pub use cm_query_batch::QueryFault;

@@ -2,9 +2,9 @@
 ghost use Rattle.std.specs.Prelude.{◌≡◌, IfOk, IfErr, IsTrue, Some};
 ghost use Rattle.std.specs.Option.{ForSome};
 ghost use Rattle.cm_io.specs.Passes.{HasKeyCause};
-ghost use Rattle.cm_query.specs.Stops.{StopsAt};
+ghost use Rattle.cm_query_batch.specs.Stops.{StopsAt};
 ghost use Rattle.cm_query.specs.Sums.{answer_sum};
-ghost use Rattle.cm_query.specs.declared.fault.QueryFault.TheVariants.{Key};
+ghost use Rattle.cm_query_batch.specs.declared.fault.QueryFault.TheVariants.{Key};
 
 use cm_algo_scheme::Answers;
 use cm_io::{KeyBuf, KeyFault, KeyPass, MAX_KEYS};

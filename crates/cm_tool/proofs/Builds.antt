@@ -9,17 +9,17 @@ use Rattle.cm_io.specs.declared.key_pass.KeyFault.TheVariants as key_fault
 use Rattle.cm_keys.specs.NumberingLaws.{FollowsKeys}
 use Rattle.cm_spec.specs.declared.limits.TheConstants.{MAX_KEYS}
 use Rattle.cm_tool_builds.specs.Results.{FailureReport}
-use Rattle.cm_tool_building.specs.Builds as driver
-use Rattle.cm_tool_building.specs.Builds.{outcome_by, outcome_of, outcome_over}
-use Rattle.cm_tool_building.specs.Does as does
-use Rattle.cm_tool_building.specs.Does.{Builds, IsEnd}
+use Rattle.cm_tool_building.specs.Building as driver
+use Rattle.cm_tool_building.specs.Building.{outcome_by, outcome_of, outcome_over}
+use Rattle.cm_tool_building.specs.Builds as does
+use Rattle.cm_tool_building.specs.Builds.{IsEnd}
 use Rattle.cm_tool_files.specs.declared.storing.FuncFile.{FuncFile}
 use Rattle.cm_tool_stops.specs.Ends.{Says}
 use Rattle.cm_tool_stops.specs.declared.stop.Stop.{Stop}
 use Rattle.cm_tool.specs.Building.{building_of, verdict_by, verdict_over}
 use Rattle.cm_tool.specs.Jobs.{result_of}
 use Rattle.cm_tool.specs.Outcome as outcomes
-use Rattle.cm_tool.specs.Outcome.{Outcome, build_over, built_or_refused, job_outcome, keys_in, reporting, saving}
+use Rattle.cm_tool.specs.Outcome.{Outcome, build_over, built_or_refused, job_outcome, keys_in, saving}
 use Rattle.cm_tool.specs.Run.{IsBuildMessage, IsCored, IsEmptied, IsUnfinished, KeysSpilled, Reaches, SavedNumbers, TookFirst}
 use Rattle.cm_tool.proofs.Outcomes.{built_is, message_is}
 use Rattle.cm_words.specs.declared.jobs.BuildJob.{BuildJob}

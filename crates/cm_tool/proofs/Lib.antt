@@ -1,4 +1,3 @@
-mod Naming
 mod Asks
 mod Makes
 mod Clauses

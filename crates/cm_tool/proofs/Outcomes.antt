@@ -9,14 +9,14 @@ use Rattle.cm_io.specs.WritingLaws.{then_nothing}
 use Rattle.cm_tool_building.specs.Leaves.{IsOutCause}
 use Rattle.cm_tool_building.specs.Makes as makes
 use Rattle.cm_tool_stops.specs.Ends.{Says, message_of, status_of}
-use Rattle.cm_tool_stops.specs.declared.built.Summary.{Summary}
+use Rattle.cm_tool.specs.declared.built.Summary.{Summary}
 use Rattle.cm_tool_stops.specs.declared.stop.Stop.TheVariants.{Memory, Read, Write, WriteOut, Refused, Changed, Spill, SpillDamaged, NoKeys, TooLong, TooMany}
 use Rattle.cm_tool_stops.specs.declared.stop.Stop.{Stop}
 use Rattle.cm_tool.specs.Ending.{Outcome}
 use Rattle.cm_tool.specs.Run.{IsBuildMessage}
 use Rattle.cm_tool.specs.Said.{built_message}
 use Rattle.cm_tool.specs.Stops.{HasStopForm}
-use Rattle.cm_tool.proofs.Naming.{naming}
+use Rattle.cm_tool.specs.Said.{naming}
 use Rattle.cm_words.specs.declared.jobs.BuildJob.{BuildJob}
 
 pub nothing_said : (err : SinkState) → Says err err []
@@ -31,7 +31,7 @@ written_at files path bytes =
     map.get-insert nat_list_cmp_total files path bytes path ∙ ap (λ (b : Bool). cond b (Some bytes) (map.get files path)) ((eq_by_cmp_equiv nat_list_cmp_total).refl path)
 
 -- the message of a build that stopped goes with its status
-pub message_is : (job : BuildJob) (before now : ℕ) (stop : Stop) → makes.HasStopForm (HasStopForm job.algorithm) stop → IsOutCause before now stop → IsBuildMessage job before now (status_of stop) (message_of (naming job.keys job.function) job.dir stop)
+pub message_is : (job : BuildJob) (before now : ℕ) (stop : Stop) → makes.IsAllowedStop (HasStopForm job.algorithm) stop → IsOutCause before now stop → IsBuildMessage job before now (status_of stop) (message_of (naming job.keys job.function) job.dir stop)
 message_is job before now Memory differ count = record { done = λ e. absurd (omega arith); cored = λ e. absurd (omega arith); read = λ e. absurd (omega arith); write = λ e. absurd (omega arith); memory = λ e. refl; changed = λ e. absurd (omega arith); keys = λ e. absurd (omega arith) }
 message_is job before now Read differ count = record { done = λ e. absurd (omega arith); cored = λ e. absurd (omega arith); read = λ e. refl; write = λ e. absurd (omega arith); memory = λ e. absurd (omega arith); changed = λ e. absurd (omega arith); keys = λ e. absurd (omega arith) }
 message_is job before now Write differ count = record { done = λ e. absurd (omega arith); cored = λ e. absurd (omega arith); read = λ e. absurd (omega arith); write = λ e. inl (count, refl); memory = λ e. absurd (omega arith); changed = λ e. absurd (omega arith); keys = λ e. absurd (omega arith) }

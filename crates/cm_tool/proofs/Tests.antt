@@ -19,9 +19,9 @@ use Rattle.cm_io.specs.declared.key_pass.KeyFault.{KeyFault}
 use Rattle.cm_io.specs.declared.key_pass.KeyFault.TheVariants as key_fault
 use Rattle.cm_io.specs.declared.key_pass.TheConstants.{MAX_KEY_LEN}
 use Rattle.cm_spec.specs.declared.limits.TheConstants.{MAX_KEYS}
-use Rattle.cm_query.specs.Stops.{StopsAt}
+use Rattle.cm_query_batch.specs.Stops.{StopsAt}
 use Rattle.cm_query.specs.Sums.{answer_sum}
-use Rattle.cm_query.specs.declared.fault.QueryFault.TheVariants.{Key}
+use Rattle.cm_query_batch.specs.declared.fault.QueryFault.TheVariants.{Key}
 use Rattle.cm_tool_stops.specs.Ends.{Says, message_of, status_of}
 use Rattle.cm_tool.specs.Said.{seed_failure_message}
 use Rattle.cm_tool_stops.specs.declared.stop.Stop.TheVariants.{Memory, Read, Write, WriteOut, Refused, Changed, Spill, SpillDamaged, NoKeys, TooLong, TooMany}
@@ -41,7 +41,7 @@ use Rattle.cm_tool_builds.specs.Results.{FailureReport}
 use Rattle.cm_tool_builds.specs.declared.fault.FuncFault.{FuncFault}
 use Rattle.cm_tool_builds.specs.declared.fault.FuncFault.TheVariants as func_fault
 use Rattle.cm_tool_builds.specs.declared.plan.Plan.{Plan}
-use Rattle.cm_tool.proofs.Naming.{naming}
+use Rattle.cm_tool.specs.Said.{naming}
 use Rattle.cm_tool.proofs.Outcomes.{nothing_said}
 use Rattle.cm_words.specs.declared.jobs.Job.TheVariants.{Test}
 use Rattle.cm_words.specs.declared.jobs.TestJob.{TestJob}

@@ -15,7 +15,7 @@ use Rattle.cm_tool_stops.specs.declared.stop.UpgradeStop.{UpgradeStop}
 use Rattle.cm_tool_stops.specs.declared.stop.UpgradeStop.TheVariants.{Memory, Read, BadDump, Write}
 use Rattle.cm_tool.specs.Outcome.{Outcome, job_outcome, refusal, upgrade_outcome, upgrade_over, upgrading}
 use Rattle.cm_tool.specs.Run.{IsEmptiedByUpgrade, IsHalfUpgraded, IsUpgradeMessage, LacksFile, Reaches}
-use Rattle.cm_tool.proofs.Naming.{naming}
+use Rattle.cm_tool.specs.Said.{naming}
 use Rattle.cm_tool.proofs.Outcomes.{none_some}
 use Rattle.cm_words.specs.declared.jobs.Job.TheVariants.{Upgrade}
 use Rattle.cm_words.specs.declared.jobs.UpgradeJob.{UpgradeJob}

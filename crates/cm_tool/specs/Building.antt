@@ -2,7 +2,7 @@
 use Rattle.std.specs.Prelude.{ℕ, List, [], ◌∷◌, Option, None, Some, Result, Ok, Err}
 use Rattle.cm_dump.specs.Dumps.{dump_of}
 use Rattle.cm_func.specs.Functions.{IsFunction}
-use Rattle.cm_func.specs.declared.failure.SeedFailure.TheVariants.{NoSplit}
+use Rattle.cm_witness_gather.specs.declared.failure.SeedFailure.TheVariants.{NoSplit}
 use Rattle.cm_func.specs.declared.function.Func.{Func}
 use Rattle.cm_io.specs.Passes.{Told}
 use Rattle.cm_io.specs.declared.key_pass.KeyFault.{KeyFault}
@@ -13,18 +13,18 @@ use Rattle.cm_tool_builds.specs.Seeds.{NoneWorks}
 use Rattle.cm_tool_builds.specs.Spills.{HasSpilled}
 use Rattle.cm_tool_builds.specs.declared.fault.FuncFault.{FuncFault}
 use Rattle.cm_tool_builds.specs.declared.fault.FuncFault.TheVariants as func_fault
-use Rattle.cm_tool_building.specs.Builds.{Building}
+use Rattle.cm_tool_building.specs.Building.{Building}
 use Rattle.cm_tool_building.specs.Leaves as leaves
 use Rattle.cm_tool_building.specs.Makes.{stop_from_key}
 use Rattle.cm_tool_building.specs.Meanings.{Meaning, Refusal}
 use Rattle.cm_tool_building.specs.declared.fault.Fault.{Fault}
 use Rattle.cm_tool_building.specs.declared.fault.Fault.TheVariants.{Memory, NoKeys, Refused, Key, Changed, Spill, SpillDamaged}
 use Rattle.cm_tool_files.specs.declared.storing.FuncFile.{FuncFile}
-use Rattle.cm_tool_stops.specs.Summaries.{summary_of}
+use Rattle.cm_tool.specs.Summaries.{summary_of}
 use Rattle.cm_tool_stops.specs.declared.stop.Stop.{Stop}
 use Rattle.cm_tool_stops.specs.declared.stop.Stop.TheVariants as stops
 use Rattle.cm_tool.specs.Jobs.{result_of, seeds_tried}
-use Rattle.cm_tool.specs.Said.{built_message, cmph}
+use Rattle.cm_tool.specs.Said.{built_message, naming}
 use Rattle.cm_tool.specs.Stops.{HasStopForm}
 use Rattle.cm_tool.specs.declared.reports.FuncReport.{FuncReport}
 use Rattle.cm_tool.specs.declared.reports.FuncReport.TheVariants.{Core, Overfull}
@@ -85,7 +85,7 @@ meaning_of job = record {
 -- the build of a job
 abbrev pub building_of : BuildJob → Building FuncFile
 building_of job = record {
-  named = record { program = cmph; keys = job.keys; function = job.function };
+  named = naming job.keys job.function;
   dir = job.dir;
   first = job.first;
   end = job.end;

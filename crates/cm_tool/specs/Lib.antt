@@ -2,10 +2,13 @@ pub mod Jobs
 pub mod Stops
 pub mod Spills
 pub mod Said
+pub mod Summaries
+pub mod Texts
 pub mod Ending
 pub mod Tested
 pub mod Outcome
 pub mod TestEnds
 pub mod Building
+pub mod Asking
 pub mod Run
 pub mod Runs

@@ -11,13 +11,12 @@ use Rattle.cm_func.specs.declared.function.Func.{Func}
 use Rattle.cm_dump_items.specs.declared.fault.LoadFault.{LoadFault}
 use Rattle.cm_io.specs.Files.{Files, file_at}
 use Rattle.cm_io.specs.declared.key_pass.KeyFault.{KeyFault}
-use Rattle.cm_io.specs.declared.key_pass.KeyFault.TheVariants.{Read, TooLong, TooMany}
 use Rattle.cm_query.specs.Texts.{notes_of, text_of}
-pub use Rattle.cm_tool_files.specs.Asked.{keys_in}
+pub use Rattle.cm_keys.specs.Lines.{keys_in}
 use Rattle.cm_tool_files.specs.Upgrades.{upgraded}
-use Rattle.cm_tool.specs.Said.{bad_dump, built_message, cannot_read, line_too_long, no_keys, too_many_keys, usage_message}
-use Rattle.cm_tool_stops.specs.Summaries.{summary_of}
-use Rattle.cm_tool_stops.specs.Texts.{help_text, version_text}
+use Rattle.cm_tool.specs.Said.{bad_dump, built_message, fault_message, no_keys, usage_message}
+use Rattle.cm_tool.specs.Summaries.{summary_of}
+use Rattle.cm_tool.specs.Texts.{help_text, version_text}
 pub use Rattle.cm_tool.specs.Ending.{Outcome, printing, refusal, reporting}
 use Rattle.cm_tool.specs.Tested.{test_outcome}
 use Rattle.cm_tool_builds.specs.Results.{FailureReport}
@@ -29,12 +28,6 @@ use Rattle.cm_words.specs.declared.jobs.QueryJob.{QueryJob}
 use Rattle.cm_words.specs.declared.jobs.UpgradeJob.{UpgradeJob}
 use Rattle.cm_words.specs.declared.jobs.Job.{Job}
 use Rattle.cm_words.specs.declared.jobs.Job.TheVariants.{Help, Version, Build, Query, Test, Upgrade}
-
--- what is said of the fault at the end of the keys
-abbrev pub fault_message : List ℕ → KeyFault → List ℕ
-fault_message file Read = cannot_read file
-fault_message file (TooLong line) = line_too_long file line
-fault_message file TooMany = too_many_keys file
 
 -- the function file holds the dump of a function
 abbrev pub saving : BuildJob → Files → Func → Outcome

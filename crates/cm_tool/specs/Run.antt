@@ -17,14 +17,16 @@ use Rattle.cm_io.specs.Files.{Files, file_at, with_file}
 use Rattle.cm_io.specs.States.{Outside}
 use Rattle.cm_io.specs.Writing.{then_bytes}
 use Rattle.cm_spec.specs.Lists.{has}
-use Rattle.cm_tool_files.specs.Asked.{AskedPart, GotNothing, Spells, question_of}
+use Rattle.cm_tool_asking.specs.Leaves.{AskedPart, GotNothing, Wrote, wrote}
+use Rattle.cm_tool_files.specs.Asked.{Spells}
+use Rattle.cm_tool.specs.Asking.{question_of}
 use Rattle.cm_tool_building.specs.Stores.{IsPart}
 use Rattle.cm_tool_stops.specs.Ends.{IsPrintMessage, Says}
 use Rattle.cm_tool.specs.Said.{bad_dump, built_message, cmph, out_of_memory, cannot_read, cannot_use_spill, cannot_write, cannot_write_out, keys_changed, no_keys, line_too_long, seed_failure_message, spill_damaged, too_many_keys, usage_message}
 pub use Rattle.cm_tool_stops.specs.Ending.{LacksFile, Reaches}
-use Rattle.cm_tool_stops.specs.Texts.{help_text, version_text}
-use Rattle.cm_tool_stops.specs.declared.built.Summary.{Summary}
-use Rattle.cm_func.specs.declared.failure.SeedFailure.{SeedFailure}
+use Rattle.cm_tool.specs.Texts.{help_text, version_text}
+use Rattle.cm_tool.specs.declared.built.Summary.{Summary}
+use Rattle.cm_witness_gather.specs.declared.failure.SeedFailure.{SeedFailure}
 use Rattle.cm_tool_builds.specs.Faults.{IsChangeBy, IsSeedFailureBy, UsesSpill}
 use Rattle.cm_tool.specs.Jobs.{seeds_tried}
 use Rattle.cm_tool.specs.Outcome.{job_outcome, keys_in, reporting, saving, upgrading}
@@ -190,13 +192,13 @@ pub record IsHalfUpgraded (old new : Outside) (files : Files) (job : UpgradeJob)
 
 -- A file of a query could not be read. It is the function file, and neither out nor err got anything of an answer; or it is the keys
 -- file, after the first keys were answered, with their notes and with nothing of a further line. The message names the file.
-abbrev pub StoppedReading : Files → Option (List ℕ) → Option (List ℕ) → List ℕ → List ℕ → QueryJob → Type 0
-StoppedReading files old new notes text job = (GotNothing old new notes × (text ≡ cannot_read job.function))
-    ⊎ ((f : Func) × (given : ℕ) × Spells files job.function f × AskedPart (question_of (answer_by f) files job) old new notes given 0 × (text ≡ cannot_read job.keys))
+abbrev pub StoppedReading : Files → Wrote → List ℕ → QueryJob → Type 0
+StoppedReading files w text job = (GotNothing w × (text ≡ cannot_read job.function))
+    ⊎ ((f : Func) × (given : ℕ) × Spells files job.function f × AskedPart (question_of (answer_by f) files job) w given 0 × (text ≡ cannot_read job.keys))
 
 -- Out could not be written, after the first keys were answered, with their notes. It may have a prefix of the line of one key more.
-abbrev pub StoppedWriting : Files → Option (List ℕ) → Option (List ℕ) → List ℕ → List ℕ → QueryJob → Type 0
-StoppedWriting files old new notes text job = (f : Func) × (given : ℕ) × (rest : ℕ) × Spells files job.function f × AskedPart (question_of (answer_by f) files job) old new notes given rest × (text ≡ cannot_write_out)
+abbrev pub StoppedWriting : Files → Wrote → List ℕ → QueryJob → Type 0
+StoppedWriting files w text job = (f : Func) × (given : ℕ) × (rest : ℕ) × Spells files job.function f × AskedPart (question_of (answer_by f) files job) w given rest × (text ≡ cannot_write_out)
 
 -- what a build could not write: the function file, or by BRZ the spill, or out, whose count rose
 abbrev pub IsUnwritten : BuildJob → ℕ → ℕ → List ℕ → Type 0
@@ -240,9 +242,9 @@ pub record IsCutShort (old new : Outside) (files : Files) (status : ℕ) (job : 
   pub notes : List ℕ
   pub text : List ℕ
   pub says : Says old.err new.err (notes ++ text)
-  pub read : status ≡ 4 → StoppedReading files old.out.written new.out.written notes text job
-  pub write : status ≡ 5 → StoppedWriting files old.out.written new.out.written notes text job
-  pub memory : status ≡ 6 → GotNothing old.out.written new.out.written notes × (text ≡ out_of_memory)
+  pub read : status ≡ 4 → StoppedReading files (wrote old.out.written new.out.written notes) text job
+  pub write : status ≡ 5 → StoppedWriting files (wrote old.out.written new.out.written notes) text job
+  pub memory : status ≡ 6 → GotNothing (wrote old.out.written new.out.written notes) × (text ≡ out_of_memory)
 
 -- the message of arguments that ask for no job
 pub record IsUsageMessage (fault : UsageFault) (status : ℕ) (text : List ℕ) : Type 0 where

@@ -1,9 +1,15 @@
--- What `cmph` says on err: the messages of `cm_tool_stops` with its name.
-use Rattle.std.specs.Prelude.{ℕ, List, codes}
+-- What `cmph` says on err: the messages of `cm_tool_stops` with its name, and what is said of a function that was built.
+use Rattle.std.specs.Prelude.{ℕ, List, [], ◌∷◌, codes, decimal, if◌then◌else◌}
+use Rattle.cm_algo_names.specs.Names.{name_of}
+use Rattle.cm_algo_names.specs.declared.algorithm.Algorithm.{Algorithm}
+use Rattle.cm_algo_names.specs.declared.algorithm.Algorithm.TheVariants.{Brz}
 use Rattle.cm_dump_items.specs.declared.fault.LoadFault.{LoadFault}
-use Rattle.cm_func.specs.declared.failure.SeedFailure.{SeedFailure}
+use Rattle.cm_witness_gather.specs.declared.failure.SeedFailure.{SeedFailure}
 use Rattle.cm_tool_stops.specs.Messages as messages
-use Rattle.cm_tool_stops.specs.declared.built.Summary.{Summary}
+use Rattle.cm_tool_stops.specs.Named.{Named}
+use Rattle.cm_io.specs.Writing.{joined}
+use Rattle.cm_io.specs.declared.key_pass.KeyFault.{KeyFault}
+use Rattle.cm_tool.specs.declared.built.Summary.{Summary}
 use Rattle.cm_words_arguments.specs.declared.fault.UsageFault.{UsageFault}
 use Rattle.cm_words.specs.declared.jobs.BuildJob.{BuildJob}
 
@@ -11,11 +17,15 @@ use Rattle.cm_words.specs.declared.jobs.BuildJob.{BuildJob}
 abbrev pub cmph : List ℕ
 cmph = codes "cmph"
 
+-- what messages name: the program, and the paths of a keys file and of a function file
+abbrev pub naming : List ℕ → List ℕ → Named
+naming keys function = record { program = cmph; keys = keys; function = function }
+
 abbrev pub out_of_memory : List ℕ
 out_of_memory = messages.out_of_memory cmph
 
 abbrev pub usage_message : UsageFault → List ℕ
-usage_message fault = messages.usage_message cmph fault
+usage_message fault = messages.usage_message cmph (codes "; cmph -h shows the usage") fault
 
 abbrev pub seed_failure_message : SeedFailure → List ℕ
 seed_failure_message failure = messages.seed_failure_message cmph failure
@@ -50,5 +60,18 @@ line_too_long file line = messages.line_too_long cmph file line
 abbrev pub too_many_keys : List ℕ → List ℕ
 too_many_keys file = messages.too_many_keys cmph file
 
+-- what is said of the fault at the end of the keys
+abbrev pub fault_message : List ℕ → KeyFault → List ℕ
+fault_message file fault = messages.fault_message cmph file fault
+
+-- what is counted beside the keys
+abbrev pub counted : Algorithm → List ℕ
+counted Brz = codes " buckets "
+counted algorithm = codes " cells "
+
+-- what is said of a function that was built, if that is asked for
+abbrev pub built : BuildJob → Summary → List ℕ
+built job s = joined (cmph ∷ codes ": " ∷ name_of job.algorithm ∷ codes " keys " ∷ decimal s.keys ∷ counted job.algorithm ∷ decimal s.cells ∷ codes " seed " ∷ decimal s.seed ∷ codes "\n" ∷ [])
+
 abbrev pub built_message : BuildJob → Summary → List ℕ
-built_message job s = messages.built_message cmph job s
+built_message job s = if job.verbose then built job s else []

@@ -8,7 +8,7 @@ use Rattle.cm_io.specs.States.{Outside, SinkState}
 use Rattle.cm_io.specs.Writing.{then_bytes}
 use Rattle.cm_tool_stops.specs.Ends.{Says}
 use Rattle.cm_tool.specs.Said.{cannot_use_spill, cannot_write_out, keys_changed, line_too_long, no_keys, out_of_memory, seed_failure_message, spill_damaged, too_many_keys}
-use Rattle.cm_func.specs.declared.failure.SeedFailure.{SeedFailure}
+use Rattle.cm_witness_gather.specs.declared.failure.SeedFailure.{SeedFailure}
 use Rattle.cm_tool_stops.specs.declared.stop.Stop.TheVariants.{Memory, Read, Refused, Spill, Write, WriteOut}
 use Rattle.cm_tool_stops.specs.declared.stop.Stop.{Stop}
 use Rattle.cm_tool_builds.specs.Faults.{IsSeedFailureBy, UsesSpill, shown_core, shown_overfull}

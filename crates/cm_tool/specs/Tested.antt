@@ -13,7 +13,7 @@ use Rattle.cm_io.specs.Files.{Files}
 use Rattle.cm_io.specs.Passes.{Told}
 use Rattle.cm_io.specs.Writing.{joined}
 use Rattle.cm_query.specs.Sums.{answer_sum}
-use Rattle.cm_tool_files.specs.Asked.{keys_in}
+use Rattle.cm_keys.specs.Lines.{keys_in}
 use Rattle.cm_tool.specs.Ending.{Outcome, printing, reporting}
 use Rattle.cm_tool.specs.Jobs.{seeds_of}
 use Rattle.cm_tool_builds.specs.Results.{FailureReport, result_by}

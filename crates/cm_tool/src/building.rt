@@ -10,6 +10,7 @@ ghost use Rattle.cm_tool.specs.Run.{IsBuildMessage, IsCored, IsEmptied, IsStatus
 ghost use Rattle.cm_words.specs.Limits.{IsBuild};
 ghost use Rattle.cm_words.specs.declared.jobs.Job.TheVariants.{Build};
 
+use crate::built::{say_built, sum_up};
 use crate::laws::saved_numbers;
 use crate::plan::plan_of;
 use crate::program::PROGRAM;
@@ -20,7 +21,7 @@ use cm_keys::numbering;
 use cm_tool_building::{BuildFiles, Builder, Fault, build};
 use cm_tool_builds::func_of;
 use cm_tool_files::FuncFile;
-use cm_tool_stops::{Names, say_built, sum_up};
+use cm_tool_stops::Names;
 use cm_words::BuildJob;
 use std::alloc::Global;
 
@@ -67,7 +68,7 @@ impl Builder for FuncBuilder {
     }
 
     fn say<E: Sink>(&self, made: &FuncFile, err: &mut E) {
-        say_built(PROGRAM, &self.job, sum_up(&made.func), err);
+        say_built(&self.job, sum_up(&made.func), err);
     }
 }
 

@@ -2,16 +2,18 @@
 #![tactic(auto)]
 
 mod building;
+mod built;
 mod laws;
 mod plan;
 mod program;
 mod querying;
 mod reports;
 mod testing;
+mod texts;
 mod top;
 mod upgrading;
 
 pub use crate::program::report_no_memory;
+pub use crate::texts::{print_help, print_version};
 pub use crate::top::run;
 pub use cm_keys_made::MadeKeys;
-pub use cm_tool_stops::{print_help, print_version};

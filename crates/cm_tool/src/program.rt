@@ -9,6 +9,9 @@ use cm_io::Sink;
 /// The name of the program, with which each of its messages begins.
 pub(crate) const PROGRAM: &str = "cmph";
 
+/// What follows the message for arguments that `clap` refuses.
+pub(crate) const HINT: &str = "; cmph -h shows the usage";
+
 /// Says that memory ran out before the arguments were read, and returns the status of that.
 pub fn report_no_memory<E: Sink>(err: &mut E) -> u8
     ensures status { result ≡ 6 }

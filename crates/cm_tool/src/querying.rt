@@ -1,5 +1,5 @@
 //! Queries.
-ghost use Rattle.std.specs.Prelude.{◌≡◌, ◌≢◌, ◌<◌, ◌≤◌, ◌^◌, ◌⊎◌, ◌↔◌, ◌+◌, ◌++◌, ℕ, List, Ok, Err, None};
+ghost use Rattle.std.specs.Prelude.{◌≡◌, ◌≢◌, ◌<◌, ◌^◌, ◌⊎◌, ◌↔◌, ◌++◌, ℕ, List, Ok, None};
 ghost use Rattle.std.specs.Option.{ForSome};
 ghost use Rattle.cm_io.specs.States.{IsSent, outside};
 ghost use Rattle.cm_tool_stops.specs.Ends.{Says};
@@ -9,10 +9,11 @@ ghost use Rattle.cm_words.specs.Limits.{IsQuery};
 ghost use Rattle.cm_words.specs.declared.jobs.Job.TheVariants.{Query};
 
 use crate::program::PROGRAM;
-use cm_io::{Disk, Notes, Sink};
-use cm_query::{Tally, noted_exactly};
-use cm_tool_files::answer_file;
-use cm_tool_stops::{Names, report_query};
+use cm_io::{Disk, Sink};
+use cm_query::noted_exactly;
+use cm_tool_asking::{AskFiles, ask};
+use cm_tool_files::AskedFunc;
+use cm_tool_stops::Names;
 use cm_words::QueryJob;
 use std::alloc::Global;
 
@@ -42,33 +43,16 @@ pub(crate) fn run_query<D: Disk, O: Sink, E: Sink>(
         IsCutShort (outside (D.state disk.old) (O.state out.old) (E.state err.old)) (outside (D.state disk.new) (O.state out.new) (E.state err.new)) files result job.now) }
     ensures err { (notes : List ℕ) × (text : List ℕ) × IsQueryMessage job.now result text × Says (E.state err.old) (E.state err.new) (notes ++ text) }
 {
-    let mut notes = Notes::new();
-    match answer_file(alloc, job, disk, out, err, &mut notes) {
-        Ok(tally) => {
-            // A law, for the proof alone.
-            noted_exactly();
-            noted_status(tally)
-        }
-        Err(stop) => {
-            let names = Names {
-                program: PROGRAM,
-                keys: job.keys.as_str(),
-                function: job.function.as_str(),
-            };
-            report_query(stop, &names, err, &mut notes)
-        }
-    }
-}
-
-/// The status of a query that came to its end.
-fn noted_status(tally: Tally) -> u8
-    ensures none { tally.repeated + tally.unknown ≡ 0 → result ≡ 0 }
-    ensures some { tally.repeated + tally.unknown ≢ 0 → result ≡ 1 }
-    ensures within { result ≤ 1 }
-{
-    if tally.repeated == 0 && tally.unknown == 0 {
-        0
-    } else {
-        1
-    }
+    // A law, for the proof alone.
+    noted_exactly();
+    let files = AskFiles {
+        names: Names {
+            program: PROGRAM,
+            keys: job.keys.as_str(),
+            function: job.function.as_str(),
+        },
+        first: job.first,
+        end: job.end,
+    };
+    ask::<AskedFunc, D, O, E>(alloc, &files, disk, out, err)
 }

@@ -4,11 +4,10 @@ ghost use Rattle.cm_tool_builds.specs.Faults.{seed_failure_of};
 ghost use Rattle.cm_tool.specs.Building.{fault_from};
 
 use cm_brz::write_overfull;
-use cm_func::SeedFailure;
 use cm_io::{Failed, Sink};
 use cm_tool_building::{Fault, Saved};
 use cm_tool_builds::FuncFault;
-use cm_witness_gather::{Certificate, Pair};
+use cm_witness_gather::{Certificate, Pair, SeedFailure};
 
 /// The report on keys that have no function.
 #[derive(Drop)]

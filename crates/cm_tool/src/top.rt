@@ -4,12 +4,13 @@ ghost use Rattle.cm_io.specs.States.{outside};
 ghost use Rattle.cm_tool.specs.Runs.{Runs};
 
 use crate::building::run_build;
-use crate::program::PROGRAM;
+use crate::program::{HINT, PROGRAM};
 use crate::querying::run_query;
 use crate::testing::run_test;
+use crate::texts::{print_help, print_version};
 use crate::upgrading::run_upgrade;
 use cm_io::{Disk, Sink};
-use cm_tool_stops::{end_of_text, print_help, print_version, report_usage};
+use cm_tool_stops::{end_of_text, report_usage};
 use cm_words::{Job, read_words};
 use std::alloc::Global;
 
@@ -41,6 +42,6 @@ pub fn run<D: Disk, O: Sink, E: Sink>(
         Ok(Job::Query(job)) => run_query(alloc, &job, disk, out, err),
         Ok(Job::Test(job)) => run_test(alloc, &job, disk, out, err),
         Ok(Job::Upgrade(job)) => run_upgrade(alloc, &job, disk, err),
-        Err(fault) => report_usage(PROGRAM, fault, err),
+        Err(fault) => report_usage(PROGRAM, HINT, fault, err),
     }
 }

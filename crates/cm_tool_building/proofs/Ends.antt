@@ -4,10 +4,10 @@ use Rattle.cm_io.specs.Files.{Files, file_at, with_file}
 use Rattle.cm_io.specs.States.{Outside}
 use Rattle.cm_io.specs.WritingLaws.{then_nothing}
 use Rattle.cm_spec.specs.Lists.{has}
-use Rattle.cm_tool_building.specs.Builds.{Building, keys_of, outcome_by, outcome_of, refusing, saving}
-use Rattle.cm_tool_building.specs.Does.{IsEmptied, IsRefusedWith, IsUnfinished, statuses}
+use Rattle.cm_tool_building.specs.Building.{Building, keys_of, outcome_by, outcome_of, refusing, saving}
+use Rattle.cm_tool_building.specs.Builds.{IsEmptied, IsRefusedWith, IsUnfinished, statuses}
 use Rattle.cm_tool_building.specs.Leaves.{IsOutCause, KeepsOut, Leaves, MadeOf}
-use Rattle.cm_tool_building.specs.Makes.{HasStopForm}
+use Rattle.cm_tool_building.specs.Makes.{IsAllowedStop}
 use Rattle.cm_tool_building.specs.OutcomeLaws.{outcome_there, refused_outcome}
 use Rattle.cm_tool_building.specs.Stores.{IsPart}
 use Rattle.cm_tool_stops.specs.Ending.{LacksFile, Outcome, Reaches}
@@ -116,7 +116,7 @@ part_of : {M : Type 0} (b : Building M) (old new : Option Files) {bytes text : L
 part_of b old new is part = subst (λ (bytes : List ℕ). IsPart b.named.function bytes old new) is part
 
 -- a build that could not write
-pub written_part : {M : Type 0} (b : Building M) (old new : Outside) (stop : Stop) (files : Files) → Leaves b old.disk.files new.disk.files old.out.written new.out.written (Err stop) → KeepsOut old.out.written new.out.written stop → HasStopForm b.meaning.may_stop stop → IsOutCause old.out.faults new.out.faults stop
+pub written_part : {M : Type 0} (b : Building M) (old new : Outside) (stop : Stop) (files : Files) → Leaves b old.disk.files new.disk.files old.out.written new.out.written (Err stop) → KeepsOut old.out.written new.out.written stop → IsAllowedStop b.meaning.may_stop stop → IsOutCause old.out.faults new.out.faults stop
     → Says old.err new.err (message_of b.named b.dir stop) → old.disk.files ≡ Some files → status_of stop ≡ 5 → IsUnfinished b old new files
 written_part b old new Memory files leaves same form count says is five = absurd (omega arith)
 written_part b old new Read files leaves same form count says is five = absurd (omega arith)

@@ -1,13 +1,13 @@
 -- From a fault of a builder to how its build stops, and what that leaves.
 use Rattle.std.proofs.Common.{◌≡◌, ◌∙◌, ◌⊎◌, ℕ, List, [], Option, Some, Err, inl, inr, sym, subst, arith}
 use Rattle.std.specs.Option.{ForSome}
-use Rattle.cm_func.specs.declared.failure.SeedFailure.{SeedFailure}
+use Rattle.cm_witness_gather.specs.declared.failure.SeedFailure.{SeedFailure}
 use Rattle.cm_io.specs.Causes.{Collects}
 use Rattle.cm_io.specs.Files.{Files, file_at, with_file}
 use Rattle.cm_io.specs.declared.key_pass.KeyFault.TheVariants as key_fault
-use Rattle.cm_tool_building.specs.Builds.{Building, keys_of}
+use Rattle.cm_tool_building.specs.Building.{Building, keys_of}
 use Rattle.cm_tool_building.specs.Leaves.{GotReport, IsRefused, IsReported, IsStopCause, Leaves, MadeOf, StopsFor}
-use Rattle.cm_tool_building.specs.Makes.{HasFaultForm, HasStopForm, IsMakeCause, RefusesBy}
+use Rattle.cm_tool_building.specs.Makes.{IsAllowedFault, IsAllowedStop, IsMakeCause, RefusesBy}
 use Rattle.cm_tool_building.specs.declared.fault.Fault.{Fault}
 use Rattle.cm_tool_building.specs.declared.fault.Fault.TheVariants as made_fault
 use Rattle.cm_tool_stops.specs.EndLaws.{collected}
@@ -43,7 +43,7 @@ refused_from b report_of files bytes made_fault.Spill old new stop there refuses
 refused_from b report_of files bytes (made_fault.SpillDamaged offset expected found) old new stop there refuses stops = absurd refuses
 
 -- what a stop for a report has
-shown_form : (may_stop : Stop → Type 0) (failure : SeedFailure) (report : List ℕ) (old new : Option (List ℕ)) (stop : Stop) → may_stop (Refused failure) → GotReport failure report old new stop → HasStopForm may_stop stop
+shown_form : (may_stop : Stop → Type 0) (failure : SeedFailure) (report : List ℕ) (old new : Option (List ℕ)) (stop : Stop) → may_stop (Refused failure) → GotReport failure report old new stop → IsAllowedStop may_stop stop
 shown_form may_stop failure report old new Memory may got = tt
 shown_form may_stop failure report old new Read may got = tt
 shown_form may_stop failure report old new Write may got = tt
@@ -57,7 +57,7 @@ shown_form may_stop failure report old new (TooLong line) may got = tt
 shown_form may_stop failure report old new TooMany may got = tt
 
 -- and what any stop has
-pub stop_form : {R : Type 0} (may_stop : Stop → Type 0) (report_of : R → List ℕ) (fault : Fault R) (old new : Option (List ℕ)) (stop : Stop) → HasFaultForm may_stop fault → StopsFor report_of fault old new stop → HasStopForm may_stop stop
+pub stop_form : {R : Type 0} (may_stop : Stop → Type 0) (report_of : R → List ℕ) (fault : Fault R) (old new : Option (List ℕ)) (stop : Stop) → IsAllowedFault may_stop fault → StopsFor report_of fault old new stop → IsAllowedStop may_stop stop
 stop_form may_stop report_of made_fault.Memory old new stop form stops = rw stops.0 form
 stop_form may_stop report_of made_fault.NoKeys old new stop form stops = rw stops.0 form
 stop_form may_stop report_of (made_fault.Refused failure report) old new stop form stops = shown_form may_stop failure (report_of report) old new stop form stops

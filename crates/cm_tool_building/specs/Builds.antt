@@ -1,51 +1,99 @@
--- What a build comes to, by what its builder makes of the keys.
-use Rattle.std.specs.Prelude.{ℕ, List, [], Option, Result, Ok, Err}
-use Rattle.std.specs.Option.{option_map}
-use Rattle.std.specs.FinMap as map
-use Rattle.cm_io.specs.Files.{Files, file_at}
-use Rattle.cm_io.specs.Passes.{Told}
-use Rattle.cm_io.specs.declared.key_pass.TheConstants.{MAX_KEY_LEN}
-use Rattle.cm_keys.specs.Lines.{lines_of}
-use Rattle.cm_spec.specs.declared.limits.TheConstants.{MAX_KEYS}
-use Rattle.cm_tool_building.specs.Meanings.{Meaning, Refusal}
-use Rattle.cm_tool_building.specs.declared.building.BuildFiles.{BuildFiles}
-use Rattle.cm_tool_stops.specs.Ends.{message_of, status_of}
-use Rattle.cm_tool_stops.specs.Ending.{Outcome}
-use Rattle.cm_tool_stops.specs.Named.{Named, named}
+-- What a build does to disk, out and err: what the driver promises of any builder.
+use Rattle.std.specs.Prelude.{◌≡◌, ◌≢◌, ◌<◌, ◌^◌, ◌⊎◌, ◌↔◌, ℕ, List, [], ◌∷◌, take, Option, None, Some, Result, Ok, Err, true}
+use Rattle.std.specs.Option.{ForSome}
+use Rattle.cm_witness_gather.specs.declared.failure.SeedFailure.{SeedFailure}
+use Rattle.cm_io.specs.Causes.{Rose}
+use Rattle.cm_io.specs.Files.{Files, file_at, with_file}
+use Rattle.cm_io.specs.States.{IsSent, Outside}
+use Rattle.cm_io.specs.Writing.{then_bytes}
+use Rattle.cm_spec.specs.Lists.{has}
+use Rattle.cm_tool_building.specs.Building.{Building, keys_of, outcome_of, refusing, saving}
+use Rattle.cm_tool_building.specs.Leaves.{IsAllowedEnd, HasOutCause, Known}
+use Rattle.cm_tool_building.specs.Stores.{IsPart}
+use Rattle.cm_tool_stops.specs.Ending.{LacksFile, Reaches}
+use Rattle.cm_tool_stops.specs.Ends.{Says, message_of, status_of}
+use Rattle.cm_tool_stops.specs.Messages.{cannot_use_spill, cannot_write, cannot_write_out}
+use Rattle.cm_tool_stops.specs.declared.stop.Stop.{Stop}
+use Rattle.cm_tool_stops.specs.declared.stop.Stop.TheVariants.{Refused, Spill}
 
--- A build: what messages name, the directory of the spill, which lines of the keys file are keys, what is made of them, and the bytes
--- of that.
-pub record Building (M : Type 0) : Type 1 where
-  pub named : Named
-  pub dir : List ℕ
-  pub first : Option ℕ
-  pub end : ℕ
-  pub meaning : Meaning M
-  pub bytes : M → List ℕ
+-- the statuses of a build
+abbrev pub statuses : List ℕ
+statuses = 0 ∷ 1 ∷ 4 ∷ 5 ∷ 6 ∷ 7 ∷ 8 ∷ []
 
-abbrev pub building : {M : Type 0} → BuildFiles → Meaning M → (M → List ℕ) → Building M
-building files meaning bytes = record { named = named files.names; dir = files.dir.now; first = files.first; end = files.end; meaning = meaning; bytes = bytes }
+-- the outcome saves what was made, of whose bytes its file holds a prefix, or the files are as before; out got nothing, and the message
+-- names the file
+abbrev pub SavedPart : {M : Type 0} → Building M → Outside → Outside → Files → List ℕ → Type 0
+SavedPart {M = M} b old new files text =
+    (made : M) × (outcome_of b files ≡ Some (saving b files made)) × IsPart b.named.function (b.bytes made) old.disk.files new.disk.files × (new.out.written ≡ old.out.written) × (new.out.faults ≡ old.out.faults) × (text ≡ cannot_write b.named.program b.named.function)
 
--- the keys in the bytes of the keys file, and the fault at their end
-abbrev pub keys_of : {M : Type 0} → Building M → List ℕ → Told
-keys_of b bytes = lines_of MAX_KEYS MAX_KEY_LEN b.end b.first bytes
+-- the outcome shows a report, of which out got a prefix, and its count rose; the files are as before, and the message is that of out
+abbrev pub ReportedPart : {M : Type 0} → Building M → Outside → Outside → Files → List ℕ → Type 0
+ReportedPart b old new files text =
+    (failure : SeedFailure) × (report : List ℕ) × (n : ℕ) × (outcome_of b files ≡ Some (refusing b files (record { stop = Refused failure; report = report }))) × (new.out.written ≡ then_bytes old.out.written (take n report)) × (new.disk.files ≡ old.disk.files) × Rose old.out.faults new.out.faults × (text ≡ cannot_write_out b.named.program)
 
--- what was made is saved
-abbrev pub saving : {M : Type 0} → Building M → Files → M → Outcome
-saving b files made = record { status = 0; out = []; err = b.meaning.said made; files = map.insert files b.named.function (b.bytes made) }
+-- the spill failed; the files are as before, out got nothing, and the message names the directory
+abbrev pub FailedSpill : {M : Type 0} → Building M → Outside → Outside → List ℕ → Type 0
+FailedSpill b old new text = b.meaning.may_stop Spill × (new.disk.files ≡ old.disk.files) × (new.out.written ≡ old.out.written) × (new.out.faults ≡ old.out.faults) × (text ≡ cannot_use_spill b.named.program b.dir)
 
--- nothing is made, and out gets the report
-abbrev pub refusing : {M : Type 0} → Building M → Files → Refusal → Outcome
-refusing b files refusal = record { status = status_of refusal.stop; out = refusal.report; err = message_of b.named b.dir refusal.stop; files = files }
+-- what a build that could not write leaves of the files and of out, by what its message names
+pub record IsUnfinished {M : Type 0} (b : Building M) (old new : Outside) (files : Files) : Type 0 where
+  pub text : List ℕ
+  pub says : Says old.err new.err text
+  pub part : SavedPart b old new files text ⊎ ReportedPart b old new files text ⊎ FailedSpill b old new text
 
-abbrev pub outcome_by : {M : Type 0} → Building M → Files → Result M Refusal → Outcome
-outcome_by b files (Ok made) = saving b files made
-outcome_by b files (Err refusal) = refusing b files refusal
+-- the outcome saves what was made, and its file is empty
+abbrev pub IsEmptied : {M : Type 0} → Building M → Option Files → Option Files → Type 0
+IsEmptied {M = M} b old new = (new ≡ with_file b.named.function [] old) × ForSome old (λ files. (made : M) × (outcome_of b files ≡ Some (saving b files made)))
 
--- the outcome over the bytes of the keys file
-unfoldable pub outcome_over : {M : Type 0} → Building M → Files → List ℕ → Outcome
-outcome_over b files bytes = outcome_by b files (b.meaning.verdict (keys_of b bytes))
+-- what was made is saved, and this is known of it
+abbrev pub IsSaved : {M : Type 0} → Building M → Outside → Outside → Files → Type 0
+IsSaved {M = M} b old new files = (made : M) × (outcome_of b files ≡ Some (saving b files made)) × Known b files made old.disk.spilled new.disk.spilled
 
--- the outcome, if the keys file is there
-abbrev pub outcome_of : {M : Type 0} → Building M → Files → Option Outcome
-outcome_of b files = option_map (outcome_over b files) (file_at files b.named.keys)
+-- there is a report on the keys, and this is known of them
+abbrev pub IsRefusedWith : {M : Type 0} → Building M → Files → Type 0
+IsRefusedWith b files = (bytes : List ℕ) × (file_at files b.named.keys ≡ Some bytes) × b.meaning.reports (keys_of b bytes)
+
+-- the status of an end, and what is said of it
+abbrev pub end_status : {M : Type 0} → Result M Stop → ℕ
+end_status (Ok made) = 0
+end_status (Err stop) = status_of stop
+
+abbrev pub end_message : {M : Type 0} → Building M → Result M Stop → List ℕ
+end_message b (Ok made) = b.meaning.said made
+end_message b (Err stop) = message_of b.named b.dir stop
+
+-- The build came to its end, or stopped as its builder may; which count the stop raised, its status, and what was said.
+pub record IsEnd {M : Type 0} (b : Building M) (old new : Outside) (status : ℕ) (end : Result M Stop) : Type 0 where
+  pub form : IsAllowedEnd b.meaning.may_stop end
+  pub out_cause : HasOutCause old.out.faults new.out.faults end
+  pub status_is : status ≡ end_status end
+  pub says : Says old.err new.err (end_message b end)
+
+-- A build that found disk, out and err in the old state left them in the new one, with this status.
+pub record Builds {M : Type 0} (b : Building M) (old new : Outside) (result : ℕ) : Type 0 where
+  pub status : has statuses result ≡ true
+  -- The status is 4 exactly if the count of read faults rises.
+  pub read : old.disk.read_faults < 2 ^ 63 → ((result ≡ 4) ↔ (old.disk.read_faults < new.disk.read_faults))
+  -- The status is 5 exactly if the count of write faults or that of out rises.
+  pub write : old.disk.write_faults < 2 ^ 63 → old.out.faults < 2 ^ 63 →
+      ((result ≡ 5) ↔ ((old.disk.write_faults < new.disk.write_faults) ⊎ (old.out.faults < new.out.faults)))
+  -- If memory doesn't run out and nothing fails, status, out, err and files are what the builder's verdict on the keys makes of them.
+  pub outcome : result ≢ 4 → result ≢ 5 → result ≢ 6 → ForSome old.disk.files (λ files. Reaches old new (outcome_of b files) result)
+  pub saved : result ≡ 0 → ForSome old.disk.files (IsSaved b old new)
+  pub refused : result ≡ 1 → ForSome old.disk.files (IsRefusedWith b)
+  pub unspilled : (b.meaning.uses_spill → ⊥) → new.disk.spilled ≡ old.disk.spilled
+  -- If the files are known, the status is never 7: neither the keys nor the spill change between passes.
+  pub unchanged : ForSome old.disk.files (λ _. result ≢ 7)
+  -- If the keys file isn't there, the status is 4, or 6 if memory runs out, and nothing is done.
+  pub missing : ForSome old.disk.files (λ files. outcome_of b files ≡ None → LacksFile old new result)
+  -- The files after a failure: only what is saved changes them. The message names what could not be written.
+  pub kept : result ≢ 0 → result ≢ 5 → result ≢ 6 → new.disk.files ≡ old.disk.files
+  pub part : result ≡ 5 → ForSome old.disk.files (IsUnfinished b old new)
+  pub memory : result ≡ 6 → (new.disk.files ≡ old.disk.files) ⊎ IsEmptied b old.disk.files new.disk.files
+  -- Only a report is written to out.
+  pub out : result ≢ 1 → result ≢ 5 → new.out.written ≡ old.out.written
+  -- If the buffer of out or err was empty before the call, it is empty after it, or the count of this sink rose.
+  pub sent : old.out.waits ≡ 0 → IsSent old.out new.out
+  pub err_sent : old.err.waits ≡ 0 → IsSent old.err new.err
+  -- Err gets what is said of the end, or a prefix of that if err itself fails.
+  pub err : (end : Result M Stop) × IsEnd b old new result end

@@ -1,13 +1,13 @@
 -- What each end of a build leaves.
 use Rattle.std.specs.Prelude.{◌≡◌, ◌⊎◌, ◌≤◌, ℕ, List, [], take, Option, Some, Result, Ok, Err}
 use Rattle.std.specs.Option.{ForSome}
-use Rattle.cm_func.specs.declared.failure.SeedFailure.{SeedFailure}
+use Rattle.cm_witness_gather.specs.declared.failure.SeedFailure.{SeedFailure}
 use Rattle.cm_io.specs.Causes.{Rose}
 use Rattle.cm_io.specs.Files.{Files, file_at, with_file}
 use Rattle.cm_io.specs.Passes.{Told}
 use Rattle.cm_io.specs.Writing.{then_bytes}
-use Rattle.cm_tool_building.specs.Builds.{Building, keys_of}
-use Rattle.cm_tool_building.specs.Makes.{HasStopForm, stop_for}
+use Rattle.cm_tool_building.specs.Building.{Building, keys_of}
+use Rattle.cm_tool_building.specs.Makes.{IsAllowedStop, stop_for}
 use Rattle.cm_tool_building.specs.Stores.{IsPart}
 use Rattle.cm_tool_building.specs.declared.fault.Fault.{Fault}
 use Rattle.cm_tool_building.specs.declared.fault.Fault.TheVariants as made_fault
@@ -47,9 +47,9 @@ HasKeptOut old new (Ok _) = new ≡ old
 HasKeptOut old new (Err stop) = KeepsOut old new stop
 
 -- how a builder may stop
-abbrev pub HasForm : {T : Type 0} → (Stop → Type 0) → Result T Stop → Type 0
-HasForm may_stop (Ok _) = Unit {0}
-HasForm may_stop (Err stop) = HasStopForm may_stop stop
+abbrev pub IsAllowedEnd : {T : Type 0} → (Stop → Type 0) → Result T Stop → Type 0
+IsAllowedEnd may_stop (Ok _) = Unit {0}
+IsAllowedEnd may_stop (Err stop) = IsAllowedStop may_stop stop
 
 -- what out got of a report: all of it, or a prefix if out failed
 abbrev pub GotReport : SeedFailure → List ℕ → Option (List ℕ) → Option (List ℕ) → Stop → Type 0

@@ -1,8 +1,8 @@
 pub mod Meanings
 pub mod Makes
 pub mod Stores
-pub mod Builds
+pub mod Building
 pub mod Leaves
-pub mod Does
+pub mod Builds
 pub mod StopLaws
 pub mod OutcomeLaws

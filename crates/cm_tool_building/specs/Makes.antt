@@ -51,13 +51,13 @@ RefusesBy bytes meaning told Spill = Unit {0}
 RefusesBy bytes meaning told (SpillDamaged offset expected found) = ⊥
 
 -- what a stop has, whatever the keys and the spill are: a report, keys that changed, and a spill are as the builder allows
-abbrev pub HasStopForm : (Stop → Type 0) → Stop → Type 0
-HasStopForm may_stop (stops.Refused failure) = may_stop (stops.Refused failure)
-HasStopForm may_stop (stops.Changed first again) = may_stop (stops.Changed first again)
-HasStopForm may_stop stops.Spill = may_stop stops.Spill
-HasStopForm may_stop (stops.SpillDamaged offset expected found) = may_stop (stops.SpillDamaged offset expected found)
-HasStopForm may_stop stop = Unit {0}
+abbrev pub IsAllowedStop : (Stop → Type 0) → Stop → Type 0
+IsAllowedStop may_stop (stops.Refused failure) = may_stop (stops.Refused failure)
+IsAllowedStop may_stop (stops.Changed first again) = may_stop (stops.Changed first again)
+IsAllowedStop may_stop stops.Spill = may_stop stops.Spill
+IsAllowedStop may_stop (stops.SpillDamaged offset expected found) = may_stop (stops.SpillDamaged offset expected found)
+IsAllowedStop may_stop stop = Unit {0}
 
 -- and what a fault has
-abbrev pub HasFaultForm : {R : Type 0} → (Stop → Type 0) → Fault R → Type 0
-HasFaultForm may_stop fault = HasStopForm may_stop (stop_for fault)
+abbrev pub IsAllowedFault : {R : Type 0} → (Stop → Type 0) → Fault R → Type 0
+IsAllowedFault may_stop fault = IsAllowedStop may_stop (stop_for fault)

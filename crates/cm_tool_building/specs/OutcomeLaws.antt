@@ -2,8 +2,8 @@
 use Rattle.std.proofs.Common.{◌≡◌, ◌∙◌, ℕ, List, Some, Err, ap}
 use Rattle.std.specs.Option.{option_map}
 use Rattle.cm_io.specs.Files.{Files, file_at}
-use Rattle.cm_tool_building.specs.Builds as outcomes
-use Rattle.cm_tool_building.specs.Builds.{Building, keys_of, outcome_by, outcome_of, refusing}
+use Rattle.cm_tool_building.specs.Building as outcomes
+use Rattle.cm_tool_building.specs.Building.{Building, keys_of, outcome_by, outcome_of, refusing}
 use Rattle.cm_tool_building.specs.Meanings.{Refusal}
 use Rattle.cm_tool_stops.specs.Ending.{Outcome}
 

@@ -2,7 +2,7 @@
 ghost use Rattle.std.specs.Prelude.{◌≡◌, Ok, IfOk, IfErr};
 ghost use Rattle.std.specs.Option.{ForSome};
 ghost use Rattle.cm_io.specs.States.{IsSent};
-ghost use Rattle.cm_tool_building.specs.Makes.{HasFaultForm, HasMakeCause, RefusesBy};
+ghost use Rattle.cm_tool_building.specs.Makes.{IsAllowedFault, HasMakeCause, RefusesBy};
 ghost use Rattle.cm_tool_building.specs.Meanings.{Meaning};
 ghost use Rattle.cm_tool_stops.specs.Ends.{Says};
 
@@ -37,7 +37,7 @@ pub trait Builder {
             (meaning self.now).makes told made (D.state disk.old).spilled (D.state disk.new).spilled))) }
         ensures refused { IfErr result (λ fault. ForSome (D.state disk.old).files (λ _. ForSome (P.told keys.old) (λ told.
             RefusesBy Self.Report.bytes (meaning self.now) told fault))) }
-        ensures form { IfErr result (HasFaultForm (meaning self.now).may_stop) }
+        ensures form { IfErr result (IsAllowedFault (meaning self.now).may_stop) }
         ensures unspilled { ((meaning self.now).uses_spill → ⊥) → (D.state disk.new).spilled ≡ (D.state disk.old).spilled };
 
     /// Says what it made, or nothing. If err fails, it gets a prefix of that.

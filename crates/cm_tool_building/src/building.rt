@@ -3,15 +3,15 @@ ghost use Rattle.std.specs.Prelude.{◌≡◌, ◌⊎◌, IfOk, IfErr};
 ghost use Rattle.std.specs.Option.{ForSome};
 ghost use Rattle.cm_io.specs.States.{IsSent};
 ghost use Rattle.cm_keys.specs.declared.keys.TheConstants.{LINE_END};
-ghost use Rattle.cm_tool_building.specs.Builds.{building};
-ghost use Rattle.cm_tool_building.specs.Leaves.{GotReport, HasForm, HasKeptOut, HasOutCause, HasStopCause, IsOutCause, IsRefused, KeepsOut, Known, MadeOf, StopsFor};
+ghost use Rattle.cm_tool_building.specs.Building.{building};
+ghost use Rattle.cm_tool_building.specs.Leaves.{GotReport, IsAllowedEnd, HasKeptOut, HasOutCause, HasStopCause, IsOutCause, IsRefused, KeepsOut, Known, MadeOf, StopsFor};
 ghost use Rattle.cm_tool_building.specs.Makes.{stop_from_key};
 
 use crate::{Builder, Fault, Saved};
-use cm_func::SeedFailure;
 use cm_io::{Disk, DiskFault, Failed, KeyFault, Sink};
 use cm_keys::Keys;
 use cm_tool_stops::{Names, Stop, send_text};
+use cm_witness_gather::SeedFailure;
 use std::alloc::Global;
 
 /// The files of a build, and which lines of the keys file are keys.
@@ -97,7 +97,7 @@ pub(crate) fn make_of<B: Builder, D: Disk, O: Sink>(
     ensures refused { IfErr result (λ stop. ForSome (D.state disk.old).files (λ known.
         IsRefused (building files.now (B.meaning builder.now) B.Made.bytes) known (O.state out.old).written (O.state out.new).written stop)) }
     ensures unspilled { ((B.meaning builder.now).uses_spill → ⊥) → (D.state disk.new).spilled ≡ (D.state disk.old).spilled }
-    ensures form { HasForm (B.meaning builder.now).may_stop result }
+    ensures form { IsAllowedEnd (B.meaning builder.now).may_stop result }
     ensures out { HasKeptOut (O.state out.old).written (O.state out.new).written result }
     ensures out_cause { HasOutCause (O.state out.old).faults (O.state out.new).faults result }
     ensures sent { (O.state out.old).waits ≡ 0 → IsSent (O.state out.old) (O.state out.new) }

@@ -3,9 +3,9 @@ ghost use Rattle.std.specs.Prelude.{◌≡◌, ◌⊎◌, IfOk, Ok};
 ghost use Rattle.std.specs.Option.{ForSome};
 ghost use Rattle.cm_io.specs.States.{IsSent, outside};
 ghost use Rattle.cm_keys.specs.declared.keys.TheConstants.{LINE_END};
-ghost use Rattle.cm_tool_building.specs.Builds.{building};
-ghost use Rattle.cm_tool_building.specs.Does.{Builds};
-ghost use Rattle.cm_tool_building.specs.Leaves.{HasForm, HasKeptOut, HasOutCause, HasStopCause, Known, Leaves};
+ghost use Rattle.cm_tool_building.specs.Building.{building};
+ghost use Rattle.cm_tool_building.specs.Builds.{Builds};
+ghost use Rattle.cm_tool_building.specs.Leaves.{IsAllowedEnd, HasKeptOut, HasOutCause, HasStopCause, Known, Leaves};
 
 use crate::Builder;
 use crate::building::{BuildFiles, make_of};
@@ -29,7 +29,7 @@ fn build_file<B: Builder, D: Disk, O: Sink>(
     ensures makes { IfOk result (λ made. ForSome (D.state disk.old).files (λ known.
         Known (building files.now (B.meaning builder.now) B.Made.bytes) known made (D.state disk.old).spilled (D.state disk.new).spilled)) }
     ensures unspilled { ((B.meaning builder.now).uses_spill → ⊥) → (D.state disk.new).spilled ≡ (D.state disk.old).spilled }
-    ensures form { HasForm (B.meaning builder.now).may_stop result }
+    ensures form { IsAllowedEnd (B.meaning builder.now).may_stop result }
     ensures out { HasKeptOut (O.state out.old).written (O.state out.new).written result }
     ensures out_cause { HasOutCause (O.state out.old).faults (O.state out.new).faults result }
     ensures sent { (O.state out.old).waits ≡ 0 → IsSent (O.state out.old) (O.state out.new) }

@@ -1,7 +1,7 @@
 //! Why nothing was made of keys.
 
-use cm_func::SeedFailure;
 use cm_io::KeyFault;
+use cm_witness_gather::SeedFailure;
 
 /// Why nothing was made of keys.
 #[derive(Drop)]

@@ -9,8 +9,8 @@ use Rattle.cm_io.specs.Causes.{Rose}
 use Rattle.cm_io.specs.Passes.{HasKeyCause, Told}
 use Rattle.cm_algo_seeds.specs.declared.fault.BuildFault.{BuildFault}
 use Rattle.cm_algo_seeds.specs.declared.fault.BuildFault.TheVariants as build_fault
-use Rattle.cm_func.specs.declared.failure.SeedFailure.TheVariants.{NoSeed, NoSeedFor, NoSplit}
-use Rattle.cm_func.specs.declared.failure.SeedFailure.{SeedFailure}
+use Rattle.cm_witness_gather.specs.declared.failure.SeedFailure.TheVariants.{NoSeed, NoSeedFor, NoSplit}
+use Rattle.cm_witness_gather.specs.declared.failure.SeedFailure.{SeedFailure}
 use Rattle.cm_tool_builds.specs.Seeds.{NoneWorks}
 use Rattle.cm_tool_builds.specs.Results.{FailureReport, result_by}
 use Rattle.cm_tool_builds.specs.declared.fault.FuncFault.{FuncFault}

@@ -12,8 +12,8 @@ use Rattle.cm_spec.specs.Bdz.{bdz_rule, bdz_ph_rule}
 use Rattle.cm_spec.specs.Built.{chm_under, first_seed}
 use Rattle.cm_spec.specs.Chm.{chm_rule}
 use Rattle.cm_spec.specs.Rule.{Rule}
-use Rattle.cm_func.specs.declared.failure.SeedFailure.TheVariants.{NoSeed, NoSeedFor, NoSplit}
-use Rattle.cm_func.specs.declared.failure.SeedFailure.{SeedFailure}
+use Rattle.cm_witness_gather.specs.declared.failure.SeedFailure.TheVariants.{NoSeed, NoSeedFor, NoSplit}
+use Rattle.cm_witness_gather.specs.declared.failure.SeedFailure.{SeedFailure}
 use Rattle.cm_witness_gather.specs.Reports.{core_report}
 
 -- what is shown of keys that have no function: why, and the report

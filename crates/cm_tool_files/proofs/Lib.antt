@@ -1,1 +1,3 @@
-mod Asks
+mod Loads
+mod Answering
+mod UpgradeLemmas

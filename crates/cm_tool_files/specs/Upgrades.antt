@@ -8,11 +8,12 @@ use Rattle.cm_dump.specs.Spelling.{spelling_of}
 use Rattle.cm_dump.specs.declared.versions.Version.{Version}
 use Rattle.cm_dump.specs.declared.versions.Version.TheVariants.{One, Two}
 use Rattle.cm_dump_items.specs.declared.fault.LoadFault.{LoadFault}
-use Rattle.cm_dump_items.specs.declared.fault.LoadFault.TheVariants as faults
 use Rattle.cm_func.specs.declared.function.Func.{Func}
 use Rattle.cm_io.specs.Causes.{Rose}
 use Rattle.cm_io.specs.Files.{Files, file_at, with_file}
 use Rattle.cm_io.specs.States.{DiskState}
+use Rattle.cm_tool_asking.specs.declared.unloaded.Unloaded.{Unloaded}
+use Rattle.cm_tool_asking.specs.declared.unloaded.Unloaded.TheVariants as unloaded
 use Rattle.cm_tool_files.specs.Asked.{IsBadDump}
 use Rattle.cm_tool_building.specs.Stores.{IsPart}
 use Rattle.cm_tool_stops.specs.declared.stop.UpgradeStop.{UpgradeStop}
@@ -25,10 +26,16 @@ HasUpgradeCause old new (Err Write) = (new.read_faults ≡ old.read_faults) × (
 HasUpgradeCause old new result = (new.read_faults ≡ old.read_faults) × (new.write_faults ≡ old.write_faults)
 
 -- why a failed load stops an upgrade
-abbrev pub upgrade_stop_from : LoadFault → UpgradeStop
-upgrade_stop_from faults.Memory = Memory
-upgrade_stop_from faults.Read = Read
-upgrade_stop_from fault = BadDump fault
+abbrev pub upgrade_stop_from : Unloaded LoadFault → UpgradeStop
+upgrade_stop_from unloaded.Memory = Memory
+upgrade_stop_from unloaded.Read = Read
+upgrade_stop_from (unloaded.Bad fault) = BadDump fault
+
+-- why no function was loaded from a file: unless memory ran out or it could not be read, its bytes have this fault
+abbrev pub RefusesDump : Files → List ℕ → Unloaded LoadFault → Type 0
+RefusesDump files path unloaded.Memory = Unit {0}
+RefusesDump files path unloaded.Read = Unit {0}
+RefusesDump files path (unloaded.Bad fault) = IsBadDump files path fault
 
 -- the files once the function of a file of a version was upgraded: a file of version 2 is left as it is
 abbrev pub upgraded : Files → List ℕ → Version → Func → Files

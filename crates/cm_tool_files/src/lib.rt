@@ -1,14 +1,12 @@
-//! The files of jobs: functions that are saved, loaded and asked for keys.
+//! Function files: functions that are saved, loaded, asked for keys and upgraded.
 #![tactic(auto)]
 
-mod answering;
-mod asking;
-mod loading;
+mod asked;
 mod reloading;
 mod storing;
 mod upgrading;
 
-pub use crate::answering::answer_file;
+pub use crate::asked::AskedFunc;
 pub use crate::reloading::reload;
 pub use crate::storing::FuncFile;
 pub use crate::upgrading::upgrade_file;

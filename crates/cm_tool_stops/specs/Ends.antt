@@ -42,24 +42,24 @@ message_of names dir (TooLong line) = line_too_long names.program names.keys lin
 message_of names dir TooMany = too_many_keys names.program names.keys
 
 -- the status of a query that stopped
-abbrev pub query_status_of : QueryStop → ℕ
+abbrev pub query_status_of : {F : Type 0} → QueryStop F → ℕ
 query_status_of query_stop.Memory = 6
 query_status_of query_stop.NoFunction = 4
-query_status_of (query_stop.BadDump fault) = 3
+query_status_of (query_stop.BadFile fault) = 3
 query_status_of query_stop.Read = 4
 query_status_of query_stop.Write = 5
 query_status_of (query_stop.TooLong line) = 8
 query_status_of query_stop.TooMany = 8
 
--- its message, by what it names
-abbrev pub query_message_of : Named → QueryStop → List ℕ
-query_message_of names query_stop.Memory = out_of_memory names.program
-query_message_of names query_stop.NoFunction = cannot_read names.program names.function
-query_message_of names (query_stop.BadDump fault) = bad_dump names.program names.function fault
-query_message_of names query_stop.Read = cannot_read names.program names.keys
-query_message_of names query_stop.Write = cannot_write_out names.program
-query_message_of names (query_stop.TooLong line) = line_too_long names.program names.keys line
-query_message_of names query_stop.TooMany = too_many_keys names.program names.keys
+-- its message, by what it names and by that of a file with bytes that it can't have
+abbrev pub query_message_of : {F : Type 0} → (F → Named → List ℕ) → Named → QueryStop F → List ℕ
+query_message_of message names query_stop.Memory = out_of_memory names.program
+query_message_of message names query_stop.NoFunction = cannot_read names.program names.function
+query_message_of message names (query_stop.BadFile fault) = message fault names
+query_message_of message names query_stop.Read = cannot_read names.program names.keys
+query_message_of message names query_stop.Write = cannot_write_out names.program
+query_message_of message names (query_stop.TooLong line) = line_too_long names.program names.keys line
+query_message_of message names query_stop.TooMany = too_many_keys names.program names.keys
 
 -- the status of an upgrade that stopped
 abbrev pub upgrade_status_of : UpgradeStop → ℕ

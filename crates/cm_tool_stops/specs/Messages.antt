@@ -1,28 +1,25 @@
 -- What is said on err. Each message begins with the name of the program that is given.
-use Rattle.std.specs.Prelude.{ℕ, List, [], ◌∷◌, Option, None, Some, codes, decimal, if◌then◌else◌}
-use Rattle.cm_algo_names.specs.Names.{name_of}
-use Rattle.cm_algo_names.specs.declared.algorithm.Algorithm.{Algorithm}
-use Rattle.cm_algo_names.specs.declared.algorithm.Algorithm.TheVariants.{Brz}
+use Rattle.std.specs.Prelude.{ℕ, List, [], ◌∷◌, Option, None, Some, codes, decimal}
 use Rattle.cm_dump_items.specs.declared.fault.LoadFault.{LoadFault}
 use Rattle.cm_dump_items.specs.declared.fault.LoadFault.TheVariants as faults
 use Rattle.cm_io.specs.Writing.{joined}
+use Rattle.cm_io.specs.declared.key_pass.KeyFault.{KeyFault}
+use Rattle.cm_io.specs.declared.key_pass.KeyFault.TheVariants.{Read, TooLong, TooMany}
 use Rattle.cm_spec.specs.declared.limits.TheConstants.{MAX_BUCKET, MAX_KEYS}
-use Rattle.cm_tool_stops.specs.declared.built.Summary.{Summary}
-use Rattle.cm_func.specs.declared.failure.SeedFailure.{SeedFailure}
-use Rattle.cm_func.specs.declared.failure.SeedFailure.TheVariants.{NoSeed, NoSeedFor, NoSplit}
+use Rattle.cm_witness_gather.specs.declared.failure.SeedFailure.{SeedFailure}
+use Rattle.cm_witness_gather.specs.declared.failure.SeedFailure.TheVariants.{NoSeed, NoSeedFor, NoSplit}
 use Rattle.cm_words_arguments.specs.declared.fault.UsageFault.{UsageFault}
 use Rattle.cm_words_arguments.specs.declared.fault.UsageFault.TheVariants as usage
-use Rattle.cm_words.specs.declared.jobs.BuildJob.{BuildJob}
 
 abbrev pub out_of_memory : List ℕ → List ℕ
 out_of_memory program = joined (program ∷ codes ": out of memory\n" ∷ [])
 
--- what is wrong with arguments that ask for no job
-abbrev pub usage_message : List ℕ → UsageFault → List ℕ
-usage_message program usage.Memory = out_of_memory program
-usage_message program usage.Words = joined (program ∷ codes ": bad arguments; " ∷ program ∷ codes " -h shows the usage\n" ∷ [])
-usage_message program (usage.BadValue letter) = joined (program ∷ codes ": bad value of -" ∷ (letter ∷ []) ∷ codes "\n" ∷ [])
-usage_message program usage.NoFile = joined (program ∷ codes ": no keys file\n" ∷ [])
+-- what is wrong with arguments that ask for no job; a hint follows where they are refused as a whole
+abbrev pub usage_message : List ℕ → List ℕ → UsageFault → List ℕ
+usage_message program hint usage.Memory = out_of_memory program
+usage_message program hint usage.Words = joined (program ∷ codes ": bad arguments" ∷ hint ∷ codes "\n" ∷ [])
+usage_message program hint (usage.BadValue letter) = joined (program ∷ codes ": bad value of -" ∷ (letter ∷ []) ∷ codes "\n" ∷ [])
+usage_message program hint usage.NoFile = joined (program ∷ codes ": no keys file\n" ∷ [])
 
 -- why keys have no function
 abbrev pub seed_failure_message : List ℕ → SeedFailure → List ℕ
@@ -93,14 +90,8 @@ line_too_long program file line = joined (program ∷ codes ": " ∷ file ∷ co
 abbrev pub too_many_keys : List ℕ → List ℕ → List ℕ
 too_many_keys program file = joined (program ∷ codes ": " ∷ file ∷ codes ": more than " ∷ decimal MAX_KEYS ∷ codes " keys\n" ∷ [])
 
--- what is counted beside the keys
-abbrev pub counted : Algorithm → List ℕ
-counted Brz = codes " buckets "
-counted algorithm = codes " cells "
-
--- what is said of a function that was built, if that is asked for
-abbrev pub built : List ℕ → BuildJob → Summary → List ℕ
-built program job s = joined (program ∷ codes ": " ∷ name_of job.algorithm ∷ codes " keys " ∷ decimal s.keys ∷ counted job.algorithm ∷ decimal s.cells ∷ codes " seed " ∷ decimal s.seed ∷ codes "\n" ∷ [])
-
-abbrev pub built_message : List ℕ → BuildJob → Summary → List ℕ
-built_message program job s = if job.verbose then built program job s else []
+-- what is said of the fault at the end of the keys
+abbrev pub fault_message : List ℕ → List ℕ → KeyFault → List ℕ
+fault_message program file Read = cannot_read program file
+fault_message program file (TooLong line) = line_too_long program file line
+fault_message program file TooMany = too_many_keys program file

@@ -7,6 +7,6 @@ pub struct Names<'a> {
     pub program: &'a str,
     /// The path of the keys file.
     pub keys: &'a str,
-    /// The path of the function file.
+    /// The path of the function file, or of any other that is saved or asked for keys.
     pub function: &'a str,
 }

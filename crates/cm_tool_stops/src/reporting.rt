@@ -1,21 +1,20 @@
 //! What is said on err.
-ghost use Rattle.std.specs.Prelude.{◌≡◌, [], ◌∷◌, codes, decimal, false, map};
+ghost use Rattle.std.specs.Prelude.{◌≡◌, false, map};
 ghost use Rattle.cm_io.specs.States.{IsSent};
 ghost use Rattle.cm_io.specs.Noting.{Noted};
 ghost use Rattle.cm_io.specs.Writing.{joined};
 ghost use Rattle.cm_tool_stops.specs.Ends.{Says, status_of, message_of, query_status_of, query_message_of, upgrade_status_of, upgrade_message_of, usage_status_of};
-ghost use Rattle.cm_tool_stops.specs.Messages.{built, built_message, cannot_read, cannot_write, cannot_write_out, counted, keys_changed, line_too_long, out_of_memory, seed_failure_message, spill_damaged, too_many_keys, usage_message};
+ghost use Rattle.cm_tool_stops.specs.Messages.{cannot_read, cannot_write, cannot_write_out, keys_changed, line_too_long, out_of_memory, seed_failure_message, spill_damaged, too_many_keys, usage_message};
 ghost use Rattle.cm_tool_stops.specs.Named.{named};
 
-use crate::built::Summary;
 use crate::dumps::explain_dump;
+use crate::explained::Explained;
 use crate::names::Names;
 use crate::stop::{QueryStop, Stop, UpgradeStop};
-use cm_algo_names::Algorithm;
-use cm_func::SeedFailure;
 use cm_io::{Notes, Sink};
 use cm_spec::{MAX_BUCKET, MAX_KEYS};
-use cm_words::{BuildJob, UsageFault};
+use cm_witness_gather::SeedFailure;
+use cm_words_arguments::UsageFault;
 use itoa::Buffer;
 
 /// What was read from the spill at an offset in bytes, and the number that was expected there.
@@ -27,7 +26,7 @@ struct Damage {
 }
 
 /// Says one message. If err fails, it gets a prefix of it.
-pub(crate) fn say<E: Sink>(err: &mut E, pieces: &[&[u8]])
+pub fn say<E: Sink>(err: &mut E, pieces: &[&[u8]])
     ensures says { Says (E.state err.old) (E.state err.new) (joined (map (λ piece. piece.now) pieces.now)) }
     ensures sent { IsSent (E.state err.old) (E.state err.new) }
 {
@@ -35,13 +34,13 @@ pub(crate) fn say<E: Sink>(err: &mut E, pieces: &[&[u8]])
     notes.note_pieces(err, pieces);
 }
 
-/// Says why arguments ask for no job, and returns the status.
-pub fn report_usage<E: Sink>(program: &str, fault: UsageFault, err: &mut E) -> u8
+/// Says why arguments ask for no job, and returns the status. The hint follows the message for arguments that `clap` refuses.
+pub fn report_usage<E: Sink>(program: &str, hint: &str, fault: UsageFault, err: &mut E) -> u8
     ensures status { result ≡ usage_status_of fault }
-    ensures says { Says (E.state err.old) (E.state err.new) (usage_message program.now fault) }
+    ensures says { Says (E.state err.old) (E.state err.new) (usage_message program.now hint.now fault) }
     ensures sent { IsSent (E.state err.old) (E.state err.new) }
 {
-    explain_usage(program.as_bytes(), fault, err);
+    explain_usage(program.as_bytes(), hint.as_bytes(), fault, err);
     usage_status(fault)
 }
 
@@ -51,25 +50,17 @@ pub fn report_no_memory<E: Sink>(program: &str, err: &mut E) -> u8
     ensures says { Says (E.state err.old) (E.state err.new) (out_of_memory program.now) }
     ensures sent { IsSent (E.state err.old) (E.state err.new) }
 {
-    report_usage(program, UsageFault::Memory, err)
+    report_usage(program, "", UsageFault::Memory, err)
 }
 
 /// Says why arguments ask for no job.
-fn explain_usage<E: Sink>(program: &[u8], fault: UsageFault, err: &mut E)
-    ensures says { Says (E.state err.old) (E.state err.new) (usage_message program.now fault) }
+fn explain_usage<E: Sink>(program: &[u8], hint: &[u8], fault: UsageFault, err: &mut E)
+    ensures says { Says (E.state err.old) (E.state err.new) (usage_message program.now hint.now fault) }
     ensures sent { IsSent (E.state err.old) (E.state err.new) }
 {
     match fault {
         UsageFault::Memory => say(err, &[program, b": out of memory\n"]),
-        UsageFault::Words => say(
-            err,
-            &[
-                program,
-                b": bad arguments; ",
-                program,
-                b" -h shows the usage\n",
-            ],
-        ),
+        UsageFault::Words => say(err, &[program, b": bad arguments", hint, b"\n"]),
         UsageFault::BadValue { letter } => say(
             err,
             &[program, b": bad value of -", &[letter], b"\n"],
@@ -86,48 +77,6 @@ fn usage_status(fault: UsageFault) -> u8
         UsageFault::Memory => 6,
         UsageFault::Words | UsageFault::BadValue { letter: _ } | UsageFault::NoFile => 2,
     }
-}
-
-/// Says what function was built, if that is asked for.
-pub fn say_built<E: Sink>(program: &str, job: &BuildJob, summary: Summary, err: &mut E)
-    ensures says { Says (E.state err.old) (E.state err.new) (built_message program.now job.now summary) }
-    ensures sent { (E.state err.old).waits ≡ 0 → IsSent (E.state err.old) (E.state err.new) }
-{
-    if job.verbose {
-        let name = job.algorithm.name().as_bytes();
-        say_summary(program.as_bytes(), name, job.algorithm, summary, err);
-    }
-}
-
-/// Says what function was built, by the name of its algorithm.
-fn say_summary<E: Sink>(
-    program: &[u8],
-    name: &[u8],
-    algorithm: Algorithm,
-    summary: Summary,
-    err: &mut E,
-)
-    ensures says { Says (E.state err.old) (E.state err.new)
-        (joined (program.now ∷ codes ": " ∷ name.now ∷ codes " keys " ∷ decimal summary.keys ∷ counted algorithm ∷ decimal summary.cells ∷ codes " seed " ∷ decimal summary.seed ∷ codes "\n" ∷ [])) }
-    ensures sent { IsSent (E.state err.old) (E.state err.new) }
-{
-    let counted: &[u8] = match algorithm {
-        Algorithm::Chm | Algorithm::Bdz | Algorithm::BdzPh => b" cells ",
-        Algorithm::Brz => b" buckets ",
-    };
-    let mut keys_buffer = Buffer::new();
-    let keys_text = keys_buffer.format(summary.keys).as_bytes();
-    let mut cells_buffer = Buffer::new();
-    let cells_text = cells_buffer.format(summary.cells).as_bytes();
-    let mut seed_buffer = Buffer::new();
-    let seed_text = seed_buffer.format(summary.seed).as_bytes();
-    say(
-        err,
-        &[
-            program, b": ", name, b" keys ", keys_text, counted, cells_text, b" seed ", seed_text,
-            b"\n",
-        ],
-    );
 }
 
 /// Says why a build stopped, by what it names and by the directory of its spill, and returns its status.
@@ -198,14 +147,14 @@ fn status(stop: Stop) -> u8
 }
 
 /// Notes why a query stopped, and returns its status.
-pub fn report_query<E: Sink>(
-    stop: QueryStop,
+pub fn report_query<F: Explained, E: Sink>(
+    stop: &QueryStop<F>,
     names: &Names<'_>,
     err: &mut E,
     notes: &mut Notes,
 ) -> u8
-    ensures status { result ≡ query_status_of stop }
-    ensures noted { Noted notes.old notes.new (E.state err.old) (E.state err.new) (query_message_of (named names.now) stop) }
+    ensures status { result ≡ query_status_of stop.now }
+    ensures noted { Noted notes.old notes.new (E.state err.old) (E.state err.new) (query_message_of F.message (named names.now) stop.now) }
     ensures sent { notes.new ≡ false → (E.state err.new).waits ≡ 0 }
 {
     explain_query(stop, names, err, notes);
@@ -213,30 +162,34 @@ pub fn report_query<E: Sink>(
 }
 
 /// Notes why a query stopped.
-fn explain_query<E: Sink>(stop: QueryStop, names: &Names<'_>, err: &mut E, notes: &mut Notes)
-    ensures noted { Noted notes.old notes.new (E.state err.old) (E.state err.new) (query_message_of (named names.now) stop) }
+fn explain_query<F: Explained, E: Sink>(
+    stop: &QueryStop<F>,
+    names: &Names<'_>,
+    err: &mut E,
+    notes: &mut Notes,
+)
+    ensures noted { Noted notes.old notes.new (E.state err.old) (E.state err.new) (query_message_of F.message (named names.now) stop.now) }
     ensures sent { notes.new ≡ false → (E.state err.new).waits ≡ 0 }
 {
     let program = names.program.as_bytes();
     let keys = names.keys.as_bytes();
-    let function = names.function.as_bytes();
     match stop {
         QueryStop::Memory => note_want_of_memory(program, err, notes),
-        QueryStop::NoFunction => note_unread(program, function, err, notes),
-        QueryStop::BadDump { fault } => explain_dump(program, function, fault, err, notes),
+        QueryStop::NoFunction => note_unread(program, names.function.as_bytes(), err, notes),
+        QueryStop::BadFile { fault } => fault.explain(names, err, notes),
         QueryStop::Read => note_unread(program, keys, err, notes),
         QueryStop::Write => note_out_fault(program, err, notes),
-        QueryStop::TooLong { line } => note_long_line(program, keys, line, err, notes),
+        QueryStop::TooLong { line } => note_long_line(program, keys, *line, err, notes),
         QueryStop::TooMany => note_many_keys(program, keys, err, notes),
     }
 }
 
 /// The status of a query that stopped.
-fn query_status(stop: QueryStop) -> u8
-    ensures status { result ≡ query_status_of stop }
+fn query_status<F>(stop: &QueryStop<F>) -> u8
+    ensures status { result ≡ query_status_of stop.now }
 {
     match stop {
-        QueryStop::BadDump { fault: _ } => 3,
+        QueryStop::BadFile { fault: _ } => 3,
         QueryStop::NoFunction | QueryStop::Read => 4,
         QueryStop::Write => 5,
         QueryStop::Memory => 6,

@@ -1,7 +1,7 @@
 //! Why a job stopped.
 
 use cm_dump_items::LoadFault;
-use cm_func::SeedFailure;
+use cm_witness_gather::SeedFailure;
 
 /// What kept a build from its end.
 #[derive(Clone, Copy)]
@@ -53,14 +53,14 @@ pub enum UpgradeStop {
 }
 
 /// What kept a query from its end.
-#[derive(Clone, Copy)]
-pub enum QueryStop {
+#[derive(Drop)]
+pub enum QueryStop<F> {
     /// Out of memory.
     Memory,
     /// The function file can't be opened or read.
     NoFunction,
-    /// The function file is not the dump of a function.
-    BadDump { fault: LoadFault },
+    /// The function file has bytes that it can't have.
+    BadFile { fault: F },
     /// The keys file can't be opened or read.
     Read,
     /// Out can't be written.

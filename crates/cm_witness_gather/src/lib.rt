@@ -1,8 +1,9 @@
-//! Why no seed works: the edges of a 2-core, and which of its keys are equal.
+//! Why no seed works: what is said of that, the edges of a 2-core, and which of its keys are equal.
 #![tactic(auto)]
 
 mod candidates;
 mod certificate;
+mod failure;
 mod firsts;
 mod gathering;
 mod laws;
@@ -12,6 +13,7 @@ mod table;
 pub use candidates::count_candidates;
 pub use certificate::{Certificate, CoreEdge, GatherFault, InBucket, Pair};
 pub use cm_algo_names::Algorithm;
+pub use failure::SeedFailure;
 pub use firsts::{EqualKeys, equal_pairs};
 pub use gathering::{gather, gather_with};
 pub use laws::{each_paired, reports};

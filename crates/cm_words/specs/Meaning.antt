@@ -1,11 +1,11 @@
 -- What arguments mean: a job, or a fault.
 use Rattle.std.specs.Prelude.{ℕ, ◌++◌, List, codes, Option, Some, None, Ok, Err, if◌then◌else◌, unwrap_or}
-use Rattle.clap.specs.Words.{Row, Text, fault_of, first_of, matches_of}
+use Rattle.clap.specs.Words.{Row, Text, first_of}
 use Rattle.cm_words.specs.Command.{cmph_app}
 use Rattle.cm_words_values.specs.Options.{and_then}
 use Rattle.cm_words_arguments.specs.Options.{Read, as_usage, is_counted, is_set}
-use Rattle.cm_words_arguments.specs.Refusals.{is_refused}
-use Rattle.cm_words_arguments.specs.declared.fault.UsageFault.TheVariants.{NoFile, Words}
+use Rattle.cm_words_arguments.specs.Refusals.{read_by}
+use Rattle.cm_words_arguments.specs.declared.fault.UsageFault.TheVariants.{NoFile}
 use Rattle.cm_words.specs.Options.{end_of, values_of}
 use Rattle.cm_words.specs.declared.jobs.BuildJob.{BuildJob}
 use Rattle.cm_words.specs.declared.jobs.QueryJob.{QueryJob}
@@ -80,5 +80,4 @@ job_of_rows rows = if is_set (codes "help") rows then Ok Help
 
 -- the job of the arguments, of which the first is the program's name
 unfoldable pub job_of : List Text → Read Job
-job_of words = if is_refused (fault_of cmph_app words) then Err Words
-    else job_of_rows (matches_of cmph_app words)
+job_of words = read_by cmph_app job_of_rows words

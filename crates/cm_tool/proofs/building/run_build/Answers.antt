@@ -2,9 +2,9 @@ use Rattle.std.proofs.Common.{◌≡◌, arith, length}
 use Rattle.cm_io.specs.States.{outside}
 use Rattle.cm_io.specs.declared.key_pass.TheConstants.{MAX_KEY_LEN}
 use Rattle.cm_spec.specs.declared.limits.TheConstants.{MAX_KEYS}
-use Rattle.cm_tool_building.specs.Does.{Builds}
+use Rattle.cm_tool_building.specs.Builds.{Builds}
 use Rattle.cm_tool.specs.Building.{building_of}
-use Rattle.cm_tool.specs.Outcome.{keys_in}
+use Rattle.cm_keys.specs.Lines.{keys_in}
 use Rattle.cm_tool.proofs.Builds.{NoneRead, emptied, is_cored, keys_spilled, lacking, reaches, saved_files, says_end, took_first, unfinished}
 use Rattle.cm_tool.proofs.Makes.{unless_spilled}
 use Rattle.cm_tool.proofs.building.run_build.Goals as goal

@@ -2,7 +2,7 @@ use Rattle.std.proofs.Common.{◌∙◌, None, Some, ap}
 use Rattle.cm_keys.specs.declared.keys.TheConstants.{LINE_END}
 use Rattle.cm_keys_made.specs.Sources.{MadeSource}
 use Rattle.cm_keys_made.specs.Texts.{made_text}
-use Rattle.cm_tool.specs.Outcome.{keys_in}
+use Rattle.cm_keys.specs.Lines.{keys_in}
 use Rattle.cm_tool.specs.Tested.{generated}
 use Rattle.cm_tool.proofs.testing.generated_pass.Goals as goal
 

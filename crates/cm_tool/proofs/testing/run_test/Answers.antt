@@ -3,7 +3,7 @@ use Rattle.cm_io.specs.States.{outside}
 use Rattle.cm_tool_stops.specs.Ends.{message_of}
 use Rattle.cm_tool.specs.TestEnds.{test_name}
 use Rattle.cm_tool.specs.Tested.{test_outcome}
-use Rattle.cm_tool.proofs.Naming.{naming}
+use Rattle.cm_tool.specs.Said.{naming}
 use Rattle.cm_tool_building.specs.StopLaws.{stop_failed, stop_write}
 use Rattle.cm_tool.proofs.Outcomes.{nothing_said}
 use Rattle.cm_tool.proofs.Tests.{done_message, last_spilled, never_changed, part_of_test, test_done, test_known, test_message, test_status, test_stopped, unfinished_test}

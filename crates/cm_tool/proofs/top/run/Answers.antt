@@ -1,7 +1,7 @@
 use Rattle.std.proofs.Common.{[], ◌∷◌, ◌≡◌, ◌∙◌, Ok, ap, arith, sym, refl, inl, inr}
 use Rattle.cm_io.specs.States.{outside}
 use Rattle.cm_tool.specs.Said.{usage_message}
-use Rattle.cm_tool_stops.specs.Texts.{help_text, version_text}
+use Rattle.cm_tool.specs.Texts.{help_text, version_text}
 use Rattle.cm_tool.specs.Outcome.{job_outcome}
 use Rattle.cm_tool.proofs.Clauses.{any_build, disk_alone, for_build, for_query, for_test, for_text, for_upgrade, not_brz, not_printing, not_query, not_risen, not_seven, not_storing, not_test, out_alone, sent_none, text_is, text_unsent, unless_brz, unless_printing, unless_storing, usage_is}
 use Rattle.cm_tool.proofs.Words.{early_tested, printed, says_none, text_missing, text_status, unless_query, unless_test, usage_cut, usage_missing, usage_outcome, usage_said, usage_status}

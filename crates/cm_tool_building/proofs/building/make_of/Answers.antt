@@ -1,6 +1,6 @@
 use Rattle.std.proofs.Common.{◌∙◌, ℕ, List, Option, ap}
 use Rattle.std.specs.Option.{option_map}
-use Rattle.cm_tool_building.specs.Builds.{building, keys_of}
+use Rattle.cm_tool_building.specs.Building.{building, keys_of}
 use Rattle.cm_tool_building.proofs.Stops.{refused_from, stop_cause, stop_form}
 use Rattle.cm_tool_building.proofs.building.make_of.Goals as goal
 

@@ -1,6 +1,6 @@
 use Rattle.std.proofs.Common.{◌∙◌, Ok, Err, arith, refl, sym}
 use Rattle.cm_io.specs.States.{outside}
-use Rattle.cm_tool_building.specs.Builds.{building}
+use Rattle.cm_tool_building.specs.Building.{building}
 use Rattle.cm_tool_building.specs.StopLaws.{neither, stop_failed, stop_read, stop_write}
 use Rattle.cm_tool_building.proofs.Ends.{emptied, finished, missing, none_made, outcome_saving, refused_with, stop_kept, stop_known, stop_quiet, stop_status, stopped, written_part}
 use Rattle.cm_tool_building.proofs.driving.build.Goals as goal

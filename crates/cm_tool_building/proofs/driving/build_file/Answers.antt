@@ -1,5 +1,5 @@
 use Rattle.std.proofs.Common.{◌∙◌, None, refl}
-use Rattle.cm_tool_building.specs.Builds.{building}
+use Rattle.cm_tool_building.specs.Building.{building}
 use Rattle.cm_tool_building.proofs.Stops.{leaves_created, leaves_refused}
 use Rattle.cm_tool_building.proofs.driving.build_file.Goals as goal
 

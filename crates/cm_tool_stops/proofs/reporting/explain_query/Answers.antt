@@ -9,14 +9,11 @@ returns-in-Memory-clause-noted g c =
 pub returns-in-NoFunction-clause-noted : goal.returns-in-NoFunction-clause-noted
 returns-in-NoFunction-clause-noted g c =
     let program : c.as_bytes-program.result.now ≡ c.args.names.now.program.now = c.as_bytes-program.ensures.value in
-    let function : c.as_bytes-function.result.now ≡ c.args.names.now.function.now = c.as_bytes-function.ensures.value in
+    let function : c.as_bytes.result.now ≡ c.args.names.now.function.now = c.as_bytes.ensures.value in
     rw c.in-NoFunction.is (rw (program, function) at c.note_unread.ensures.noted)
 
-pub returns-in-BadDump-clause-noted : goal.returns-in-BadDump-clause-noted
-returns-in-BadDump-clause-noted g c =
-    let program : c.as_bytes-program.result.now ≡ c.args.names.now.program.now = c.as_bytes-program.ensures.value in
-    let function : c.as_bytes-function.result.now ≡ c.args.names.now.function.now = c.as_bytes-function.ensures.value in
-    rw c.in-BadDump.is (rw (program, function) at c.explain_dump.ensures.noted)
+pub returns-in-BadFile-clause-noted : goal.returns-in-BadFile-clause-noted
+returns-in-BadFile-clause-noted g c = rw c.in-BadFile.is c.explain.ensures.noted
 
 pub returns-in-Read-clause-noted : goal.returns-in-Read-clause-noted
 returns-in-Read-clause-noted g c =

@@ -1,0 +1,4 @@
+mod Answered
+mod Outcomes
+mod Progress
+mod Verdicts
