@@ -1,0 +1,6 @@
+pub mod Rising
+pub mod Judged
+pub mod Verdicts
+pub mod Truth
+pub mod Examples
+pub mod Walks

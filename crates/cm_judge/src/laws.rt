@@ -1,0 +1,40 @@
+//! When the judge says that a report holds, and worked examples.
+ghost use Rattle.std.specs.Prelude.{◌≡◌, ◌↔◌, ℕ, List, [], ◌∷◌, Ok, Err, Option, codes, length, map};
+ghost use Rattle.cm_judge.specs.Examples.{judged};
+ghost use Rattle.cm_judge.specs.Judged.{Judged, core_in, edge_over, pairs_in};
+ghost use Rattle.cm_judge.specs.Truth.{HaveRisingLines, IsTrue};
+ghost use Rattle.cm_judge.specs.Verdicts.{core_reason, core_reasons, edge_reason, first_reason, no_bucket, verdict_of};
+ghost use Rattle.cm_judge.specs.declared.verdict.Reason.TheVariants as reason;
+ghost use Rattle.cm_judge.specs.declared.verdict.Settings.{Settings};
+ghost use Rattle.cm_judge.specs.declared.verdict.Verdict.TheVariants.{Fails, Holds};
+ghost use Rattle.cm_spec.specs.Examples.{two_empty};
+ghost use Rattle.cm_witness_gather.specs.Examples.{empties_and_a};
+ghost use Rattle.cm_witness_gather.specs.declared.certificate.CoreEdge.{CoreEdge};
+ghost use Rattle.cm_witness_gather.specs.declared.certificate.InBucket.{InBucket};
+ghost use Rattle.cm_witness_gather.specs.declared.certificate.Pair.{Pair};
+ghost use Rattle.cm_witness_report.specs.Reports.{IsReport, Said};
+
+/// The judge says that a report holds exactly if it is true.
+pub fn holds_if_true()
+    ensures { (said : Said) (keys : List (ℕ × List ℕ)) (settings : Settings) → IsReport said → HaveRisingLines keys → (verdict_of said keys settings ≡ Holds) ↔ IsTrue said keys settings }
+{}
+
+/// The verdict on a 2-core is that of its bucket, then of what is seen without the 2-core, and then of what is seen by it.
+pub fn verdict_by_steps()
+    ensures { (place : Option InBucket) (buckets : ℕ) (j : Judged) (edges : List CoreEdge) (equal : List Pair) →
+        first_reason (core_reasons place buckets j edges equal)
+        ≡ first_reason (no_bucket place buckets (length j.keys) ∷ edge_reason j.keys (map (edge_over j.rule (j.rule.size (length j.keys) j.ratio) j.seed) j.keys) edges ∷ core_reason (core_in j) (pairs_in j) edges equal ∷ []) }
+{}
+
+/// What the judge says of small reports on keys without options: on two empty keys, and on three empty keys with another one.
+pub fn worked_verdicts()
+    ensures whole { judged (codes "core chm seed 0 edges 2\nedge 1 4 1\nedge 2 4 1\nequal 1 2\n") two_empty ≡ Ok Holds }
+    ensures no_pair { judged (codes "core chm seed 0 edges 2\nedge 1 4 1\nedge 2 4 1\n") two_empty ≡ Ok (Fails (reason.NoPair 2)) }
+    ensures once { judged (codes "core chm seed 0 edges 1\nedge 2 4 1\n") two_empty ≡ Ok (Fails (reason.Once 1)) }
+    ensures missing { judged (codes "core chm seed 0 edges 2\nedge 1 1 7\nedge 3 1 7\nequal 1 3\n") empties_and_a ≡ Ok (Fails (reason.Missing 4)) }
+    ensures no_key { judged (codes "core chm seed 0 edges 2\nedge 1 4 1\nedge 3 4 1\n") two_empty ≡ Ok (Fails (reason.NoKey 3)) }
+    ensures ends { judged (codes "core chm seed 0 edges 2\nedge 1 1 4\nedge 2 1 4\nequal 1 2\n") two_empty ≡ Ok (Fails (reason.Ends 1)) }
+    ensures no_bucket { judged (codes "core brz split 1 bucket 1 seed 0 edges 1\nedge 1 1 4 7\n") two_empty ≡ Ok (Fails reason.NoBucket) }
+    ensures not_overfull { judged (codes "overfull brz seed 1 bucket 0 keys 1024\n") two_empty ≡ Ok (Fails reason.NoBucket) }
+    ensures empty { judged [] two_empty ≡ Err 1 }
+{}
