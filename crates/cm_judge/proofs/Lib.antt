@@ -4,8 +4,3 @@ pub mod Places
 pub mod CoreLaw
 pub mod BucketLaw
 pub mod Law
-pub mod Merging
-pub mod Counting
-pub mod Passing
-pub mod Own
-pub mod Steps

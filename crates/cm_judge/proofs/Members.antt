@@ -2,7 +2,7 @@
 use Rattle.std.proofs.Common.{◌≡◌, ◌⊎◌, ℕ, zero, suc, ◌<◌, ◌≤◌, Bool, true, false, cond, List, [], ◌∷◌, ◌++◌, map, length, get_or, sym, refl, ap, ◌∙◌, subst, inl, inr, arith}
 use Rattle.std.specs.List.{All, filter, flat_map}
 use Rattle.std.proofs.lemmas.Bool.{eqb-true, eq-eqb, or_cases, or_left, or_right, false≢true}
-use Rattle.std.proofs.lemmas.List.Elements.{All-cons, All-head, All-nil, All-tail}
+use Rattle.std.proofs.lemmas.List.Elements.{All-cons, All-nil}
 use Rattle.cm_judge.specs.Rising.{RisesBy}
 use Rattle.cm_peel.specs.SetLaws.{Rises}
 use Rattle.cm_spec.specs.Lists.{has}
@@ -89,11 +89,6 @@ In-from_has (y ∷ ys) x h = elim (or_cases _ _ h) [ inl e ↦ inl (eqb-true y x
 pub All-from_In : {X : Type 0} (P : X → Type 0) (xs : List X) → ((x : X) → In xs x → P x) → All P xs
 All-from_In P [] h = All-nil P
 All-from_In P (x ∷ xs) h = All-cons P x xs (h x (inl refl)) (All-from_In P xs (λ y m. h y (inr m)))
-
-pub All-at : {X : Type 0} (P : X → Type 0) (xs : List X) (x : X) → All P xs → In xs x → P x
-All-at P [] x h m = absurd m
-All-at P (y ∷ ys) x h (inl e) = subst P e (All-head P y ys h)
-All-at P (y ∷ ys) x h (inr m) = All-at P ys x (All-tail P y ys h) m
 
 pub In-get_or : {X : Type 0} (xs : List X) (k : ℕ) (d : X) → k < length xs → In xs (get_or xs k d)
 In-get_or [] k d h = absurd (omega arith)

@@ -1,17 +1,16 @@
 -- What a report is judged by: keys, and the graph that it speaks of.
-use Rattle.std.specs.Prelude.{ℕ, List, filter, length, map, nat_eq, Option, None, Some, unwrap_or}
-use Rattle.std.specs.List.{list_any}
+use Rattle.std.specs.Prelude.{ℕ, List, length, Option, None, Some, unwrap_or}
 use Rattle.cm_algo_names.specs.declared.algorithm.Algorithm.{Algorithm}
 use Rattle.cm_algo_names.specs.declared.algorithm.Algorithm.TheVariants.{Chm, Bdz, BdzPh, Brz}
 use Rattle.cm_brz_func.specs.Functions.{bucket_count}
 use Rattle.cm_brz_func.specs.Splitting.{keys_of_bucket}
 use Rattle.cm_judge.specs.declared.verdict.Settings.{Settings}
 use Rattle.cm_spec.specs.Bdz.{bdz_ph_rule, bdz_rule}
-use Rattle.cm_spec.specs.Built.{edge_of, graph_of}
+use Rattle.cm_spec.specs.Built.{graph_of}
 use Rattle.cm_spec.specs.Chm.{chm_rule}
 use Rattle.cm_spec.specs.Graph.{places}
 use Rattle.cm_spec.specs.Rule.{Rule}
-use Rattle.cm_witness_gather.specs.Cores.{core_edge, core_edges, edges_left, pairs_left}
+use Rattle.cm_witness_gather.specs.Cores.{core_edges, edges_left, pairs_left}
 use Rattle.cm_witness_gather.specs.declared.certificate.CoreEdge.{CoreEdge}
 use Rattle.cm_witness_gather.specs.declared.certificate.InBucket.{InBucket}
 use Rattle.cm_witness_gather.specs.declared.certificate.Pair.{Pair}
@@ -59,11 +58,3 @@ core_in j = edges_left j.rule j.keys j.ratio j.seed
 -- the pairs of equal keys among theirs
 abbrev pub pairs_in : Judged → List Pair
 pairs_in j = pairs_left j.rule j.keys j.ratio j.seed
-
--- the edge of a key over n vertices, with its line
-abbrev pub edge_over : Rule → ℕ → ℕ → ℕ × List ℕ → CoreEdge
-edge_over r n seed key = core_edge key (edge_of r n seed key)
-
--- those of all edges that have the line of one of these
-abbrev pub with_lines_of : List CoreEdge → List CoreEdge → List CoreEdge
-with_lines_of edges all = filter (λ e. list_any (nat_eq e.line) (map (λ x. x.line) edges)) all

@@ -3,4 +3,3 @@ pub mod Judged
 pub mod Verdicts
 pub mod Truth
 pub mod Examples
-pub mod Walks

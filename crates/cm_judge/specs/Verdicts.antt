@@ -1,7 +1,7 @@
 -- What the judge says of a report: the first reason why it is false, or that it holds.
 use Rattle.std.specs.Prelude.{ℕ, ◌==◌, ◌||◌, ◌&&◌, Bool, not, nat_eq, nat_lt, if◌then◌else◌, List, [], ◌∷◌, ◌++◌, count_by, filter, find, flat_map, length, map, min, Option, None, Some, option_map, option_to_list}
 use Rattle.std.specs.List.{list_any, range_with_len, reduce}
-use Rattle.std.specs.Option.{option_eq, option_or}
+use Rattle.std.specs.Option.{option_eq}
 use Rattle.cm_brz_func.specs.Splitting.{keys_of_bucket}
 use Rattle.cm_brz_split.specs.Split.{size_of_bucket}
 use Rattle.cm_judge.specs.Judged.{Judged, buckets_for, core_in, edges_in, judged_by, pairs_in}
@@ -79,10 +79,6 @@ lone_vertices edges = filter (λ v. touching edges v == 1) (flat_map ends_of edg
 abbrev pub touched_once : List CoreEdge → Option Reason
 touched_once edges = lowest Once (lone_vertices edges)
 
--- the first of the reasons that are seen without the 2-core: of these keys, all edges of their graph, and those of the report
-abbrev pub edge_reason : List (ℕ × List ℕ) → List CoreEdge → List CoreEdge → Option Reason
-edge_reason keys all edges = option_or (lowest NoKey (lines_unknown keys edges)) (option_or (lowest Ends (lines_other all edges)) (lowest Once (lone_vertices edges)))
-
 -- the lines of those of some edges whose lines others don't have
 abbrev pub lines_lacking : List CoreEdge → List CoreEdge → List ℕ
 lines_lacking edges core = lacking nat_eq (map (λ e. e.line) edges) (map (λ e. e.line) core)
@@ -102,10 +98,6 @@ lines_apart real equal = map (λ p. p.again) (lacking same_pair real equal ++ la
 -- a pair is in only one of two lists
 abbrev pub other_pairs : List Pair → List Pair → Option Reason
 other_pairs real equal = lowest NoPair (lines_apart real equal)
-
--- the first of the reasons that are seen by the 2-core: of its edges and pairs, and those of the report
-abbrev pub core_reason : List CoreEdge → List Pair → List CoreEdge → List Pair → Option Reason
-core_reason core real edges equal = option_or (lowest Missing (lines_lacking edges core)) (other_pairs real equal)
 
 -- the lowest bucket with more keys than one may have
 abbrev pub lowest_overfull : List (ℕ × List ℕ) → ℕ → ℕ → Option ℕ

@@ -1,29 +1,18 @@
 //! When the judge says that a report holds, and worked examples.
-ghost use Rattle.std.specs.Prelude.{◌≡◌, ◌↔◌, ℕ, List, [], ◌∷◌, Ok, Err, Option, codes, length, map};
+ghost use Rattle.std.specs.Prelude.{◌≡◌, ◌↔◌, ℕ, List, [], Ok, Err, codes};
 ghost use Rattle.cm_judge.specs.Examples.{judged};
-ghost use Rattle.cm_judge.specs.Judged.{Judged, core_in, edge_over, pairs_in};
 ghost use Rattle.cm_judge.specs.Truth.{HaveRisingLines, IsTrue};
-ghost use Rattle.cm_judge.specs.Verdicts.{core_reason, core_reasons, edge_reason, first_reason, no_bucket, verdict_of};
+ghost use Rattle.cm_judge.specs.Verdicts.{verdict_of};
 ghost use Rattle.cm_judge.specs.declared.verdict.Reason.TheVariants as reason;
 ghost use Rattle.cm_judge.specs.declared.verdict.Settings.{Settings};
 ghost use Rattle.cm_judge.specs.declared.verdict.Verdict.TheVariants.{Fails, Holds};
 ghost use Rattle.cm_spec.specs.Examples.{two_empty};
 ghost use Rattle.cm_witness_gather.specs.Examples.{empties_and_a};
-ghost use Rattle.cm_witness_gather.specs.declared.certificate.CoreEdge.{CoreEdge};
-ghost use Rattle.cm_witness_gather.specs.declared.certificate.InBucket.{InBucket};
-ghost use Rattle.cm_witness_gather.specs.declared.certificate.Pair.{Pair};
 ghost use Rattle.cm_witness_report.specs.Reports.{IsReport, Said};
 
 /// The judge says that a report holds exactly if it is true.
 pub fn holds_if_true()
     ensures { (said : Said) (keys : List (ℕ × List ℕ)) (settings : Settings) → IsReport said → HaveRisingLines keys → (verdict_of said keys settings ≡ Holds) ↔ IsTrue said keys settings }
-{}
-
-/// The verdict on a 2-core is that of its bucket, then of what is seen without the 2-core, and then of what is seen by it.
-pub fn verdict_by_steps()
-    ensures { (place : Option InBucket) (buckets : ℕ) (j : Judged) (edges : List CoreEdge) (equal : List Pair) →
-        first_reason (core_reasons place buckets j edges equal)
-        ≡ first_reason (no_bucket place buckets (length j.keys) ∷ edge_reason j.keys (map (edge_over j.rule (j.rule.size (length j.keys) j.ratio) j.seed) j.keys) edges ∷ core_reason (core_in j) (pairs_in j) edges equal ∷ []) }
 {}
 
 /// What the judge says of small reports on keys without options: on two empty keys, and on three empty keys with another one.
