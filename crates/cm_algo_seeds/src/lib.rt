@@ -7,4 +7,4 @@ mod seeds;
 
 pub use crate::fault::BuildFault;
 pub use crate::passes::count_all;
-pub use crate::seeds::{Left, build_first, build_later, build_with, certify};
+pub use crate::seeds::{Left, attempt, build_first, build_later, build_with, certify};

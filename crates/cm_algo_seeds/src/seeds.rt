@@ -55,8 +55,8 @@ fn solve<S: Scheme<K>, I: Incidence<K> + Drop, const K: usize, L: Ledger>(
     }
 }
 
-/// One seed: the cells, or the graph if it has a 2-core. The buffer is scratch space.
-fn attempt<S: Scheme<K>, I: Incidence<K> + Drop, P: KeyPass, const K: usize, L: Ledger>(
+/// One seed: the cells, or the graph if it has a 2-core. The keys, which are to be `m`, are passed once. The buffer is scratch space.
+pub fn attempt<S: Scheme<K>, I: Incidence<K> + Drop, P: KeyPass, const K: usize, L: Ledger>(
     alloc: Global,
     scheme: &S,
     keys: &mut P,

@@ -2,7 +2,7 @@
 use Rattle.std.proofs.Common.{◌≡◌, ◌≢◌, ◌∙◌, ◌⊎◌, ℕ, zero, suc, ◌+◌, ◌-◌, ◌*◌, ◌/◌, ◌<◌, ◌≤◌, Bool, true, false, cond, List, [], ◌∷◌, length, get_or, take, eqb, refl, sym, ap, subst, inl, inr, arith, Option, None, Some}
 use Rattle.std.specs.Prelude.{filter, option_map}
 use Rattle.std.specs.List.{range_with_len, sum_by}
-use Rattle.std.proofs.Math.Nat.{div-le_of_le-mul, le-div_iff_mul-le, mul-le-mul_left}
+use Rattle.std.proofs.Math.Nat.{le-div_iff_mul-le}
 use Rattle.std.proofs.lemmas.Bool.{cases_eq, cases_order, cond-true, cond-false, eq-eqb, ne_eqb}
 use Rattle.std.proofs.lemmas.List.{take-take}
 use Rattle.std.proofs.lemmas.List.Sums.{sum_by-cons, sum_by-take-le, sum_by_more}
@@ -17,7 +17,7 @@ use Rattle.cm_spec.specs.Built.{IsFirst, cells_under, first_seed, graph_of, key_
 use Rattle.cm_spec.specs.Rounds.{rest_of}
 use Rattle.cm_spec.specs.Rule.{IsCount}
 use Rattle.cm_peel.specs.CoreLaws.{empty_rest}
-use Rattle.cm_brz_split.specs.SizesLaws.{length_filter-cons}
+use Rattle.cm_brz_split.specs.SizesLaws.{length_filter-cons, some_buckets}
 use Rattle.cm_spec.specs.declared.limits.TheConstants.{MAX_EDGES}
 
 -- of n numbers from a on, one is b if b is among them, and else none
@@ -195,22 +195,12 @@ same_bucket xs i j n m l h a b e = go (cases_order i j) where
   go (inr (inl low)) = absurd (omega (arith, offsets_rise xs i j low (omega arith)))
   go (inr (inr high)) = absurd (omega (arith, offsets_rise xs j i high (omega arith)))
 
-pub some_buckets : (m b : ℕ) → 1 ≤ m → 1 ≤ b → 0 < bucket_count m b
-some_buckets m b some wide =
-    let enough : 1 * b ≤ m + (b - 1) = omega arith in
-    let le : 1 ≤ (m + (b - 1)) / b = (le-div_iff_mul-le {k = b} {x = 1} {y = m + (b - 1)} wide).1 enough in
-    omega arith
-
 pub some_keys : (m b j : ℕ) → 1 ≤ b → j < bucket_count m b → 1 ≤ m
 some_keys zero b j wide low =
     let le : 1 ≤ (0 + (b - 1)) / b = omega (arith, low) in
     let enough : 1 * b ≤ 0 + (b - 1) = (le-div_iff_mul-le {k = b} {x = 1} {y = 0 + (b - 1)} wide).0 le in
     absurd (omega (arith, enough, wide))
 some_keys (suc m) b j wide low = omega arith
-
-pub few_buckets : (m b : ℕ) → 1 ≤ m → 1 ≤ b → bucket_count m b ≤ m
-few_buckets zero b some wide = absurd (omega arith)
-few_buckets (suc n) b some wide = div-le_of_le-mul b (omega (arith, mul-le-mul_left n wide))
 
 pub numbers_apart : (keys : List (ℕ × List ℕ)) (c b : ℕ) (seeds : List ℕ) (f : Brz) → BucketsApart c → IsBrzOf keys c b seeds f → 1 ≤ length keys → length keys ≤ MAX_EDGES → 1 ≤ b → AnswersApart keys (brz_answer f) (length keys)
 numbers_apart keys c b seeds f apart of some few wide =

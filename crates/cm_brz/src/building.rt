@@ -19,7 +19,8 @@ use cm_algo_scheme::Divisor;
 use cm_algo_seeds::count_all;
 use cm_brz_func::{Brz, BrzParts, MAX_BUCKET};
 use cm_brz_split::{
-    BrzFault, Overfull, Split, Splitting, Store, choose_split, gather_equal, narrowed, put_all,
+    BrzFault, Overfull, Split, Splitting, Store, bucket_total, choose_split, gather_equal,
+    narrowed, put_all,
 };
 use cm_graph::Steps;
 use cm_io::{KeyBuf, KeyPass};
@@ -60,17 +61,6 @@ fn refuse_overfull<P: KeyPass>(
         },
         Err(fault) => fault.into(),
     }
-}
-
-/// How many buckets `m` keys are split into, with `b` keys a bucket on average.
-fn bucket_total(m: u32, b: u16) -> u32
-    requires many { (1 ≤ m) × (m ≤ MAX_KEYS) }
-    requires some { 0 < b }
-    ensures count { result ≡ bucket_count m b }
-    ensures some { 0 < result }
-    ensures few { result ≤ m }
-{
-    (m + (b as u32 - 1)) / b as u32
 }
 
 /// The split of keys that were counted, into buckets of `b` keys on average. The buffer is scratch space.

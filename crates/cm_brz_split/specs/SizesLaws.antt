@@ -1,7 +1,8 @@
 -- Lemmas about the numbers of keys by bucket.
-use Rattle.std.proofs.Common.{◌≡◌, ◌≢◌, ◌∙◌, ◌⊎◌, ℕ, zero, suc, ◌+◌, ◌<◌, ◌≤◌, Bool, true, false, cond, List, [], ◌∷◌, ◌++◌, length, length-append, map, take, get_or, set, sum, eqb, leb, refl, sym, ap, subst, inl, inr, arith, None, Some}
+use Rattle.std.proofs.Common.{◌≡◌, ◌≢◌, ◌∙◌, ◌⊎◌, ℕ, zero, suc, ◌+◌, ◌-◌, ◌*◌, ◌/◌, ◌<◌, ◌≤◌, Bool, true, false, cond, List, [], ◌∷◌, ◌++◌, length, length-append, map, take, get_or, set, sum, eqb, leb, refl, sym, ap, subst, inl, inr, arith, None, Some}
 use Rattle.std.specs.Prelude.{find, filter, replicate}
 use Rattle.std.specs.List.{range_with_len}
+use Rattle.std.proofs.Math.Nat.{div-le_of_le-mul, le-div_iff_mul-le, mul-le-mul_left}
 use Rattle.std.proofs.lemmas.Bool.{cases_Bool, cond-true, cond-false, eqb-true, eqb-false, le-leb, lt-leb}
 use Rattle.std.proofs.lemmas.Grind.{get_or-set_at}
 use Rattle.std.proofs.lemmas.List.{get_or-set_other}
@@ -10,7 +11,7 @@ use Rattle.std.proofs.lemmas.List.Folds.{list_all_at, sum_by-replicate}
 use Rattle.std.proofs.lemmas.List.FromFn.{get_or-range_with_len, length-range_with_len}
 use Rattle.std.proofs.lemmas.List.Sums.{get_or-le-sum_by, length-filter, list_all-from_AllPass, sum-map, sum_by-set, sum_by_more}
 use Rattle.std.proofs.lemmas.Simd.{map-map}
-use Rattle.cm_brz_func.specs.Functions.{bucket_by, bucket_of, flipped}
+use Rattle.cm_brz_func.specs.Functions.{bucket_by, bucket_count, bucket_of, flipped}
 use Rattle.cm_spec.specs.declared.limits.TheConstants.{MAX_BUCKET}
 use Rattle.cm_spec.specs.Lookup2.{words}
 use Rattle.cm_brz_split.specs.Split.{AreSizes, CountsPassed, IsFirstOver, IsLowestOver, size_by_words, size_of_bucket, is_split}
@@ -144,3 +145,14 @@ find_first p (x ∷ xs) (suc i) l h b = let f : p x ≡ false = b 0 (omega arith
 pub find_none : (p : ℕ → Bool) (xs : List ℕ) → ((j : ℕ) → j < length xs → p (get_or xs j 0) ≡ false) → find p xs ≡ None
 find_none p [] b = refl
 find_none p (x ∷ xs) b = let f : p x ≡ false = b 0 (omega arith) in rw f (find_none p xs (λ j m. b (suc j) (omega arith)))
+
+-- keys have a bucket, and no more buckets than there are keys
+pub some_buckets : (m b : ℕ) → 1 ≤ m → 1 ≤ b → 0 < bucket_count m b
+some_buckets m b some wide =
+    let enough : 1 * b ≤ m + (b - 1) = omega arith in
+    let le : 1 ≤ (m + (b - 1)) / b = (le-div_iff_mul-le {k = b} {x = 1} {y = m + (b - 1)} wide).1 enough in
+    omega arith
+
+pub few_buckets : (m b : ℕ) → 1 ≤ m → 1 ≤ b → bucket_count m b ≤ m
+few_buckets zero b some wide = absurd (omega arith)
+few_buckets (suc n) b some wide = div-le_of_le-mul b (omega (arith, mul-le-mul_left n wide))

@@ -13,5 +13,5 @@ pub use bucket_keys::BucketKeys;
 pub use fault::BrzFault;
 pub use overfull::gather_equal;
 pub use putting::put_all;
-pub use split::{Overfull, Split, Splitting, choose_split, narrowed};
+pub use split::{Overfull, Split, Splitting, bucket_total, choose_split, narrowed};
 pub use store::Store;

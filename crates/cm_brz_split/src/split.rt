@@ -4,7 +4,7 @@ ghost use Rattle.std.specs.Option.{ForSome};
 ghost use Rattle.cm_io.specs.Passes.{HasKeyCause};
 ghost use Rattle.cm_io.specs.PassFaults.{HasOtherCount, HasPassCause, HasPassFailure};
 ghost use Rattle.cm_io.specs.declared.pass_fault.PassFault.TheVariants as pass_fault;
-ghost use Rattle.cm_brz_func.specs.Functions.{bucket_of as bucket_of_key};
+ghost use Rattle.cm_brz_func.specs.Functions.{bucket_count, bucket_of as bucket_of_key};
 ghost use Rattle.cm_spec.specs.declared.limits.TheConstants.{MAX_BUCKET, MAX_KEYS};
 ghost use Rattle.cm_brz_split.specs.Given.{CountedOver, GaveMore, GaveNext, GaveOver, GaveSizes};
 ghost use Rattle.cm_brz_split.specs.Passes.{AreCounted, FailsAgain};
@@ -15,6 +15,17 @@ use cm_brz_func::{MAX_BUCKET, bucket_of_hashed, flip};
 use cm_io::{KeyBuf, KeyFault, KeyPass, MAX_KEYS, PassFault, expect_end};
 use cm_lookup2::words;
 use std::alloc::{AllocError, Global};
+
+/// How many buckets `m` keys are split into, with `b` keys a bucket on average.
+pub fn bucket_total(m: u32, b: u16) -> u32
+    requires many { (1 ≤ m) × (m ≤ MAX_KEYS) }
+    requires some { 0 < b }
+    ensures count { result ≡ bucket_count m b }
+    ensures some { 0 < result }
+    ensures few { result ≤ m }
+{
+    (m + (b as u32 - 1)) / b as u32
+}
 
 /// A split of keys into buckets: its seed, and how many buckets there are.
 #[derive(Clone, Copy, Drop)]

@@ -67,8 +67,13 @@ fn pass_keys<P: KeyPass>(
     Ok(())
 }
 
-/// Puts the next key into the buffer and returns its line. It is the key at place `e` of `m` in all.
-fn read_key<P: KeyPass>(keys: &mut P, key: &mut KeyBuf, e: u32, m: u32) -> Result<u32, PassFault>
+/// Puts the next key into the buffer and returns its line. It is the key at place `e` of `m` in all. Fails as `Changed` if there is none.
+pub fn read_key<P: KeyPass>(
+    keys: &mut P,
+    key: &mut KeyBuf,
+    e: u32,
+    m: u32,
+) -> Result<u32, PassFault>
     requires usable { IsTrue (P.usable keys.old) }
     requires at { P.place keys.old ≡ e }
     requires within { e < m }
@@ -77,6 +82,7 @@ fn read_key<P: KeyPass>(keys: &mut P, key: &mut KeyBuf, e: u32, m: u32) -> Resul
     ensures failed { IfErr result (HasPassFailure (P.failure keys.new)) }
     ensures usable { OnOk result (P.usable keys.new ≡ true) }
     ensures at { OnOk result (P.place keys.new ≡ e + 1) }
+    ensures line { IfOk result (λ line. (P.last keys.new ≡ line) × (P.last keys.old < line)) }
     ensures gives { IfOk result (λ line. ForSome (P.told keys.old) (λ told. GivesKey told (P.place keys.old) (P.place keys.new) line key.new.items (Ok true))) }
     ensures changed { IfErr result (HasOtherCount m (P.place keys.new)) }
     ensures fault { IfErr result (λ fault. ForSome (P.told keys.old) (λ told. FailsPass told m fault)) }
@@ -138,7 +144,7 @@ fn take_key<P: KeyPass>(
 }
 
 /// The edge of a key that stands in this line.
-fn core_edge<const K: usize>(line: u32, ends: [u32; K]) -> CoreEdge
+pub fn core_edge<const K: usize>(line: u32, ends: [u32; K]) -> CoreEdge
     requires width { (2 ≤ K) × (K ≤ 3) }
     ensures edge { (key : List ℕ) → result ≡ core_edge_of (line, key) ends.entry }
     ensures third { (algorithm : Algorithm) → K ≡ ends_of algorithm → is_some result.third ≡ has_third algorithm }

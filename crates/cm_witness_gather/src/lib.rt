@@ -15,6 +15,6 @@ pub use certificate::{Certificate, CoreEdge, GatherFault, InBucket, Pair};
 pub use cm_algo_names::Algorithm;
 pub use failure::SeedFailure;
 pub use firsts::{EqualKeys, equal_pairs};
-pub use gathering::{gather, gather_with};
+pub use gathering::{core_edge, gather, gather_with, read_key};
 pub use laws::{each_paired, reports};
 pub use report::{append, append_number, write_pairs};

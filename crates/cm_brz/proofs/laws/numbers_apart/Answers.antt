@@ -1,5 +1,6 @@
 use Rattle.std.proofs.Common.{ℕ, ◌<◌, length, subst, sym}
-use Rattle.cm_brz.proofs.Numbers.{all_in_buckets, numbers_apart, some_buckets}
+use Rattle.cm_brz.proofs.Numbers.{all_in_buckets, numbers_apart}
+use Rattle.cm_brz_split.specs.SizesLaws.{some_buckets}
 use Rattle.cm_brz.proofs.laws.numbers_apart.Goals as goal
 
 pub returns-clause-apart : goal.returns-clause-apart
