@@ -1,5 +1,5 @@
 -- Arguments and jobs that the worked examples are about.
-use Rattle.std.specs.Prelude.{ℕ, ◌==◌, ◌++◌, List, [], ◌∷◌, codes, false, None, if◌then◌else◌}
+use Rattle.std.specs.Prelude.{◌++◌, codes, false, None}
 use Rattle.clap.specs.Words.{Text}
 use Rattle.cm_algo_names.specs.declared.algorithm.Algorithm.TheVariants.{Chm}
 use Rattle.cm_words.specs.declared.jobs.BuildJob.{BuildJob}
@@ -7,17 +7,6 @@ use Rattle.cm_words.specs.declared.jobs.QueryJob.{QueryJob}
 use Rattle.cm_words.specs.declared.jobs.TestJob.{TestJob}
 use Rattle.cm_words.specs.declared.jobs.UpgradeJob.{UpgradeJob}
 use Rattle.cm_words_values.specs.declared.limits.TheConstants.{LINE_FEED}
-
--- a byte more at the start of the first argument
-abbrev pub in_first : ℕ → List Text → List Text
-in_first b [] = (b ∷ []) ∷ []
-in_first b (word ∷ words) = (b ∷ word) ∷ words
-
--- The arguments of a line: each blank (32) separates two of them, so that an empty argument stands before a blank at the start, after
--- one at the end, and between two.
-abbrev pub typed : List ℕ → List Text
-typed [] = [] ∷ []
-typed (b ∷ bs) = if b == 32 then [] ∷ typed bs else in_first b (typed bs)
 
 -- the query of `cmph keys`
 abbrev pub plain_query : QueryJob

@@ -3,10 +3,10 @@ use Rattle.std.specs.Prelude.{ℕ, ◌++◌, List, codes, Option, Some, None, Ok
 use Rattle.clap.specs.Words.{Row, Text, first_of}
 use Rattle.cm_words.specs.Command.{cmph_app}
 use Rattle.cm_words_values.specs.Options.{and_then}
-use Rattle.cm_words_arguments.specs.Options.{Read, as_usage, is_counted, is_set}
+use Rattle.cm_words_arguments.specs.Options.{Read, as_usage, end_of, is_counted, is_set}
 use Rattle.cm_words_arguments.specs.Refusals.{read_by}
 use Rattle.cm_words_arguments.specs.declared.fault.UsageFault.TheVariants.{NoFile}
-use Rattle.cm_words.specs.Options.{end_of, values_of}
+use Rattle.cm_words.specs.Options.{values_of}
 use Rattle.cm_words.specs.declared.jobs.BuildJob.{BuildJob}
 use Rattle.cm_words.specs.declared.jobs.QueryJob.{QueryJob}
 use Rattle.cm_words.specs.declared.jobs.TestJob.{TestJob}

@@ -1,18 +1,13 @@
 -- The values of the options among what clap found.
-use Rattle.std.specs.Prelude.{ℕ, Bool, List, codes, Ok, ◌&&◌, if◌then◌else◌, is_none, not}
+use Rattle.std.specs.Prelude.{Bool, List, codes, Ok, ◌&&◌, is_none, not}
 use Rattle.clap.specs.Words.{Row, first_of}
 use Rattle.cm_words_values.specs.Options.{Checked, algorithm_value, and_then, bits_value, buffer_value, count_value, first_value, hash_value, ratio_value, seed_value, test_value}
-use Rattle.cm_words_values.specs.declared.limits.TheConstants.{LINE_FEED, ZERO_BYTE}
 use Rattle.cm_words_arguments.specs.Options.{is_set}
 use Rattle.cm_words.specs.declared.values.Values.{Values}
 
 -- the job is a build: it generates a function file, and is neither a test nor an upgrade
 abbrev pub is_build : List Row → Bool
 is_build rows = is_set (codes "generate") rows && (is_none (first_of (codes "test") rows) && not (is_set (codes "upgrade") rows))
-
--- the byte that ends lines
-abbrev pub end_of : List Row → ℕ
-end_of rows = if is_set (codes "zero") rows then ZERO_BYTE else LINE_FEED
 
 -- the values of all options, or the first fault in the order of the letters a, b, c, f, k, M, r, s, T
 abbrev pub values_of : List Row → Checked Values

@@ -5,8 +5,9 @@ ghost use Rattle.std.specs.Prelude.{◌≡◌, ◌∷◌, [], Ok, Err, Some, Non
 ghost use Rattle.cm_algo_names.specs.declared.algorithm.Algorithm.TheVariants.{Bdz, BdzPh, Brz};
 ghost use Rattle.cm_words_values.specs.Digits.{millionths_of, whole_of};
 ghost use Rattle.cm_words_values.specs.declared.limits.TheConstants.{LINE_FEED, ZERO_BYTE};
-ghost use Rattle.cm_words.specs.Examples.{plain_build, plain_query, plain_test, query_of_file, typed, upgrade_of_file};
+ghost use Rattle.cm_words.specs.Examples.{plain_build, plain_query, plain_test, query_of_file, upgrade_of_file};
 ghost use Rattle.cm_words.specs.Meaning.{job_of};
+ghost use Rattle.cm_words_arguments.specs.Examples.{typed};
 ghost use Rattle.cm_words_arguments.specs.declared.fault.UsageFault.TheVariants.{BadValue, NoFile, Words};
 ghost use Rattle.cm_words.specs.declared.jobs.Job.TheVariants.{Help, Version, Build, Query, Test, Upgrade};
 

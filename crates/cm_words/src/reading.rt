@@ -8,10 +8,10 @@ ghost use Rattle.cm_words.specs.Meaning.{build_of, directory_of, function_of, jo
 ghost use Rattle.cm_words.specs.Options.{is_build};
 
 use crate::arguments::command;
-use crate::values::{Values, all_values, end};
+use crate::values::{Values, all_values};
 use crate::{BuildJob, Job, QueryJob, TestJob, Text, UpgradeJob, UsageFault};
 use clap::ArgMatches;
-use cm_words_arguments::{copy, counted, flag, text};
+use cm_words_arguments::{copy, counted, end, flag, text};
 use std::alloc::{AllocError, Global};
 
 /// The path of the function file: the one that is given, or that of the keys file.

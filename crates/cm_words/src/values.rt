@@ -2,15 +2,12 @@
 ghost use Rattle.std.specs.Prelude.{◌≡◌, IfOk, IsNone, codes};
 ghost use Rattle.clap.specs.Words.{found_of, first_of, rows_of};
 ghost use Rattle.cm_words.specs.Limits.{AreValues};
-ghost use Rattle.cm_words_values.specs.Limits.{IsEnd};
-ghost use Rattle.cm_words.specs.Options.{end_of, is_build, values_of};
+ghost use Rattle.cm_words.specs.Options.{is_build, values_of};
 
 use clap::ArgMatches;
 use cm_algo_names::Algorithm;
 use cm_words_arguments::{flag, text};
-use cm_words_values::{
-    BadValue, LINE_FEED, ZERO_BYTE, algorithm, bits, buffer, count, first, hash, ratio, seed, test,
-};
+use cm_words_values::{BadValue, algorithm, bits, buffer, count, first, hash, ratio, seed, test};
 
 /// The values of the options that are tested.
 #[derive(Clone, Copy, Debug)]
@@ -33,18 +30,6 @@ pub fn builds(matches: &ArgMatches<'_>) -> bool
     ensures { result ≡ is_build (rows_of (found_of matches.now)) }
 {
     flag(matches, "generate") && text(matches, "test").is_none() && !flag(matches, "upgrade")
-}
-
-/// The byte that ends lines.
-pub fn end(matches: &ArgMatches<'_>) -> u8
-    ensures value { result ≡ end_of (rows_of (found_of matches.now)) }
-    ensures within { IsEnd result }
-{
-    if flag(matches, "zero") {
-        ZERO_BYTE
-    } else {
-        LINE_FEED
-    }
 }
 
 /// The values of all options, or the first that is bad in the order of the letters.

@@ -10,4 +10,4 @@ mod values;
 pub use arguments::command;
 pub use fault::UsageFault;
 pub use texts::{Text, copy};
-pub use values::{counted, flag, text};
+pub use values::{counted, end, flag, text};
