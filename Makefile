@@ -1,7 +1,7 @@
-# make            proves and builds bin/cmph: names each crate with its time, and puts all else into out/prove.log
+# make            proves and builds bin/cmph and bin/cmph_judge: names each crate with its time, and puts all else into out/prove.log
 # make demo       builds a function over a word list, queries it, and tries all algorithms over generated keys
 # make check      the gate: proves everything from nothing, and runs all tests
-# make install    installs the program, its man page, and completions for bash and zsh below $(PREFIX)
+# make install    installs the programs, their man pages, and completions for bash and zsh below $(PREFIX)
 # make uninstall  removes them
 # make bench      measures it beside the C tool and plain Rust, leaves the results in bench/results, and writes the measured tables of
 #                 README.md and docs/: make bench SETS="100000 words" for fewer sets of keys, ROUNDS=3 for fewer runs, NAME=here for
@@ -11,6 +11,8 @@
 # make bench-versions BEFORE=PROGRAM
 #                 the same beside the program of an earlier version
 # make bench-most the same over as many keys as a function may have: it needs three gigabytes of disk
+# make bench-judge
+#                 the judge of reports beside the refused builds that printed them
 # make drawings   draws docs/chm.svg from a real run
 PREFIX ?= /usr/local
 SETS ?=
@@ -19,13 +21,16 @@ ROUNDS ?= 7
 BEFORE ?=
 SOURCES := crates.txt $(wildcard crates/*/src/*.rt crates/*/specs/*.antt) $(shell find crates -path '*/out' -prune -o -name '*.antt' -print)
 
-all: bin/cmph
+PROGRAMS := cmph cmph_judge
 
-# A run that was stopped goes on with the crates that were not proved.
-bin/cmph: $(SOURCES)
-	@python3 tools/prove.py cmph
+all: $(PROGRAMS:%=bin/%)
+
+# A run that was stopped goes on with the crates that were not proved. The programs are proved one after another, since they share crates.
+bin/cmph_judge: bin/cmph
+bin/%: $(SOURCES)
+	@python3 tools/prove.py $*
 	@mkdir -p bin
-	@cp crates/cmph/out/cmph $@
+	@cp crates/$*/out/$* $@
 
 demo: bin/cmph
 	@scratch=$$(mktemp -d) && cp examples/words $$scratch/ && cd $$scratch && cmph=$(CURDIR)/bin/cmph && \
@@ -38,15 +43,19 @@ demo: bin/cmph
 check:
 	bash .ci/run
 
-install: bin/cmph
-	install -D -m 755 bin/cmph $(DESTDIR)$(PREFIX)/bin/cmph
-	install -D -m 644 man/cmph.1 $(DESTDIR)$(PREFIX)/share/man/man1/cmph.1
-	install -D -m 644 completions/cmph.bash $(DESTDIR)$(PREFIX)/share/bash-completion/completions/cmph
-	install -D -m 644 completions/_cmph $(DESTDIR)$(PREFIX)/share/zsh/site-functions/_cmph
+install: all
+	for program in $(PROGRAMS); do \
+	    install -D -m 755 bin/$$program $(DESTDIR)$(PREFIX)/bin/$$program && \
+	    install -D -m 644 man/$$program.1 $(DESTDIR)$(PREFIX)/share/man/man1/$$program.1 && \
+	    install -D -m 644 completions/$$program.bash $(DESTDIR)$(PREFIX)/share/bash-completion/completions/$$program && \
+	    install -D -m 644 completions/_$$program $(DESTDIR)$(PREFIX)/share/zsh/site-functions/_$$program || exit; \
+	done
 
 uninstall:
-	rm -f $(DESTDIR)$(PREFIX)/bin/cmph $(DESTDIR)$(PREFIX)/share/man/man1/cmph.1 \
-	    $(DESTDIR)$(PREFIX)/share/bash-completion/completions/cmph $(DESTDIR)$(PREFIX)/share/zsh/site-functions/_cmph
+	for program in $(PROGRAMS); do \
+	    rm -f $(DESTDIR)$(PREFIX)/bin/$$program $(DESTDIR)$(PREFIX)/share/man/man1/$$program.1 \
+	        $(DESTDIR)$(PREFIX)/share/bash-completion/completions/$$program $(DESTDIR)$(PREFIX)/share/zsh/site-functions/_$$program; \
+	done
 
 bench: bin/cmph
 	python3 bench/compare.py --name $(NAME) --rounds $(ROUNDS) $(SETS)
@@ -70,10 +79,13 @@ bench-versions: bin/cmph
 bench-most: bin/cmph
 	python3 bench/tables.py --record most python3 bench/most.py
 
+bench-judge: all
+	python3 bench/tables.py --record judge python3 bench/judge.py
+
 drawings: bin/cmph
 	python3 docs/draw.py
 
 clean:
 	rm -rf bin out crates/*/out
 
-.PHONY: all demo check install uninstall bench bench-bits bench-peel bench-spill bench-bbhash bench-versions bench-most drawings clean
+.PHONY: all demo check install uninstall bench bench-bits bench-peel bench-spill bench-bbhash bench-versions bench-most bench-judge drawings clean

@@ -14,6 +14,7 @@ from pathlib import Path
 
 TOP = Path(__file__).resolve().parent.parent
 BASH, ZSH = TOP / "completions" / "cmph.bash", TOP / "completions" / "_cmph"
+JUDGE = "cmph_judge"
 
 
 def run(*command):
@@ -35,24 +36,29 @@ def of_usage(program):
     return options, taken, names["hash functions"]
 
 
-def of_man():
-    text = (TOP / "man" / "cmph.1").read_text()
-    described = text[text.index("The options are:"):text.index(".Ss Arguments")]
+def of_man(page="cmph", end=".Ss Arguments"):
+    text = (TOP / "man" / f"{page}.1").read_text()
+    described = text[text.index("The options are:"):text.index(end)]
     return {letter: bool(value) for letter, value in re.findall(r"^\.It Fl (\w)( Ar \w+)?$", described, re.MULTILINE)}
+
+
+def listed_in_synopsis(page):
+    text = (TOP / "man" / f"{page}.1").read_text()
+    synopsis = text[text.index(".Sh SYNOPSIS"):text.index(".Sh DESCRIPTION")]
+    return synopsis, {letter: bool(value) for letter, value in re.findall(r"^\.(?:Op )?Fl (\w)( Ar \w+)?$", synopsis, re.MULTILINE)}
 
 
 def of_synopsis():
     """The options of a build, and those of the usage and the version."""
-    text = (TOP / "man" / "cmph.1").read_text()
-    synopsis = text[text.index(".Sh SYNOPSIS"):text.index(".Sh DESCRIPTION")]
-    options = {letter: bool(value) for letter, value in re.findall(r"^\.(?:Op )?Fl (\w)( Ar \w+)?$", synopsis, re.MULTILINE)}
+    synopsis, options = listed_in_synopsis("cmph")
     options.update(dict.fromkeys(re.search(r"^\.Fl (\w \| \w)$", synopsis, re.MULTILINE)[1].split(" | "), False))
     return options
 
 
 def of_table(page):
-    """The options of the table of a page: those with values have some there."""
-    rows = re.findall(r"^\| `-(\w)` \|[^|]*\|([^|]*)\|", (TOP / page).read_text(), re.MULTILINE)
+    """The options of the first table of a page: those with values have some there."""
+    text = (TOP / page).read_text().split("## The judge of reports")[0]
+    rows = re.findall(r"^\| `-(\w)` \|[^|]*\|([^|]*)\|", text, re.MULTILINE)
     return {letter: bool(values.strip()) and not values.strip().startswith("flag") for letter, values in rows}
 
 
@@ -81,14 +87,31 @@ def options_of_bash():
     return {letter: letter in values for letter in letters}
 
 
-def of_zsh():
-    found = re.findall(r"^ +'(?:\([^)]*\))?\*?-(\w)(\+?)\[", ZSH.read_text(), re.MULTILINE)
+def of_zsh(file=ZSH):
+    found = re.findall(r"^ +'(?:\([^)]*\))?\*?-(\w)(\+?)\[", file.read_text(), re.MULTILINE)
     return {letter: bool(value) for letter, value in found}
 
 
 def choices_of_zsh(letter):
     found = re.search(rf"-{letter}\+\[.*:\((.*)\)'", ZSH.read_text())
     return found[1].split() if found else []
+
+
+def of_judge():
+    """The options of the judge, as its man page, the README, docs/command-line.md and the completions have them."""
+    bash, zsh = TOP / "completions" / f"{JUDGE}.bash", TOP / "completions" / f"_{JUDGE}"
+    offered = run("bash", "-c", f'source "$1"; COMP_WORDS=({JUDGE} -); COMP_CWORD=1; _{JUDGE}; printf "%s\\n" "${{COMPREPLY[@]}}"', "bash", bash)
+    values = re.search(r"\(\[(\w+)\]\)", bash.read_text())[1]
+    table = (TOP / "docs" / "command-line.md").read_text().split("## The judge of reports")[1]
+    usage = re.search(rf"^    {JUDGE} (.*)$", (TOP / "README.md").read_text(), re.MULTILINE)[1]
+    return [
+        ("the options of the judge's man page", of_man(JUDGE, ".Ss What is true")),
+        ("the options of its synopsis", listed_in_synopsis(JUDGE)[1]),
+        ("its options in the README", {letter: bool(value) for letter, value in re.findall(r"\[-(\w)( \w)?\]", usage)}),
+        ("its options in docs/command-line.md", {letter: not what.startswith(" flag") for letter, what in re.findall(r"^\| `-(\w)` \|([^|]*)\|", table, re.MULTILINE)}),
+        ("its options of bash", {word[1:]: word[1:] in values for word in offered.stdout.split()}),
+        ("its options of zsh", of_zsh(zsh)),
+    ]
 
 
 def main():
@@ -112,8 +135,9 @@ def main():
         ("the hash functions of bash", of_bash("-f", ""), hashes),
         ("the hash functions of zsh", choices_of_zsh("f"), hashes),
     ]
+    compared += [(what, found, {"z": False, "b": True, "c": True, "k": True}) for what, found in of_judge()]
     if shutil.which("zsh"):
-        compared.append(("the faults that zsh finds", run("zsh", "-n", ZSH).stderr, ""))
+        compared.append(("the faults that zsh finds", run("zsh", "-n", ZSH).stderr + run("zsh", "-n", ZSH.with_name(f"_{JUDGE}")).stderr, ""))
     else:
         print("skipped, there is no zsh: the faults that it finds")
     wrong = [f"{what}: {found}, and must be {wanted}" for what, found, wanted in compared if found != wanted]

@@ -1,7 +1,7 @@
 #!/usr/bin/env python3
-"""Runs the built program on real files, pipes and devices, and compares status, outputs and files with what they must be.
+"""Runs the built programs on real files, pipes and devices, and compares status, outputs and files with what they must be.
 
-    tests/edge.py [PROGRAM]        PROGRAM is crates/cmph/out/cmph if it is left out
+    tests/edge.py [CMPH [JUDGE]]   the programs are those below crates/ if they are left out
     tests/edge.py --list           lists the cases, as docs/reliability.md has them
 
 Each case runs in a folder of its own, as nobody if this runs as root. The last line is 'N passed, M failed'.
@@ -478,6 +478,7 @@ def _(room):
 import upgrading  # noqa: E402, F401  these have their cases last, in this order
 import zero_ended  # noqa: E402, F401
 import spilling  # noqa: E402, F401
+import reports  # noqa: E402, F401
 
 
 def main():
@@ -485,17 +486,17 @@ def main():
         for name, _ in CASES:
             print(f"- {name}")
         return 0
-    given = sys.argv[1] if len(sys.argv) > 1 else os.path.join(HERE, "..", "crates", "cmph", "out", "cmph")
     passed = failed = 0
     with tempfile.TemporaryDirectory(prefix="cmph-edge-") as top:
         os.chmod(top, 0o755)
-        program = os.path.join(top, "cmph")
-        shutil.copyfile(given, program)
-        os.chmod(program, 0o755)
+        for number, name in enumerate(["cmph", "cmph_judge"], 1):
+            given = sys.argv[number] if len(sys.argv) > number else os.path.join(HERE, "..", "crates", name, "out", name)
+            shutil.copyfile(given, os.path.join(top, name))
+            os.chmod(os.path.join(top, name), 0o755)
         shim = made_shim(top)
         for number, (name, body) in enumerate(CASES):
             try:
-                wrong = run_case(body, os.path.join(top, str(number)), program, shim)
+                wrong = run_case(body, os.path.join(top, str(number)), top, shim)
             except Skipped:
                 print(f"skipped, there is no C compiler: {name}")
                 continue

@@ -1,7 +1,7 @@
 #!/usr/bin/env python3
-"""Runs the examples of the man page, of the README and of docs/algorithms.md, and compares what they print with what stands there.
+"""Runs the examples of the man pages, of the README and of docs/algorithms.md, and compares what they print with what stands there.
 
-    tests/examples.py [PROGRAM]        PROGRAM is crates/cmph/out/cmph if it is left out
+    tests/examples.py [CMPH [JUDGE]]   the programs are those below crates/ if they are left out
 
 Each page's examples run one after another in one shell, in a folder of its own. Both outputs come together, as on a terminal.
 """
@@ -15,9 +15,9 @@ TOP = Path(__file__).resolve().parent.parent
 PRELUDE = 'ended() { local status=$?; printf "\\0"; return $status; }\n'
 
 
-def of_man():
+def of_man(program):
     """The literal blocks of the section EXAMPLES, without the escapes of roff."""
-    text = (TOP / "man" / "cmph.1").read_text()
+    text = (TOP / "man" / f"{program}.1").read_text()
     section = text[text.index(".Sh EXAMPLES"):text.index(".Sh DIAGNOSTICS")]
     blocks = re.findall(r"^\.Bd -literal.*?\n(.*?)^\.Ed$", section, re.MULTILINE | re.DOTALL)
     return "".join(blocks).replace("\\e", "\\").replace("\\&", "").replace("\\-", "-").splitlines()
@@ -43,10 +43,11 @@ def commands_of(lines):
     return found
 
 
-def differences(lines, program, folder):
+def differences(lines, programs, folder):
     """Runs the commands, and names those that print something else."""
     (folder / "bin").mkdir()
-    (folder / "bin" / "cmph").symlink_to(program)
+    for name, program in programs.items():
+        (folder / "bin" / name).symlink_to(program)
     (folder / "examples").symlink_to(TOP / "examples")
     scratch = folder / "tmp"
     scratch.mkdir()
@@ -64,11 +65,12 @@ def differences(lines, program, folder):
 
 
 def main():
-    program = Path(sys.argv[1] if len(sys.argv) > 1 else TOP / "crates" / "cmph" / "out" / "cmph").resolve()
+    programs = {name: Path(sys.argv[number] if len(sys.argv) > number else TOP / "crates" / name / "out" / name).resolve()
+                for number, name in enumerate(["cmph", "cmph_judge"], 1)}
     count, wrong = 0, []
-    for lines in (of_man(), of_section("README.md", "## A session", "## Install"), of_section("docs/algorithms.md", "## Buckets", "## A worked example")):
+    for lines in (of_man("cmph"), of_man("cmph_judge"), of_section("README.md", "## A session", "## Install"), of_section("docs/algorithms.md", "## Buckets", "## A worked example")):
         with tempfile.TemporaryDirectory() as folder:
-            ran, differing = differences(lines, program, Path(folder))
+            ran, differing = differences(lines, programs, Path(folder))
             count, wrong = count + ran, wrong + differing
     for difference in wrong:
         print(difference)

@@ -44,10 +44,10 @@ def finished(process):
 
 
 class Room:
-    """A folder of its own, in which the program runs."""
+    """A folder of its own, in which the programs run that are in another folder."""
 
-    def __init__(self, folder, program, shim):
-        self.folder, self.program, self.shim = folder, program, shim
+    def __init__(self, folder, programs, shim):
+        self.folder, self.programs, self.shim = folder, programs, shim
 
     def path(self, name):
         return os.path.join(self.folder, name)
@@ -73,19 +73,19 @@ class Room:
     def has(self, name):
         return os.path.lexists(self.path(name))
 
-    def start(self, *words, out=subprocess.PIPE, err=subprocess.PIPE, before=None, bend=None):
-        """Starts the program. `before` is called in its process first; `bend` is the environment of the shim."""
+    def start(self, *words, program="cmph", given=subprocess.DEVNULL, out=subprocess.PIPE, err=subprocess.PIPE, before=None, bend=None):
+        """Starts a program with this standard input. `before` is called in its process first; `bend` is the environment of the shim."""
         env = {"PATH": os.environ.get("PATH", "")}
         if bend is not None:
             if self.shim is None:
                 raise Skipped
             env.update(bend, LD_PRELOAD=self.shim, EDGE_CALLS=self.path("calls"))
         who = {"user": NOBODY, "group": NOBODY, "extra_groups": []} if AS_ROOT else {}
-        return subprocess.Popen([self.program, *words], cwd=self.folder, env=env, stdin=subprocess.DEVNULL,
+        return subprocess.Popen([os.path.join(self.programs, program), *words], cwd=self.folder, env=env, stdin=given,
                                 stdout=out, stderr=err, preexec_fn=before, **who)
 
     def run(self, *words, **how):
-        """Runs the program, as `start` does, to its end."""
+        """Runs a program, as `start` does, to its end."""
         return finished(self.start(*words, **how))
 
     def counts(self):
@@ -133,8 +133,8 @@ def closed_once(room):
     same("the files that were closed", *(sorted(path for call, path in calls if call == which) for which in ["close", "open"]))
 
 
-def said(text):
-    return f"cmph: {text}\n".encode()
+def said(text, program="cmph"):
+    return f"{program}: {text}\n".encode()
 
 
 def closed(number):
@@ -165,10 +165,10 @@ def made_shim(folder):
     return None
 
 
-def run_case(body, folder, program, shim):
+def run_case(body, folder, programs, shim):
     """Runs a case in a new folder, and returns what it found wrong, if anything."""
     os.mkdir(folder)
-    room = Room(folder, program, shim)
+    room = Room(folder, programs, shim)
     room.own("")
     try:
         body(room)

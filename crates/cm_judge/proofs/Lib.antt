@@ -1,6 +1,4 @@
-pub mod Members
-pub mod Lacking
-pub mod Places
-pub mod CoreLaw
-pub mod BucketLaw
-pub mod Law
+mod Steps
+mod Ends
+mod Promises
+mod Usage

@@ -1,5 +1,6 @@
-pub mod Rising
-pub mod Judged
-pub mod Verdicts
-pub mod Truth
+pub mod Texts
+pub mod Outcomes
+pub mod Leaves
+pub mod Judges
+pub mod Runs
 pub mod Examples

@@ -1,8 +1,19 @@
-//! The judge of reports: whether a report of a refused build is true, as a definition that computes, and when it is.
+//! The judge of reports: the program whose arguments name a report and the keys by which it is judged.
 #![tactic(auto)]
 
-mod laws;
-mod verdict;
+mod driving;
+mod examples;
+mod judging;
+mod loading;
+mod printing;
+mod program;
+mod reporting;
+mod stop;
+mod top;
 
-pub use crate::laws::{holds_if_true, worked_verdicts};
-pub use crate::verdict::{JudgeFault, Reason, Settings, Verdict};
+pub use crate::driving::judge_job;
+pub use crate::examples::{worked_outcomes, worked_texts};
+pub use crate::program::PROGRAM;
+pub use crate::stop::{BadReport, JudgeStop};
+pub use crate::top::{judge_run, report_no_memory};
+pub use cm_judge_words::JudgeJob;

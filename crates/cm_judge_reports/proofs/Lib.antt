@@ -1,0 +1,9 @@
+pub mod Merging
+pub mod Counting
+pub mod Passing
+pub mod Own
+pub mod Graphs
+pub mod FaultLemmas
+pub mod VerdictLemmas
+pub mod Lowest
+pub mod Taking

@@ -1,0 +1,16 @@
+//! The judge of reports: whether a report of a refused build is true, by its keys.
+#![tactic(auto)]
+
+mod bucket;
+mod comparing;
+mod edges;
+mod fault;
+mod judging;
+mod overfull;
+mod touching;
+mod two_core;
+mod walking;
+
+pub use crate::fault::JudgeFault;
+pub use crate::judging::judge;
+pub use cm_judge_verdict::{Reason, Settings, Verdict};

@@ -1,0 +1,12 @@
+use Rattle.std.proofs.Common.{refl}
+use Rattle.std.specs.Fmt.{digits}
+use Rattle.cm_spec.specs.Lookup2.{absorb, finish, left_line, right_line, three_lines, words}
+use Rattle.cm_spec.specs.Rounds.{left_after}
+use Rattle.cm_witness_report.specs.Fields.{field_at}
+use Rattle.cm_witness_report.specs.Parts.{bucket_head_at, edge_at, next_edge, next_pair, overfull_head_at, pair_at, plain_head_at, third_at}
+use Rattle.cm_witness_report.specs.Reading.{edges_from, pairs_from, report_from, rest_from}
+use Rattle.cm_judge_verdict.proofs.laws.worked_verdicts.Goals as goal
+
+pub returns : goal.returns
+unfolding digits words finish absorb three_lines left_line right_line left_after field_at bucket_head_at edge_at next_edge next_pair overfull_head_at pair_at plain_head_at third_at edges_from pairs_from report_from rest_from
+returns c = record { whole = refl; no_pair = refl; once = refl; missing = refl; no_key = refl; ends = refl; no_bucket = refl; not_overfull = refl; empty = refl }

@@ -1,0 +1,12 @@
+pub mod Rising
+pub mod Judged
+pub mod Verdicts
+pub mod Truth
+pub mod Examples
+pub mod MemberLaws
+pub mod LackingLaws
+pub mod PlaceLaws
+pub mod ReportLaws
+pub mod StepLaws
+pub mod CoreLaws
+pub mod BucketLaws

@@ -1,0 +1,87 @@
+"""Cases of the judge of reports."""
+import os
+import subprocess
+
+from dumps import TWO_EQUAL
+from room import AS_ROOT, NOBODY, case, ends, finished, said, same
+
+JUDGE = "cmph_judge"
+TRUE = b"true\n"
+
+
+def judged(text):
+    return said(text, JUDGE)
+
+
+def own_pipe():
+    """A pipe that the programs may open again by name."""
+    ends_of = os.pipe()
+    if AS_ROOT:
+        os.fchown(ends_of[0], NOBODY, NOBODY)
+    return ends_of
+
+
+def judged_from(room, given):
+    """Judges the report that comes out of a pipe."""
+    judge = room.start("/dev/stdin", "keys", program=JUDGE, given=given)
+    os.close(given)
+    return judge
+
+
+def through_a_pipe(room, report):
+    """Writes a report into a pipe, and judges it."""
+    given, into = own_pipe()
+    judge = judged_from(room, given)
+    with open(into, "wb") as pipe:
+        pipe.write(report)
+    return finished(judge)
+
+
+@case("a report is judged, from a file and from the pipe into which the build writes it")
+def _(room):
+    room.put("keys", b"\n\n")
+    room.put("report", TWO_EQUAL)
+    ends(room.run("report", "keys", program=JUDGE), 0, TRUE)
+    given, into = own_pipe()
+    build = room.start("-g", "-s", "0", "keys", out=into, err=subprocess.DEVNULL)
+    os.close(into)
+    ends(finished(judged_from(room, given)), 0, TRUE)
+    same("the status of the build", finished(build).status, 1)
+    same("the report", room.get("report"), TWO_EQUAL)
+
+
+@case("a report of a million edges through a pipe, whose head names more")
+def _(room):
+    room.put("keys", b"\n\n")
+    edges = b"".join(b"edge %d 0 1\n" % line for line in range(1, 1000001))
+    ends(through_a_pipe(room, b"core chm seed 0 edges 67108864\n" + edges), 3, b"", judged("/dev/stdin: bad report at line 1000002"))
+    ends(through_a_pipe(room, b"core chm seed 0 edges 1000000\n" + edges), 1, b"false: line 3 is no key\n")
+
+
+@case("a report or keys that cannot be read: status 4, and the message names the file")
+def _(room):
+    room.put("keys", b"\n\n")
+    room.put("report", TWO_EQUAL)
+    room.put("closed", TWO_EQUAL, mode=0)
+    room.put_folder("folder")
+    for report in ["none", "folder", "closed"]:
+        ends(room.run(report, "keys", program=JUDGE), 4, b"", judged(f"{report}: cannot read"))
+    os.mkfifo(room.path("pipe"))
+    room.own("pipe")
+    with subprocess.Popen(["sh", "-c", "printf '\\n\\n' > pipe"], cwd=room.folder):
+        ends(room.run("report", "pipe", program=JUDGE), 4, b"", judged("pipe: cannot read"))
+
+
+@case("a verdict into a full disk: status 5")
+def _(room):
+    room.put("keys", b"\n\n")
+    room.put("report", TWO_EQUAL)
+    with open("/dev/full", "wb") as full:
+        left = room.run("report", "keys", program=JUDGE, out=full)
+    ends(left, 5, b"", judged("cannot write standard output"))
+
+
+@case("arguments of the judge that are not UTF-8, and options that it does not have")
+def _(room):
+    for words in [(b"\xff", b"keys"), (b"-h",), (b"report",), (b"-V", b"report", b"keys")]:
+        ends(room.run(*words, program=JUDGE), 2, b"", judged("bad arguments"))
