@@ -1,9 +1,10 @@
 """Cases of the judge of reports."""
 import os
+import resource
 import subprocess
 
 from dumps import TWO_EQUAL
-from room import AS_ROOT, NOBODY, case, ends, finished, said, same
+from room import AS_ROOT, NOBODY, Wrong, case, ends, finished, limited, said, same
 
 JUDGE = "cmph_judge"
 TRUE = b"true\n"
@@ -79,6 +80,22 @@ def _(room):
     with open("/dev/full", "wb") as full:
         left = room.run("report", "keys", program=JUDGE, out=full)
     ends(left, 5, b"", judged("cannot write standard output"))
+
+
+@case("status 6: memory that runs out anywhere before a verdict writes none of it")
+def _(room):
+    room.put("keys", b"\n" * 100000)
+    room.put("report", room.run("-g", "keys").out)
+    refused = 0
+    for most in range(4 << 20, 64 << 20, 1 << 18):
+        left = room.run("report", "keys", program=JUDGE, before=limited(resource.RLIMIT_AS, most))
+        if left.status != 6:
+            ends(left, 0, TRUE)
+            same("some limits", refused > 5, True)
+            return
+        ends(left, 6, b"", judged("out of memory"))
+        refused += 1
+    raise Wrong("no limit of memory gives status 0")
 
 
 @case("arguments of the judge that are not UTF-8, and options that it does not have")
