@@ -10,8 +10,8 @@ use Rattle.cm_brz.specs.BrzOf.{IsBrzOf, bucket_from, bucket_under}
 use Rattle.cm_brz.specs.Fails.{IsCoredBucket, IsOverfull}
 use Rattle.cm_brz.specs.Found as found
 use Rattle.cm_brz.specs.Found.{AllOverfull, bucket_at, brz_under, first_cored, first_overfull}
-use Rattle.cm_brz_func.specs.Splitting.{keys_of_bucket}
-use Rattle.cm_brz_split.specs.Split.{is_split, size_of_bucket, split_of}
+use Rattle.cm_brz_func.specs.Splitting.{keys_of_bucket, size_of_bucket}
+use Rattle.cm_brz_split.specs.Split.{is_split, split_of}
 use Rattle.cm_brz_split.specs.SizesLaws.{find_first, find_none}
 use Rattle.cm_brz_func.specs.Functions.{Brz, Bucket, bucket_count, no_bucket}
 use Rattle.cm_spec.specs.declared.limits.TheConstants.{MAX_BUCKET}

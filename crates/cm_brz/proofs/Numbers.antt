@@ -9,8 +9,7 @@ use Rattle.std.proofs.lemmas.List.Sums.{sum_by-cons, sum_by-take-le, sum_by_more
 use Rattle.cm_bdz.specs.Functions.{bdz_answer, chosen_of, ranked}
 use Rattle.cm_bdz.specs.Numbering.{AnswersApart, bdz_under}
 use Rattle.cm_brz.specs.BrzOf.{IsBrzOf, bucket_from, bucket_under}
-use Rattle.cm_brz_func.specs.Splitting.{keys_of_bucket}
-use Rattle.cm_brz_split.specs.Split.{size_of_bucket}
+use Rattle.cm_brz_func.specs.Splitting.{keys_of_bucket, size_of_bucket}
 use Rattle.cm_brz_func.specs.Functions.{Brz, Bucket, answer_in, answer_of_bucket, brz_answer, bucket_count, bucket_of, keys_in, no_bucket, offset_of}
 use Rattle.cm_spec.specs.Bdz.{bdz_rule}
 use Rattle.cm_spec.specs.Built.{IsFirst, cells_under, first_seed, graph_of, key_at}

@@ -7,8 +7,8 @@ use Rattle.cm_brz.specs.Fails.{FailsBrz, FailsBuckets, FailsKeys, HasBrzForm, Ha
 use Rattle.cm_brz_split.specs.Faults.{FailsPassing, HasFailure, IfChanged, IfDamage, IfOverfull, IsOfPassing, OnNoKeys}
 use Rattle.cm_brz_split.specs.Puts.{keys_in_bucket, records_under}
 use Rattle.cm_brz_split.specs.Records.{Record}
-use Rattle.cm_brz_func.specs.Splitting.{keys_of_bucket}
-use Rattle.cm_brz_split.specs.Split.{IsLowestOver, split_of}
+use Rattle.cm_brz_func.specs.Splitting.{IsLowestOver, keys_of_bucket}
+use Rattle.cm_brz_split.specs.Split.{split_of}
 use Rattle.cm_brz_split.specs.declared.fault.BrzFault.{BrzFault}
 use Rattle.cm_brz_split.specs.declared.fault.BrzFault.TheVariants.{Memory, NoKeys, Overfull, Cored, Key, Changed, SpillFailed, SpillDamaged}
 use Rattle.cm_brz_func.specs.Functions.{Brz, bucket_count, no_bucket}

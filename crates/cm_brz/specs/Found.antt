@@ -3,8 +3,7 @@ use Rattle.std.specs.Prelude.{ℕ, ◌<◌, nat_lt, List, find, is_none, length,
 use Rattle.std.specs.List.{range_with_len}
 use Rattle.cm_algo_names.specs.declared.algorithm.Algorithm.TheVariants as algorithm
 use Rattle.cm_brz.specs.BrzOf.{bucket_from}
-use Rattle.cm_brz_func.specs.Splitting.{keys_of_bucket}
-use Rattle.cm_brz_split.specs.Split.{size_of_bucket}
+use Rattle.cm_brz_func.specs.Splitting.{keys_of_bucket, size_of_bucket}
 use Rattle.cm_brz_func.specs.Functions.{Brz, Bucket, bucket_count, no_bucket}
 use Rattle.cm_spec.specs.declared.limits.TheConstants.{MAX_BUCKET}
 use Rattle.cm_spec.specs.Bdz.{bdz_rule}

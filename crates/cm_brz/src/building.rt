@@ -9,7 +9,8 @@ ghost use Rattle.cm_brz_split.specs.Faults.{HasFailure, HasKeysCause, HasSpillCa
 ghost use Rattle.cm_brz_split.specs.Given.{CountedBucket, CountedOver, GaveCount, GaveEqual, GaveSizes};
 ghost use Rattle.cm_brz_split.specs.Passes.{AreCounted};
 ghost use Rattle.cm_brz_split.specs.Puts.{records_under};
-ghost use Rattle.cm_brz_split.specs.Split.{AreSizes, size_of_bucket, split_of};
+ghost use Rattle.cm_brz_split.specs.Split.{AreSizes, split_of};
+ghost use Rattle.cm_brz_func.specs.Splitting.{size_of_bucket};
 ghost use Rattle.cm_brz_func.specs.Functions.{bucket_count};
 ghost use Rattle.cm_spec.specs.Rule.{IsRatio};
 ghost use Rattle.cm_io.specs.PassFaults.{HasPassed, IsOtherCount};

@@ -10,8 +10,7 @@ use Rattle.cm_witness_gather.specs.Pairs.{pairs}
 use Rattle.cm_witness_gather.specs.declared.certificate.Pair.{Pair}
 use Rattle.cm_brz_split.specs.Given.{GaveCount, GaveEqual}
 use Rattle.cm_brz_split.specs.Passes.{NotesNext}
-use Rattle.cm_brz_func.specs.Splitting.{keys_of_bucket}
-use Rattle.cm_brz_split.specs.Split.{size_of_bucket}
+use Rattle.cm_brz_func.specs.Splitting.{keys_of_bucket, size_of_bucket}
 
 -- of all keys these are left, and n others of the bucket were noted
 pub record AreNotedBut (n : ℕ) (noted : List (ℕ × List ℕ)) (found : List Pair) (left all : List (ℕ × List ℕ)) (k s j : ℕ) : Type 0 where

@@ -7,7 +7,8 @@ use Rattle.cm_brz_func.specs.Functions.{bucket_of, flipped}
 use Rattle.cm_brz_split.proofs.PutLemmas.{count_one}
 use Rattle.cm_brz_split.specs.Given.{GaveCount, GaveMore, GaveNext, GaveOver, GaveSizes}
 use Rattle.cm_brz_split.specs.SizesLaws.{get_or-zeros, length_filter-cons, lowest_over, size_by_map}
-use Rattle.cm_brz_split.specs.Split.{IsFirstOver, size_by_words, size_of_bucket}
+use Rattle.cm_brz_split.specs.Split.{IsFirstOver, size_by_words}
+use Rattle.cm_brz_func.specs.Splitting.{size_of_bucket}
 use Rattle.cm_spec.specs.Lookup2.{words}
 
 -- the size of a bucket of two lists

@@ -1,8 +1,8 @@
 -- What a pass gave, whether its keys are known or not. `Gave` is what holds of the keys that a pass has yielded, with their lines.
 use Rattle.std.specs.Prelude.{◌≡◌, ◌≢◌, ℕ, ◌+◌, ◌<◌, List, [], ◌∷◌, ◌++◌, slice_index}
 use Rattle.cm_brz_func.specs.Functions.{bucket_of}
-use Rattle.cm_brz_func.specs.Splitting.{keys_of_bucket}
-use Rattle.cm_brz_split.specs.Split.{AreSizes, IsLowestOver, size_of_bucket}
+use Rattle.cm_brz_func.specs.Splitting.{IsLowestOver, keys_of_bucket, size_of_bucket}
+use Rattle.cm_brz_split.specs.Split.{AreSizes}
 use Rattle.cm_witness_gather.specs.Pairs.{pairs}
 use Rattle.cm_witness_gather.specs.declared.certificate.Pair.{Pair}
 

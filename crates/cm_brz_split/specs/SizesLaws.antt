@@ -14,7 +14,8 @@ use Rattle.std.proofs.lemmas.Simd.{map-map}
 use Rattle.cm_brz_func.specs.Functions.{bucket_by, bucket_count, bucket_of, flipped}
 use Rattle.cm_spec.specs.declared.limits.TheConstants.{MAX_BUCKET}
 use Rattle.cm_spec.specs.Lookup2.{words}
-use Rattle.cm_brz_split.specs.Split.{AreSizes, CountsPassed, IsFirstOver, IsLowestOver, size_by_words, size_of_bucket, is_split}
+use Rattle.cm_brz_split.specs.Split.{AreSizes, CountsPassed, IsFirstOver, size_by_words, is_split}
+use Rattle.cm_brz_func.specs.Splitting.{IsLowestOver, size_of_bucket}
 
 -- of all keys these are left, and the others were counted by bucket
 pub record AreCountedBut (sizes : List ℕ) (left all : List (ℕ × List ℕ)) (k s : ℕ) : Type 0 where

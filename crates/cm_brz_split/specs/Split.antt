@@ -2,14 +2,10 @@
 use Rattle.std.specs.Prelude.{◌≡◌, ℕ, ◌+◌, ◌<◌, ◌≤◌, ◌==◌, Bool, nat_le, List, [], ◌∷◌, count_by, drop, find, length, slice_index, Option, None, Some, Result, Ok, Err}
 use Rattle.std.specs.List.{list_all, range_with_len}
 use Rattle.cm_brz_func.specs.Functions.{bucket_by, bucket_of}
-use Rattle.cm_brz_func.specs.Splitting.{keys_of_bucket}
+use Rattle.cm_brz_func.specs.Splitting.{size_of_bucket}
 use Rattle.cm_spec.specs.declared.limits.TheConstants.{MAX_BUCKET}
 use Rattle.cm_io.specs.Passes.{Told, Ends, GivesKey}
 use Rattle.cm_io.specs.declared.key_pass.KeyFault.{KeyFault}
-
--- how many keys bucket j has, of k
-abbrev pub size_of_bucket : List (ℕ × List ℕ) → ℕ → ℕ → ℕ → ℕ
-size_of_bucket keys k split j = length (keys_of_bucket keys k split j)
 
 -- these are the numbers of keys of the buckets
 abbrev pub AreSizes : List ℕ → List (ℕ × List ℕ) → ℕ → ℕ → Type 0
@@ -37,13 +33,6 @@ pub record IsFirstOver (sizes : List ℕ) (bucket count : ℕ) : Type 0 where
   pub is : count ≡ slice_index sizes bucket
   pub over : MAX_BUCKET < count
   pub lowest : (j : ℕ) → j < bucket → slice_index sizes j ≤ MAX_BUCKET
-
--- the lowest bucket under a seed that has more keys than one may have, with its number of keys
-pub record IsLowestOver (keys : List (ℕ × List ℕ)) (k split bucket count : ℕ) : Type 0 where
-  pub within : bucket < k
-  pub is : count ≡ size_of_bucket keys k split bucket
-  pub over : MAX_BUCKET < count
-  pub lowest : (j : ℕ) → j < bucket → size_of_bucket keys k split j ≤ MAX_BUCKET
 
 -- the bucket of the next of the keys, or what comes after the last
 abbrev pub GivesBucket : Told → ℕ → ℕ → ℕ → ℕ → Result (Option ℕ) KeyFault → Type 0

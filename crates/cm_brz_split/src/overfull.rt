@@ -7,8 +7,7 @@ ghost use Rattle.cm_io.specs.PassFaults.{HasPassCause, HasPassFailure, IfChanged
 ghost use Rattle.cm_witness_gather.specs.Pairs.{pairs};
 ghost use Rattle.cm_brz_split.specs.Given.{GaveCount, GaveEqual};
 ghost use Rattle.cm_brz_split.specs.Passes.{AreCounted, FailsAgain, NotesNext};
-ghost use Rattle.cm_brz_func.specs.Splitting.{keys_of_bucket};
-ghost use Rattle.cm_brz_split.specs.Split.{size_of_bucket};
+ghost use Rattle.cm_brz_func.specs.Splitting.{keys_of_bucket, size_of_bucket};
 
 use crate::split::{Overfull, Split};
 use cm_io::{KeyBuf, KeyPass, PassFault, expect_end};

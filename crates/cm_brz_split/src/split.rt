@@ -8,7 +8,8 @@ ghost use Rattle.cm_brz_func.specs.Functions.{bucket_count, bucket_of as bucket_
 ghost use Rattle.cm_spec.specs.declared.limits.TheConstants.{MAX_BUCKET, MAX_KEYS};
 ghost use Rattle.cm_brz_split.specs.Given.{CountedOver, GaveMore, GaveNext, GaveOver, GaveSizes};
 ghost use Rattle.cm_brz_split.specs.Passes.{AreCounted, FailsAgain};
-ghost use Rattle.cm_brz_split.specs.Split.{AreSizes, CountsPassed, GivesBucket, IsFirstOver, IsLowestOver, is_split, size_by_words, split_of};
+ghost use Rattle.cm_brz_split.specs.Split.{AreSizes, CountsPassed, GivesBucket, IsFirstOver, is_split, size_by_words, split_of};
+ghost use Rattle.cm_brz_func.specs.Splitting.{IsLowestOver};
 
 use cm_algo_scheme::Divisor;
 use cm_brz_func::{MAX_BUCKET, bucket_of_hashed, flip};

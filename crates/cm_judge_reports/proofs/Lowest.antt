@@ -2,8 +2,8 @@
 use Rattle.std.proofs.Common.{◌≡◌, ◌≢◌, ℕ, Bool, true, false, cond, not, ◌&&◌, leb, ltb, List, [], ◌∷◌, sym, refl, ap, ◌∙◌, Option, None, Some, option_map}
 use Rattle.std.specs.List.{find, list_all, range_with_len}
 use Rattle.std.proofs.lemmas.Bool.{eq-eqb, le-ltb, leb-true, ne_eqb}
-use Rattle.cm_brz_func.specs.Splitting.{keys_of_bucket}
-use Rattle.cm_brz_split.specs.Split.{IsLowestOver, is_split, size_of_bucket, split_of}
+use Rattle.cm_brz_func.specs.Splitting.{IsLowestOver, keys_of_bucket, size_of_bucket}
+use Rattle.cm_brz_split.specs.Split.{is_split, split_of}
 use Rattle.cm_judge_verdict.specs.BucketLaws.{lowest_is, over_lowest}
 use Rattle.cm_judge_verdict.specs.CoreLaws.{pairs_rise_after}
 use Rattle.cm_judge_verdict.specs.LackingLaws.{none_if}

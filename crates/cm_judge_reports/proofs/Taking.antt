@@ -5,9 +5,8 @@ use Rattle.std.proofs.lemmas.Bool.{cond-true, eq-eqb}
 use Rattle.std.proofs.lemmas.List.{append-nil}
 use Rattle.std.proofs.lemmas.List.Elements.{filter-append}
 use Rattle.cm_brz_func.specs.Functions.{bucket_of}
-use Rattle.cm_brz_func.specs.Splitting.{keys_of_bucket}
+use Rattle.cm_brz_func.specs.Splitting.{keys_of_bucket, size_of_bucket}
 use Rattle.cm_brz_split.specs.SizesLaws.{length_filter-cons}
-use Rattle.cm_brz_split.specs.Split.{size_of_bucket}
 use Rattle.cm_judge_reports.proofs.Lowest.{first_passes}
 use Rattle.cm_judge_reports.proofs.Merging.{least_is}
 use Rattle.cm_judge_reports.specs.Buckets.{AddsNext}

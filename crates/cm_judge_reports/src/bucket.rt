@@ -2,10 +2,9 @@
 ghost use Rattle.std.specs.Prelude.{◌≡◌, ◌<◌, ◌≤◌, ◌+◌, [], Some, None, drop, length, true, false, IfErr, IfNone, IfOk, IfSome, IsTrue, OnOk};
 ghost use Rattle.std.specs.Option.{ForSome};
 ghost use Rattle.cm_brz_func.specs.Functions.{bucket_count};
-ghost use Rattle.cm_brz_func.specs.Splitting.{keys_of_bucket};
+ghost use Rattle.cm_brz_func.specs.Splitting.{keys_of_bucket, size_of_bucket};
 ghost use Rattle.cm_brz_split.specs.BucketPass.{last_line};
 ghost use Rattle.cm_brz_split.specs.Passes.{AreCounted, FailsAgain};
-ghost use Rattle.cm_brz_split.specs.Split.{size_of_bucket};
 ghost use Rattle.cm_io.specs.PassFaults.{HasOtherCount, HasPassCause, HasPassFailure, IfChanged};
 ghost use Rattle.cm_io.specs.Passes.{Ends};
 ghost use Rattle.cm_io.specs.declared.key_pass.TheConstants.{MAX_KEY_LEN};

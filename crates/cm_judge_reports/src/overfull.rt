@@ -4,7 +4,7 @@ ghost use Rattle.std.specs.Option.{ForSome};
 ghost use Rattle.cm_brz_func.specs.Functions.{bucket_count};
 ghost use Rattle.cm_brz_split.specs.Given.{CountedOver};
 ghost use Rattle.cm_brz_split.specs.Passes.{AreCounted, FailsAgain};
-ghost use Rattle.cm_brz_split.specs.Split.{IsLowestOver};
+ghost use Rattle.cm_brz_func.specs.Splitting.{IsLowestOver};
 ghost use Rattle.cm_io.specs.PassFaults.{HasOtherCount, HasPassCause, HasPassFailure, IfChanged, IsOtherCount};
 ghost use Rattle.cm_judge_reports.specs.Faults.{DiffersInBucket};
 ghost use Rattle.cm_judge_verdict.specs.Rising.{RisesBy};

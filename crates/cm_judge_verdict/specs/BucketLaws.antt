@@ -3,8 +3,7 @@ use Rattle.std.proofs.Common.{◌≡◌, ◌⊎◌, ℕ, zero, suc, ◌+◌, ◌
 use Rattle.std.specs.List.{find, range_with_len}
 use Rattle.std.specs.Option.{option_eq}
 use Rattle.std.proofs.lemmas.Bool.{cases_eq, eq-eqb, eqb-true, le-ltb, lt-ltb, ltb-false, ltb-true, or_from, or_parts}
-use Rattle.cm_brz_func.specs.Splitting.{keys_of_bucket}
-use Rattle.cm_brz_split.specs.Split.{IsLowestOver, size_of_bucket}
+use Rattle.cm_brz_func.specs.Splitting.{IsLowestOver, keys_of_bucket, size_of_bucket}
 use Rattle.cm_judge_verdict.specs.Truth.{IsBucketIn, IsTrueOverfull}
 use Rattle.cm_judge_verdict.specs.Verdicts.{first_reason, lowest_overfull, no_bucket, not_lowest, other_count, overfull_reasons}
 use Rattle.cm_judge_verdict.specs.declared.verdict.Reason.TheVariants.{Count, NoBucket}

@@ -1,8 +1,7 @@
 -- When a report is true.
 use Rattle.std.specs.Prelude.{◌≡◌, ◌<◌, ◌≤◌, ℕ, List, length, map, IfSome}
 use Rattle.std.specs.List.Sorted.{IsStrictlyIncreasing}
-use Rattle.cm_brz_func.specs.Splitting.{keys_of_bucket}
-use Rattle.cm_brz_split.specs.Split.{IsLowestOver}
+use Rattle.cm_brz_func.specs.Splitting.{IsLowestOver, keys_of_bucket}
 use Rattle.cm_judge_verdict.specs.Judged.{Judged, buckets_for, graph_in, judged_by}
 use Rattle.cm_judge_verdict.specs.declared.verdict.Settings.{Settings}
 use Rattle.cm_spec.specs.Core.{IsCore}

@@ -2,8 +2,7 @@
 use Rattle.std.specs.Prelude.{ℕ, ◌==◌, ◌||◌, ◌&&◌, Bool, not, nat_eq, nat_lt, if◌then◌else◌, List, [], ◌∷◌, ◌++◌, count_by, filter, find, flat_map, length, map, min, Option, None, Some, option_map, option_to_list}
 use Rattle.std.specs.List.{list_any, range_with_len, reduce}
 use Rattle.std.specs.Option.{option_eq, option_or}
-use Rattle.cm_brz_func.specs.Splitting.{keys_of_bucket}
-use Rattle.cm_brz_split.specs.Split.{size_of_bucket}
+use Rattle.cm_brz_func.specs.Splitting.{keys_of_bucket, size_of_bucket}
 use Rattle.cm_judge_verdict.specs.Judged.{Judged, buckets_for, core_in, edges_in, judged_by, pairs_in}
 use Rattle.cm_judge_verdict.specs.declared.verdict.Reason.{Reason}
 use Rattle.cm_judge_verdict.specs.declared.verdict.Reason.TheVariants.{Count, Ends, Missing, NoBucket, NoKey, NoPair, Once}

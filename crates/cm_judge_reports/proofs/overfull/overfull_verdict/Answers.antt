@@ -1,7 +1,6 @@
 use Rattle.std.proofs.Common.{◌≡◌, ◌∙◌, ℕ, List, [], ◌∷◌, Option, None, Some, ap, option_map, refl, subst, sym}
 use Rattle.cm_brz_func.specs.Functions.{bucket_count}
-use Rattle.cm_brz_func.specs.Splitting.{keys_of_bucket}
-use Rattle.cm_brz_split.specs.Split.{IsLowestOver}
+use Rattle.cm_brz_func.specs.Splitting.{IsLowestOver, keys_of_bucket}
 use Rattle.cm_judge_reports.proofs.Lowest.{pairs_rise_in, verdict_count, verdict_other, verdict_pairs}
 use Rattle.cm_judge_reports.proofs.overfull.overfull_verdict.Goals as goal
 use Rattle.cm_judge_verdict.specs.Rising.{RisesBy}
