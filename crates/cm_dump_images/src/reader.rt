@@ -1,10 +1,10 @@
 //! The cells of an image that is read from a file.
-ghost use Rattle.std.specs.Prelude.{◌≡◌, ◌+◌, ◌<◌, ◌≤◌, ◌^◌, ℕ, List, Ok, OnOk, IfOk, length};
+ghost use Rattle.std.specs.Prelude.{◌≡◌, ◌+◌, ◌<◌, ◌≤◌, ◌^◌, ℕ, List, Ok, OnOk, IfErr, IfOk, length};
 ghost use Rattle.std.specs.Option.{ForSome};
 ghost use Rattle.cm_bits.specs.declared.TheConstants.{MAX_CELLS};
 ghost use Rattle.cm_dump_items.specs.Reading.{Answers, IsAt, HasLoadCause, item_at};
 ghost use Rattle.cm_spec.specs.Lists.{list_of};
-ghost use Rattle.cm_dump_images.specs.Images.{fault_at, image_at};
+ghost use Rattle.cm_dump_images.specs.Images.{IsCellsFault, fault_at, image_at};
 ghost use Rattle.cm_dump_images.specs.Places.{AreNear, IsPlace};
 
 use cm_bits::{Cells, ImageFault};
@@ -47,6 +47,7 @@ pub fn cells_from<C: Cells + Drop>(
     ensures size { IfOk result (λ t. length (C.cells t) ≡ n) }
     ensures exact { (bytes : List ℕ) → item_at bytes at (C.image_size n bound) ≡ Ok image.items → Answers (λ t. list_of (C.image_byte bound (C.cells t)) (C.image_size n bound)) result (image_at bytes at (C.image_size n bound) (C.cell_place bound) (C.image_fault n bound)) }
     ensures cause { (k : ℕ) → HasLoadCause k k result }
+    ensures kind { IfErr result (IsCellsFault (C.image_fault n bound)) }
 {
     match C::from_bytes(alloc, n, bound, image) {
         Ok(cells) => Ok(cells),
@@ -76,6 +77,7 @@ pub fn read_cells<C: Cells + Drop, S: Source>(
     ensures size { IfOk result (λ t. length (C.cells t) ≡ n) }
     ensures exact { ForSome (S.told source.old) (λ bytes. Answers (λ t. list_of (C.image_byte bound (C.cells t)) (C.image_size n bound)) result (image_at bytes at (C.image_size n bound) (C.cell_place bound) (C.image_fault n bound))) }
     ensures cause { HasLoadCause (S.faults source.old) (S.faults source.new) result }
+    ensures kind { IfErr result (IsCellsFault (C.image_fault n bound)) }
 {
     let len = C::image_len(n, bound);
     let bytes = match long_item(alloc, source, at, len) {

@@ -65,3 +65,21 @@ abbrev pub HasLoadCause : {T : Type 0} → ℕ → ℕ → Result T LoadFault �
 HasLoadCause before now (Ok x) = now ≡ before
 HasLoadCause before now (Err faults.Read) = (before ≤ now) × Rose before now
 HasLoadCause before now (Err f) = now ≡ before
+
+-- An item is cut off, or is a field out of its range, unless the source fails.
+abbrev pub IsItemFault : LoadFault → Type 0
+IsItemFault faults.Read = Unit {0}
+IsItemFault (faults.Truncated at) = Unit {0}
+IsItemFault (faults.BadField at) = Unit {0}
+IsItemFault fault = ⊥
+
+-- And memory may run out for an item of many bytes.
+abbrev pub IsLongFault : LoadFault → Type 0
+IsLongFault faults.Memory = Unit {0}
+IsLongFault fault = IsItemFault fault
+
+-- A byte follows the last item, unless the source fails.
+abbrev pub IsEndFault : LoadFault → Type 0
+IsEndFault faults.Read = Unit {0}
+IsEndFault faults.Trailing = Unit {0}
+IsEndFault fault = ⊥

@@ -1,7 +1,7 @@
 //! An item of many bytes.
-ghost use Rattle.std.specs.Prelude.{◌≡◌, ◌+◌, ◌-◌, ◌<◌, ◌≤◌, ◌^◌, ◌++◌, OnOk, IfOk, length, replicate};
+ghost use Rattle.std.specs.Prelude.{◌≡◌, ◌+◌, ◌-◌, ◌<◌, ◌≤◌, ◌^◌, ◌++◌, OnOk, IfErr, IfOk, length, replicate};
 ghost use Rattle.std.specs.Option.{ForSome};
-ghost use Rattle.cm_dump_items.specs.Reading.{Answers, IsAt, HasLoadCause, item_at};
+ghost use Rattle.cm_dump_items.specs.Reading.{Answers, HasLoadCause, IsAt, IsLongFault, item_at};
 
 use crate::LoadFault;
 use crate::items::item;
@@ -41,6 +41,7 @@ pub fn long_item<S: Source>(
     ensures size { IfOk result (λ v. length v.items ≡ n) }
     ensures exact { ForSome (S.told source.old) (λ bytes. Answers (λ v. v.items) result (item_at bytes at n)) }
     ensures cause { HasLoadCause (S.faults source.old) (S.faults source.new) result }
+    ensures kind { IfErr result IsLongFault }
 {
     let mut all = match Vec::with_capacity(alloc, n.min(FIRST) as usize + SPARE) {
         Ok(all) => all,

@@ -1,10 +1,10 @@
 //! The items of a file, each read at its offset and checked. A read from a source that stands there returns the item, or the first fault
 //! of the bytes.
-ghost use Rattle.std.specs.Prelude.{◌≡◌, ◌≢◌, ◌+◌, ◌<◌, ◌≤◌, ◌^◌, Err, OnOk, IfOk, length};
+ghost use Rattle.std.specs.Prelude.{◌≡◌, ◌≢◌, ◌+◌, ◌<◌, ◌≤◌, ◌^◌, Err, OnOk, IfErr, IfOk, length};
 ghost use Rattle.std.specs.Int.{w8, w16, w32};
 ghost use Rattle.std.specs.Option.{ForSome};
 ghost use Rattle.cm_io.specs.Causes.{HasCause};
-ghost use Rattle.cm_dump_items.specs.Reading.{Answers, Fills, IsAt, HasLoadCause, item_at, field_at, end_at};
+ghost use Rattle.cm_dump_items.specs.Reading.{Answers, Fills, HasLoadCause, IsAt, IsEndFault, IsItemFault, end_at, field_at, item_at};
 ghost use Rattle.cm_dump_items.specs.declared.fault.LoadFault.{LoadFault};
 
 use crate::LoadFault;
@@ -43,6 +43,7 @@ pub fn item<S: Source>(source: &mut S, at: u64, buf: &mut [u8]) -> Result<(), Lo
     ensures exact { ForSome (S.told source.old) (λ bytes. Answers (λ _. buf.new) result (item_at bytes at (length buf.old))) }
     ensures cause { HasLoadCause (S.faults source.old) (S.faults source.new) result }
     ensures memory { result ≢ Err LoadFault.Memory }
+    ensures kind { IfErr result IsItemFault }
 {
     let got = match fill(source, at, buf) {
         Ok(got) => got,
@@ -69,6 +70,7 @@ pub fn byte<S: Source>(source: &mut S, at: u64, low: u8, high: u8) -> Result<u8,
     ensures exact { ForSome (S.told source.old) (λ bytes. Answers (λ b. b) result (field_at w8 bytes at low high)) }
     ensures cause { HasLoadCause (S.faults source.old) (S.faults source.new) result }
     ensures memory { result ≢ Err LoadFault.Memory }
+    ensures kind { IfErr result IsItemFault }
 {
     let mut buf = [0; 1];
     item(source, at, &mut buf)?;
@@ -87,6 +89,7 @@ pub fn short<S: Source>(source: &mut S, at: u64, low: u16, high: u16) -> Result<
     ensures exact { ForSome (S.told source.old) (λ bytes. Answers (λ x. x) result (field_at w16 bytes at low high)) }
     ensures cause { HasLoadCause (S.faults source.old) (S.faults source.new) result }
     ensures memory { result ≢ Err LoadFault.Memory }
+    ensures kind { IfErr result IsItemFault }
 {
     let mut buf = [0; 2];
     item(source, at, &mut buf)?;
@@ -105,6 +108,7 @@ pub fn number<S: Source>(source: &mut S, at: u64, low: u32, high: u32) -> Result
     ensures exact { ForSome (S.told source.old) (λ bytes. Answers (λ x. x) result (field_at w32 bytes at low high)) }
     ensures cause { HasLoadCause (S.faults source.old) (S.faults source.new) result }
     ensures memory { result ≢ Err LoadFault.Memory }
+    ensures kind { IfErr result IsItemFault }
 {
     let mut buf = [0; 4];
     item(source, at, &mut buf)?;
@@ -120,6 +124,7 @@ pub fn end<S: Source>(source: &mut S, at: u64) -> Result<(), LoadFault>
     ensures exact { ForSome (S.told source.old) (λ bytes. Answers (λ x. x) result (end_at bytes at)) }
     ensures cause { HasLoadCause (S.faults source.old) (S.faults source.new) result }
     ensures memory { result ≢ Err LoadFault.Memory }
+    ensures kind { IfErr result IsEndFault }
 {
     let mut buf = [0; 1];
     match source.read(&mut buf) {

@@ -1,7 +1,7 @@
 //! The items of a part of a file that is in memory. Each is read at the start of the bytes that are left, whose offset is known.
-ghost use Rattle.std.specs.Prelude.{◌≡◌, ◌≢◌, ◌+◌, ◌<◌, ◌≤◌, ◌^◌, ℕ, List, Err, OnOk, IfOk, length};
+ghost use Rattle.std.specs.Prelude.{◌≡◌, ◌≢◌, ◌+◌, ◌<◌, ◌≤◌, ◌^◌, ℕ, List, Err, OnOk, IfErr, IfOk, length};
 ghost use Rattle.std.specs.Int.{w8, w16, w32};
-ghost use Rattle.cm_dump_items.specs.Reading.{Answers, HasLoadCause, IsPart, item_at, field_at};
+ghost use Rattle.cm_dump_items.specs.Reading.{Answers, HasLoadCause, IsItemFault, IsPart, field_at, item_at};
 ghost use Rattle.cm_dump_items.specs.declared.fault.LoadFault.{LoadFault};
 
 use crate::LoadFault;
@@ -25,6 +25,7 @@ fn item_of(part: &[u8], at: u64, buf: &mut [u8]) -> Result<(), LoadFault>
     ensures exact { (bytes : List ℕ) (room : ℕ) → length buf.old ≤ room → IsPart bytes at room part.now → Answers (λ _. buf.new) result (item_at bytes at (length buf.old)) }
     ensures cause { (n : ℕ) → HasLoadCause n n result }
     ensures memory { result ≢ Err LoadFault.Memory }
+    ensures kind { IfErr result IsItemFault }
 {
     let n = buf.len();
     if part.len() < n {
@@ -44,6 +45,7 @@ pub fn byte_of(part: &[u8], at: u64, low: u8, high: u8) -> Result<u8, LoadFault>
     ensures exact { (bytes : List ℕ) (room : ℕ) → 1 ≤ room → IsPart bytes at room part.now → Answers (λ b. b) result (field_at w8 bytes at low high) }
     ensures cause { (n : ℕ) → HasLoadCause n n result }
     ensures memory { result ≢ Err LoadFault.Memory }
+    ensures kind { IfErr result IsItemFault }
 {
     let mut buf = [0; 1];
     match item_of(part, at, &mut buf) {
@@ -68,6 +70,7 @@ pub fn short_of(part: &[u8], at: u64, low: u16, high: u16) -> Result<u16, LoadFa
     ensures exact { (bytes : List ℕ) (room : ℕ) → 2 ≤ room → IsPart bytes at room part.now → Answers (λ x. x) result (field_at w16 bytes at low high) }
     ensures cause { (n : ℕ) → HasLoadCause n n result }
     ensures memory { result ≢ Err LoadFault.Memory }
+    ensures kind { IfErr result IsItemFault }
 {
     let mut buf = [0; 2];
     match item_of(part, at, &mut buf) {
@@ -92,6 +95,7 @@ pub fn number_of(part: &[u8], at: u64, low: u32, high: u32) -> Result<u32, LoadF
     ensures exact { (bytes : List ℕ) (room : ℕ) → 4 ≤ room → IsPart bytes at room part.now → Answers (λ x. x) result (field_at w32 bytes at low high) }
     ensures cause { (n : ℕ) → HasLoadCause n n result }
     ensures memory { result ≢ Err LoadFault.Memory }
+    ensures kind { IfErr result IsItemFault }
 {
     let mut buf = [0; 4];
     match item_of(part, at, &mut buf) {
