@@ -4,6 +4,7 @@ use Rattle.std.specs.Int.{to_le_bytes}
 use Rattle.std.proofs.lemmas.List.FromFn.{length-map-range_with_len}
 use Rattle.cm_bdz.specs.Functions.{Bdz, BdzPh}
 use Rattle.cm_brz_func.specs.Functions.{Brz}
+use Rattle.cm_dump_images.specs.ImageLaws.{length-fields_image}
 use Rattle.cm_rank.specs.Ranks.{sampled}
 use Rattle.cm_spec.specs.Chm.{Chm}
 use Rattle.cm_spec.specs.Dump.{fields_image}
@@ -29,10 +30,6 @@ length-header v known algorithm b keys ratio seed =
     let front : length (v.magic ++ kind) ≡ 12 = length-append v.magic kind ∙ omega (arith, known.magic, known.kind algorithm b) in
     let whole : length (header v algorithm b keys ratio seed ++ []) ≡ length (v.magic ++ kind) + 12 = ap length (header_parts v algorithm b keys ratio seed []) ∙ length-append (v.magic ++ kind) (numbers ++ []) in
     ap length (sym (append-nil (header v algorithm b keys ratio seed))) ∙ whole ∙ omega (arith, front)
-
-pub length-fields_image : (bound : ℕ) (cells : List ℕ) → length (fields_image bound cells) ≡ fields_len (width_of bound) (length cells)
-unfolding fields_image
-length-fields_image bound cells = length-map-range_with_len _ 0 _
 
 pub length-packed_image : (d p : ℕ) (cells : List ℕ) → length (packed_image d p cells) ≡ packed_len p (length cells)
 unfolding packed_image

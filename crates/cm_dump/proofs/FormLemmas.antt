@@ -1,7 +1,7 @@
 -- What holds of both versions of the dump.
-use Rattle.std.proofs.Common.{◌≡◌, ℕ, ◌%◌, ◌<◌, ◌≤◌, ◌^◌, List, [], ◌∷◌, length, get_or, ap, arith, refl, w32, lit<, lit≤}
-use Rattle.std.specs.Int.{Width, byte_len, from_le_bytes, to_le_bytes, w8, w16}
-use Rattle.std.proofs.lemmas.Nat.{from_le_bytes-to_le_bytes_2, from_le_bytes-to_le_bytes_4, le_bytes_2, le_bytes_4}
+use Rattle.std.proofs.Common.{◌≡◌, ℕ, ◌<◌, ◌≤◌, ◌^◌, length, arith, refl, lit<, lit≤}
+use Rattle.std.specs.Int.{byte_len}
+use Rattle.cm_dump_items.specs.WidthLaws.{IsWidth, of_one, of_two}
 use Rattle.cm_spec.specs.declared.limits.TheConstants.{MAX_BUCKET, MAX_KEYS, MAX_WIDTH, MIN_WIDTH}
 use Rattle.cm_dump.specs.declared.front.Algorithm.{Algorithm}
 use Rattle.cm_dump.specs.declared.front.Algorithm.TheVariants as algorithm
@@ -10,30 +10,6 @@ use Rattle.cm_dump.specs.declared.versions.Version.TheVariants as version
 use Rattle.cm_dump.specs.Dumps.{kind_bytes}
 use Rattle.cm_dump.specs.Forms.{Form, form_of}
 use Rattle.cm_dump.specs.Headings.{most_b}
-
--- numbers of a width are bytes, and come back from them
-pub record IsWidth (w : Width) : Type 0 where
-  pub long : (n : ℕ) → length (to_le_bytes w n) ≡ byte_len w
-  pub back : (n : ℕ) → n < 256 ^ byte_len w → from_le_bytes w (to_le_bytes w n) ≡ n
-  pub same : (bs : List ℕ) (n : ℕ) → length bs ≡ byte_len w → ((i : ℕ) → get_or bs i 0 < 256) → n ≡ from_le_bytes w bs → to_le_bytes w n ≡ bs
-
-one_byte : (bs : List ℕ) (n : ℕ) → length bs ≡ 1 → ((i : ℕ) → get_or bs i 0 < 256) → n ≡ from_le_bytes w8 bs → to_le_bytes w8 n ≡ bs
-one_byte [] n long small is = absurd (omega (arith, long))
-one_byte (b ∷ []) n long small is = let same : n % 256 ≡ b = omega (arith, is, small 0) in ap (λ (x : ℕ). x ∷ []) same
-one_byte (b ∷ c ∷ bs) n long small is = absurd (omega (arith, long))
-
-pub of_one : IsWidth w8
-of_one = record {
-  long = λ n. refl;
-  back = λ n fits. let few : n < 256 = fits in let same : n % 256 ≡ n = omega (arith, few) in same;
-  same = one_byte;
-}
-
-pub of_two : IsWidth w16
-of_two = record { long = λ n. refl; back = from_le_bytes-to_le_bytes_2; same = le_bytes_2 }
-
-pub of_four : IsWidth w32
-of_four = record { long = λ n. refl; back = from_le_bytes-to_le_bytes_4; same = le_bytes_4 }
 
 -- a version's numbers are within the limits of functions
 pub record IsForm (v : Form) : Type 0 where

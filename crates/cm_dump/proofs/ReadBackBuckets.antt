@@ -28,8 +28,11 @@ use Rattle.cm_dump.specs.declared.front.Header.{Header}
 use Rattle.cm_func.specs.declared.function.Func.TheVariants as func
 use Rattle.cm_dump.specs.Spelling.{is_off, most_seed, size_at, crumbs_at, bucket_at, bucket_len, rest_at, brz_at, no_buckets}
 use Rattle.cm_dump.specs.Forms.{Form}
-use Rattle.cm_dump.proofs.FormLemmas.{IsForm, of_four}
-use Rattle.cm_dump.proofs.ReadBackItems.{ReadsFunction, ReadsHeader, Small, Stands, end_read, field_read, image_back, packed_read}
+use Rattle.cm_dump.proofs.FormLemmas.{IsForm}
+use Rattle.cm_dump.proofs.ReadBackItems.{ReadsFunction, ReadsHeader, packed_read}
+use Rattle.cm_dump_images.specs.BackLaws.{image_back}
+use Rattle.cm_dump_items.specs.BackLaws.{Small, Stands, end_read, field_read}
+use Rattle.cm_dump_items.specs.WidthLaws.{of_four}
 
 record ReadsSize (v : Form) (bytes : List ℕ) (at : ℕ) (f : Brz) (left size : ℕ) : Type 0 where
   pub there : Stands bytes at (byte_len v.size) (to_le_bytes v.size size)

@@ -1,32 +1,19 @@
 -- The items of bytes that spell a function.
-use Rattle.std.proofs.Common.{◌≡◌, ◌∙◌, ℕ, ◌+◌, ◌*◌, ◌/◌, ◌%◌, ◌<◌, ◌≤◌, ◌^◌, ◌&&◌, ◌⊎◌, suc, List, [], ◌∷◌, ◌++◌, append_assoc, length, get_or, take, drop, ap, sym, subst, arith, refl, length-take, length-drop, nat_lt, nat_le, Bool, true, false, if◌then◌else◌, Option, Some, None, Result, Ok, Err, w32, inl, inr, append-nil, lit<}
+use Rattle.std.proofs.Common.{◌≡◌, ◌∙◌, ℕ, ◌+◌, ◌*◌, ◌<◌, ◌≤◌, ◌^◌, ◌⊎◌, suc, List, [], ◌∷◌, ◌++◌, append_assoc, length, drop, ap, sym, subst, arith, refl, None, Ok, w32, inl, inr}
 use Rattle.std.specs.Prelude.{nat_eq, slice_index}
-use Rattle.std.specs.Int.{Width, byte_len, to_le_bytes, from_le_bytes, w8, w16}
-use Rattle.std.specs.List.{flat_map, position_or_len}
+use Rattle.std.specs.Int.{to_le_bytes, w8, w16}
+use Rattle.std.specs.List.{flat_map}
 use Rattle.std.specs.Cmp.Lexicographic.{bytes_decides, pointwise}
-use Rattle.std.proofs.Math.ListN.{drop_of_length-le}
-use Rattle.std.proofs.Math.Nat.{lt-div-mul-add}
-use Rattle.std.proofs.lemmas.Bool.{cases_eq, cases_lt, leb-true, leb-false, ne_eqb}
-use Rattle.std.proofs.lemmas.List.{drop-drop, take-append-drop, get_or-take, get_or-drop, get_or_past, ext_get_or}
-use Rattle.std.proofs.lemmas.List.FromFn.{length-map-range_with_len, get_or-map-range_with_len}
-use Rattle.std.proofs.lemmas.List.Sums.{fails_before_first}
-use Rattle.std.proofs.lemmas.Nat.{pow_pos}
+use Rattle.std.proofs.lemmas.Bool.{cases_eq, ne_eqb}
 use Rattle.cm_bits.specs.Bound.{AllBelow}
-use Rattle.cm_bits.specs.DigitsLaws.{pow_pow, digits_sum-same, digits_sum-digits, digit-digits_sum}
-use Rattle.cm_bits.specs.Fault.{bytes_number, field_cells, fields_fault, packed_fault}
-use Rattle.cm_bits.specs.FieldsLaws.{length-field_cells, field_cells-at}
+use Rattle.cm_bits.specs.Fault.{packed_fault}
 use Rattle.cm_bits.specs.Held.{packed_cells}
 use Rattle.cm_bits.specs.PackedLaws.{AllBelow-packed_cells, length-packed_cells, IsPacked-sound, image-list}
-use Rattle.cm_bits.specs.declared.fault.ImageFault.{ImageFault}
-use Rattle.cm_dump_images.specs.Images.{unless_bad, image_at}
-use Rattle.cm_dump_items.specs.declared.fault.LoadFault.{LoadFault}
 use Rattle.cm_dump_items.specs.declared.fault.LoadFault.TheVariants as faults
-use Rattle.cm_dump_items.specs.Reading.{item_at, field_at, zeros_at, end_at}
-use Rattle.cm_dump_items.specs.ItemLaws.{whole_or, ge_of}
+use Rattle.cm_dump_items.specs.Reading.{item_at, field_at, zeros_at}
 use Rattle.cm_dump_items.specs.StepLaws.{if_next, if_ok, ok_err, ok_same, step}
-use Rattle.cm_spec.specs.Dump.{fields_image}
 use Rattle.cm_dump.specs.Dumps.{HasDump, dump_by, header, kind_bytes, packed_image, ranks_image}
-use Rattle.cm_spec.specs.Image.{digits_sum, width_of, fields_len, fields_byte, fields_number, packed_byte, packed_len}
+use Rattle.cm_spec.specs.Image.{packed_byte, packed_len}
 use Rattle.cm_spec.specs.Lists.{list_of}
 use Rattle.cm_dump.specs.declared.front.Algorithm.{Algorithm}
 use Rattle.cm_dump.specs.declared.front.Algorithm.TheVariants as algorithm
@@ -38,50 +25,9 @@ use Rattle.cm_func.specs.Functions.{IsFunction}
 use Rattle.cm_dump.specs.Headings.{IsParameter, magic_at, algorithm_of, algorithm_at, least_b, most_b, parameter_at, header_at, heading_at}
 use Rattle.cm_dump.specs.Spelling.{ranks_at}
 use Rattle.cm_dump.proofs.DumpLemmas.{header_parts}
-use Rattle.cm_dump.proofs.FormLemmas.{IsWidth, of_four, of_one, of_two}
+use Rattle.cm_dump_items.specs.BackLaws.{Small, Stands, field_read, stands, zero_read}
+use Rattle.cm_dump_items.specs.WidthLaws.{of_four, of_one, of_two}
 use Rattle.cm_dump.specs.Forms.{Form, form_of, version_1, version_2}
-
-pub both_of : (s t : Bool) → (s && t) ≡ true → (s ≡ true) × (t ≡ true)
-both_of true t is = (refl, is)
-both_of false t is = absurd (grind (arith, is))
-
--- ---- items
-
--- each number of a list is a byte's
-abbrev pub Small : List ℕ → Type 0
-Small xs = (k : ℕ) → get_or xs k 0 < 256
-
-pub small_bytes : (xs : List ℕ) → AllBelow 256 xs → Small xs
-small_bytes xs below k = elim (cases_lt k (length xs)) [
-  | inl l ↦ below k l
-  | inr past ↦ rw (get_or_past xs k 0 past) (lit< tt)
-]
-
--- the item stands there
-pub record Stands (bytes : List ℕ) (at n : ℕ) (xs : List ℕ) : Type 0 where
-  pub long : length xs ≡ n
-  pub inside : at + n ≤ length bytes
-  pub cut : drop at bytes ≡ xs ++ drop (at + n) bytes
-  pub same : xs ≡ take n (drop at bytes)
-
-pub stands : (bytes : List ℕ) (at n : ℕ) (xs : List ℕ) → item_at bytes at n ≡ Ok xs → Stands bytes at n xs
-unfolding item_at
-stands bytes at n xs is =
-    let parts = whole_or (nat_lt (length bytes) (at + n)) _ (take n (drop at bytes)) xs is in
-    let inside : at + n ≤ length bytes = ge_of (length bytes) (at + n) parts.0 in
-    let long : length (take n (drop at bytes)) ≡ n = omega (arith, length-take n (drop at bytes), length-drop at bytes, inside) in
-    record {
-      long = ap length (sym parts.1) ∙ long;
-      inside = inside;
-      cut = sym (take-append-drop n (drop at bytes)) ∙ ap (λ (l : List ℕ). take n (drop at bytes) ++ l) (drop-drop n at bytes) ∙ ap (λ (l : List ℕ). l ++ drop (at + n) bytes) parts.1;
-      same = sym parts.1;
-    }
-
-pub small_item : (bytes : List ℕ) (at n : ℕ) (xs : List ℕ) → Small bytes → Stands bytes at n xs → Small xs
-small_item bytes at n xs small there k = elim (cases_lt k n) [
-  | inl l ↦ rw there.same (rw (get_or-take n (drop at bytes) k 0 l, get_or-drop at bytes k 0) (small (at + k)))
-  | inr past ↦ rw (get_or_past xs k 0 (omega (arith, there.long, past))) (lit< tt)
-]
 
 pub one_of : (xs : List ℕ) (b : ℕ) → length xs ≡ 1 → slice_index xs 0 ≡ b → xs ≡ b ∷ []
 one_of [] b long is = absurd (omega (arith, long))
@@ -118,26 +64,6 @@ algorithm_read bytes a is =
     let there = stands bytes 8 1 s.value s.was in
     subst (λ (xs : List ℕ). Stands bytes 8 1 xs) (one_of s.value (number_of a) there.long (which_read (slice_index s.value 0) a s.next)) there
 
-pub record ReadsField (w : Width) (bytes : List ℕ) (at low high x : ℕ) : Type 0 where
-  pub there : Stands bytes at (byte_len w) (to_le_bytes w x)
-  pub above : low ≤ x
-  pub below : x ≤ high
-
-pub field_read : (w : Width) → IsWidth w → (bytes : List ℕ) (at low high x : ℕ) → Small bytes → field_at w bytes at low high ≡ Ok x → ReadsField w bytes at low high x
-unfolding field_at
-field_read w known bytes at low high x small is =
-    let s = step (item_at bytes at (byte_len w)) _ x is in
-    let there = stands bytes at (byte_len w) s.value s.was in
-    let item = from_le_bytes w s.value in
-    let test = if_ok (nat_le low item && nat_le item high) _ item x s.next in
-    let range = both_of (nat_le low item) (nat_le item high) test.0 in
-    let same : to_le_bytes w x ≡ s.value = known.same s.value x there.long (small_item bytes at (byte_len w) s.value small there) (sym test.1) in
-    record {
-      there = subst (λ (xs : List ℕ). Stands bytes at (byte_len w) xs) (sym same) there;
-      above = subst (λ (y : ℕ). low ≤ y) test.1 (leb-true low item range.0);
-      below = subst (λ (y : ℕ). y ≤ high) test.1 (leb-true item high range.1);
-    }
-
 -- ---- the header
 
 pub record ReadsHeader (v : Form) (bytes : List ℕ) (h : Header) : Type 0 where
@@ -146,12 +72,6 @@ pub record ReadsHeader (v : Form) (bytes : List ℕ) (h : Header) : Type 0 where
   pub ratio : (1000000 ≤ h.ratio) × (h.ratio ≤ 10000000)
   pub seed : h.seed < 2 ^ 32
   pub front : bytes ≡ header v (number_of h.algorithm) h.b h.keys h.ratio h.seed ++ drop 24 bytes
-
-pub zero_read : (bytes : List ℕ) (at b : ℕ) → Small bytes → field_at w8 bytes at 0 0 ≡ Ok b → Stands bytes at 1 (0 ∷ [])
-zero_read bytes at b small is =
-    let r = field_read w8 of_one bytes at 0 0 b small is in
-    let none : b ≡ 0 = omega (arith, r.below) in
-    subst (λ (x : ℕ). Stands bytes at 1 (to_le_bytes w8 x)) none r.there
 
 -- the parameter between zeros, and the algorithm's number before them
 pub record ReadsParameter (v : Form) (bytes : List ℕ) (a : Algorithm) (b : ℕ) : Type 0 where
@@ -217,75 +137,6 @@ heading_read w bytes h small is =
     } in
     subst (λ (x : Header). ReadsHeader v bytes x) (ok_same c.next) made
 
--- ---- the cells
-
-pub none_or : (t u : Bool) (x y : ImageFault) → (if t then Some x else if u then Some y else None) ≡ None → (t ≡ false) × (u ≡ false)
-none_or true u x y is = absurd (grind (arith, is))
-none_or false true x y is = absurd (grind (arith, is))
-none_or false false x y is = (refl, refl)
-
-pub below_power : (x d : ℕ) → 0 < d → x / d ≡ 0 → x < d
-below_power x d some none =
-    let whole = lt-div-mul-add {a = x} {b = d} some in
-    let least = rw none at whole in
-    omega (arith, least)
-
-pub power_some : (w n : ℕ) → 0 < (2 ^ w) ^ n
-power_some w n =
-    let e : (2 ^ w) ^ n ≡ 2 ^ (w * n) = sym (pow_pow 2 w n) in
-    rw e (pow_pos (w * n))
-
-pub digit_of_bytes : (bytes : List ℕ) (q : ℕ) → Small bytes → q < length bytes → bytes_number bytes / 256 ^ q % 256 ≡ slice_index bytes q
-unfolding bytes_number
-digit_of_bytes bytes q small l = digit-digits_sum 256 (slice_index bytes) (length bytes) q (lit< tt) (λ i m. small i) l
-
--- cells without a fault are below the bound, and the bytes are their image
-pub record IsImage (m n : ℕ) (bytes cells : List ℕ) : Type 0 where
-  pub long : length cells ≡ n
-  pub below : AllBelow m cells
-  pub image : fields_image m cells ≡ bytes
-
-pub fields_read : (m n : ℕ) (bytes : List ℕ) → Small bytes → length bytes ≡ fields_len (width_of m) n → fields_fault (width_of m) n m bytes ≡ None → IsImage m n bytes (field_cells (width_of m) n (bytes_number bytes))
-unfolding fields_fault fields_image fields_byte fields_number
-fields_read m n bytes small whole none =
-    let w : ℕ = width_of m in
-    let number : ℕ = bytes_number bytes in
-    let cells : List ℕ = field_cells w n number in
-    let long : length cells ≡ n = length-field_cells w n number in
-    let parts = none_or _ _ _ _ none in
-    let first : n ≤ position_or_len (λ c. nat_le m c) cells = ge_of _ _ parts.0 in
-    let clear : number < (2 ^ w) ^ n = below_power number ((2 ^ w) ^ n) (power_some w n) (omega (arith, ge_of _ _ parts.1)) in
-    let same : fields_number w cells ≡ number =
-    ap (digits_sum (2 ^ w) (slice_index cells)) long
-    ∙ digits_sum-same (2 ^ w) _ (λ i. number / (2 ^ w) ^ i % 2 ^ w) n (λ i l. field_cells-at w n number i l)
-    ∙ digits_sum-digits (2 ^ w) n number (pow_pos w) clear in
-    let room : fields_len w (length cells) ≡ fields_len w n = ap (fields_len w) long in
-    record {
-      long = long;
-      below = λ k l. leb-false m _ (fails_before_first (λ c. nat_le m c) cells k 0 (omega (arith, l, first, long)));
-      image = ext_get_or 0 _ bytes (length-map-range_with_len _ 0 _ ∙ room ∙ sym whole) (λ q l.
-          let here : q < fields_len w (length cells) = omega (arith, l, length-map-range_with_len (fields_byte w cells) 0 (fields_len w (length cells))) in
-          get_or-map-range_with_len (fields_byte w cells) 0 (fields_len w (length cells)) q q 0 here (omega arith)
-          ∙ ap (λ (x : ℕ). x / 256 ^ q % 256) same
-          ∙ digit_of_bytes bytes q small (omega (arith, here, room, whole)));
-    }
-
-pub unless_ok : (at : ℕ) (place : ℕ → ℕ) (o : Option ImageFault) (xs ys : List ℕ) → unless_bad at place o xs ≡ Ok ys → (o ≡ None) × (xs ≡ ys)
-unless_ok at place None xs ys is = (refl, ok_same is)
-unless_ok at place (Some f) xs ys is = absurd (ok_err ys _ (sym is))
-
-pub record ReadsImage (bytes : List ℕ) (at size : ℕ) (fault : List ℕ → Option ImageFault) (item : List ℕ) : Type 0 where
-  pub there : Stands bytes at size item
-  pub none : fault item ≡ None
-
-pub image_back : (bytes : List ℕ) (at size : ℕ) (place : ℕ → ℕ) (fault : List ℕ → Option ImageFault) (item : List ℕ) → image_at bytes at size place fault ≡ Ok item → ReadsImage bytes at size fault item
-unfolding image_at
-image_back bytes at size place fault item is =
-    let s = step (item_at bytes at size) _ item is in
-    let parts = unless_ok at place (fault s.value) s.value item s.next in
-    let made : ReadsImage bytes at size fault s.value = record { there = stands bytes at size s.value s.was; none = parts.0 } in
-    subst (λ (xs : List ℕ). ReadsImage bytes at size fault xs) parts.1 made
-
 -- the same of cells that are digits
 pub record IsPackedImage (d p n : ℕ) (bytes cells : List ℕ) : Type 0 where
   pub long : length cells ≡ n
@@ -316,19 +167,6 @@ ranks_back bytes at (r ∷ rs) x is =
     let rest = rw next at (ranks_back bytes (at + 4) rs x test.1) in
     there.cut ∙ ap (λ (l : List ℕ). l ++ drop (at + 4) bytes) same ∙ ap (λ (l : List ℕ). to_le_bytes w32 r ++ l) rest
     ∙ sym (append_assoc (to_le_bytes w32 r) (flat_map (to_le_bytes w32) rs) (drop (at + 4 * suc (length rs)) bytes))
-
--- ---- the end
-
-pub end_read : (bytes : List ℕ) (at : ℕ) (x : Unit {0}) → end_at bytes at ≡ Ok x → length bytes ≤ at
-unfolding end_at
-end_read bytes at x is = ge_of at (length bytes) (trailing_or (nat_lt at (length bytes)) x is) where
-  trailing_or : (t : Bool) (x : Unit {0}) → (if t then (let r : Result (Unit {0}) LoadFault = Err faults.Trailing in r) else Ok tt) ≡ Ok x → t ≡ false
-  trailing_or true x is = absurd (ok_err x faults.Trailing (sym is))
-  trailing_or false x is = refl
-
--- the bytes after an offset, where they end with what stands there
-pub last_item : (bytes : List ℕ) (at n : ℕ) (xs : List ℕ) → drop at bytes ≡ xs ++ drop n bytes → length bytes ≤ n → drop at bytes ≡ xs
-last_item bytes at n xs cut ended = cut ∙ ap (λ (l : List ℕ). xs ++ l) (drop_of_length-le bytes ended) ∙ append-nil xs
 
 pub record ReadsFunction (v : Form) (bytes : List ℕ) (f : Func) : Type 0 where
   pub dump : dump_by v f ≡ bytes

@@ -23,7 +23,9 @@ use Rattle.cm_func.specs.declared.function.Func.TheVariants as func
 use Rattle.cm_func.specs.Functions.{IsFunction}
 use Rattle.cm_dump.specs.Headings.{heading_at}
 use Rattle.cm_dump.specs.Spelling.{chm_at, counted, ranks_at, ranked_at, bdz_at, bdz_ph_at, brz_at, body_at, spelling_of, spelling_by}
-use Rattle.cm_dump.proofs.ReadBackItems.{ReadsFunction, ReadsHeader, Small, end_read, fields_read, heading_read, image_back, last_item, packed_read, ranks_back, small_bytes, small_item}
+use Rattle.cm_dump.proofs.ReadBackItems.{ReadsFunction, ReadsHeader, heading_read, packed_read, ranks_back}
+use Rattle.cm_dump_images.specs.BackLaws.{fields_read, image_back}
+use Rattle.cm_dump_items.specs.BackLaws.{Small, end_read, last_item, small_bytes, small_item}
 use Rattle.cm_dump.specs.Forms.{Form, form_of, version_of}
 use Rattle.cm_dump.specs.declared.versions.Version.{Version}
 use Rattle.cm_dump.specs.declared.versions.Version.TheVariants as version

@@ -1,35 +1,35 @@
 -- What the dump of a function spells.
-use Rattle.std.proofs.Common.{◌≡◌, ◌∙◌, ◌-◌, ◌⊎◌, inl, inr, ℕ, nat_lt, eqb, true, false, ◌+◌, ◌*◌, ◌<◌, ◌≤◌, ◌^◌, List, [], ◌∷◌, ◌++◌, length, ap, sym, subst, arith, refl, length-append, append_assoc, Option, None, Result, Ok, ◌/◌, count_by, w32, append-nil, lit<, eq-eqb}
+use Rattle.std.proofs.Common.{◌≡◌, ◌∙◌, ◌-◌, ◌⊎◌, inl, inr, ℕ, nat_lt, eqb, true, false, ◌+◌, ◌*◌, ◌<◌, ◌≤◌, ◌^◌, List, [], ◌∷◌, ◌++◌, length, ap, sym, subst, arith, refl, length-append, append_assoc, None, Result, Ok, ◌/◌, count_by, w32, append-nil, lit<, eq-eqb}
 use Rattle.std.specs.Cmp.Lexicographic.{bytes_decides}
 use Rattle.std.specs.Prelude.{replicate}
-use Rattle.std.specs.Int.{Width, byte_len, to_le_bytes, w8, w16}
+use Rattle.std.specs.Int.{byte_len, to_le_bytes, w8, w16}
 use Rattle.std.specs.List.{All, flat_map}
 use Rattle.std.proofs.lemmas.List.Elements.{All-head, All-tail, All-weaker}
 use Rattle.std.proofs.lemmas.List.Sums.{sum_by-cons, sum_by_push}
-use Rattle.std.proofs.lemmas.Bool.{cases_eq, le-leb, ne_eqb}
+use Rattle.std.proofs.lemmas.Bool.{cases_eq, ne_eqb}
 use Rattle.cm_bdz.specs.Functions.{Bdz, BdzPh}
 use Rattle.cm_bits.specs.Bound.{AllBelow}
-use Rattle.cm_bits.specs.Fault.{fields_fault, packed_fault}
+use Rattle.cm_bits.specs.Fault.{packed_fault}
 use Rattle.cm_bits.specs.Held.{packed_cells}
-use Rattle.cm_bits.specs.FieldsLaws.{fields_fault-image}
 use Rattle.cm_bits.specs.PackedLaws.{packed_fault-image}
-use Rattle.cm_bits.specs.declared.fault.ImageFault.{ImageFault}
 use Rattle.cm_brz_func.specs.Functions.{Brz, Bucket, IsBrz, IsBucket, bucket_cells, keys_in}
 use Rattle.cm_brz_func.specs.Pushing.{with_bucket}
 use Rattle.cm_spec.specs.declared.limits.TheConstants.{MAX_BUCKET, MAX_KEYS}
-use Rattle.cm_dump_images.specs.Images.{image_at, fields_at, packed_at}
-use Rattle.cm_dump_images.specs.ImageLaws.{image_read, packed_of_image}
+use Rattle.cm_dump_images.specs.Images.{fields_at, packed_at}
+use Rattle.cm_dump_images.specs.ImageLaws.{fields_same, fields_sound, image_there, length-fields_image, packed_of_image}
 use Rattle.cm_dump_items.specs.declared.fault.LoadFault.{LoadFault}
-use Rattle.cm_dump_items.specs.Reading.{item_at, field_at, zeros_at, end_at}
+use Rattle.cm_dump_items.specs.Reading.{field_at, zeros_at, end_at}
 use Rattle.cm_dump_items.specs.StepLaws.{ok_same}
 use Rattle.cm_dump_items.specs.ItemLaws.{item_there, ltb_no}
+use Rattle.cm_dump_items.specs.ThereLaws.{end_there, field_there, number_there, zero_there}
+use Rattle.cm_dump_items.specs.WidthLaws.{of_one, of_two}
 use Rattle.cm_rank.specs.Ranks.{sampled}
 use Rattle.cm_spec.specs.Cells.{is_busy}
 use Rattle.cm_spec.specs.Bdz.{bdz_size}
 use Rattle.cm_spec.specs.Chm.{Chm, chm_size}
 use Rattle.cm_spec.specs.Dump.{magic, fields_image}
 use Rattle.cm_dump.specs.Dumps.{HasDump, dump_by, header, kind_bytes, chm_dump, packed_image, ranks_image, bucket_image, buckets_image, bdz_dump, bdz_ph_dump, brz_dump, dump_of}
-use Rattle.cm_spec.specs.Image.{width_of, fields_len, fields_byte, packed_len, packed_byte}
+use Rattle.cm_spec.specs.Image.{width_of, fields_len, packed_len, packed_byte}
 use Rattle.cm_spec.specs.Lists.{list_of}
 use Rattle.cm_dump.specs.declared.front.Algorithm.{Algorithm}
 use Rattle.cm_dump.specs.declared.front.Algorithm.TheVariants as algorithm
@@ -43,29 +43,10 @@ use Rattle.cm_dump.specs.Headings.{IsParameter, magic_at, algorithm_of, algorith
 use Rattle.cm_dump.specs.Spelling.{chm_at, counted, ranks_at, ranked_at, bdz_at, bdz_ph_at, is_off, most_seed, size_at, crumbs_at, bucket_at, bucket_len, rest_at, brz_at, no_buckets, spelling_of, spelling_by}
 use Rattle.cm_dump.proofs.BodyLemmas.{chm_known, bdz_known, bdz_ph_known}
 use Rattle.cm_dump.proofs.BucketLemmas.{length-bucket_image}
-use Rattle.cm_dump.proofs.DumpLemmas.{header_parts, length-header, length-fields_image, length-packed_image, chm_dump_len, bdz_dump_len, bdz_ph_dump_len}
-use Rattle.cm_dump.proofs.FormLemmas.{IsForm, IsWidth, form_facts, of_four, of_one, of_two, parameter_fits}
+use Rattle.cm_dump.proofs.DumpLemmas.{header_parts, length-header, length-packed_image, chm_dump_len, bdz_dump_len, bdz_ph_dump_len}
+use Rattle.cm_dump.proofs.FormLemmas.{IsForm, form_facts, parameter_fits}
 use Rattle.cm_dump.specs.Forms.{Form, form_of, version_1, version_2, version_of}
 use Rattle.cm_dump.proofs.RankLemmas.{ranks_there}
-
--- ---- items that are there
-
-pub field_there : (w : Width) → IsWidth w → (bytes : List ℕ) (at low high x : ℕ) → item_at bytes at (byte_len w) ≡ Ok (to_le_bytes w x) → x < 256 ^ byte_len w → low ≤ x → x ≤ high → field_at w bytes at low high ≡ Ok x
-unfolding field_at
-field_there w known bytes at low high x is fits above below = rw (is, known.back x fits, le-leb low x above, le-leb x high below) refl
-
-pub number_there : (bytes : List ℕ) (at low high x : ℕ) → item_at bytes at 4 ≡ Ok (to_le_bytes w32 x) → x < 2 ^ 32 → low ≤ x → x ≤ high → field_at w32 bytes at low high ≡ Ok x
-number_there bytes at low high x is fits above below = field_there w32 of_four bytes at low high x is fits above below
-
-zero_there : (bytes : List ℕ) (at : ℕ) → item_at bytes at 1 ≡ Ok (0 ∷ []) → field_at w8 bytes at 0 0 ≡ Ok 0
-zero_there bytes at is = field_there w8 of_one bytes at 0 0 0 is (lit< tt) (omega arith) (omega arith)
-
-pub end_there : (bytes : List ℕ) (at : ℕ) → length bytes ≡ at → end_at bytes at ≡ Ok tt
-unfolding end_at
-end_there bytes at is = rw (ltb_no at (length bytes) (omega (arith, is))) refl
-
-pub image_there : (bytes xs ys zs : List ℕ) (at size : ℕ) (place : ℕ → ℕ) (fault : List ℕ → Option ImageFault) → bytes ≡ xs ++ (ys ++ zs) → length xs ≡ at → length ys ≡ size → fault ys ≡ None → image_at bytes at size place fault ≡ Ok ys
-image_there bytes xs ys zs at size place fault is first long none = image_read bytes at size place fault ys (item_there bytes xs ys zs at size is first long) none
 
 -- ---- a header, and any bytes after it
 
@@ -140,14 +121,6 @@ chm_heading : (w : Version) (f : Chm) → IsChm f → f.keys ≤ (form_of w).mos
 unfolding chm_dump
 chm_heading w f is within = heading_there w algorithm.Chm 1 0 f.keys f.ratio f.seed (fields_image f.keys f.cells) refl (omega arith, omega arith) is.keys.0 within is.ratio.0 is.ratio.1 is.seed
 
-fields_same : (f : Chm) → IsChm f → fields_image f.keys f.cells ≡ list_of (fields_byte (width_of f.keys) f.cells) (fields_len (width_of f.keys) (chm_size f.keys f.ratio))
-unfolding fields_image
-fields_same f is = ap (λ (k : ℕ). list_of (fields_byte (width_of f.keys) f.cells) (fields_len (width_of f.keys) k)) is.size
-
-fields_sound : (f : Chm) → IsChm f → fields_fault (width_of f.keys) (chm_size f.keys f.ratio) f.keys (fields_image f.keys f.cells) ≡ None
-fields_sound f is =
-    subst (λ (l : List ℕ). fields_fault (width_of f.keys) (chm_size f.keys f.ratio) f.keys l ≡ None) (sym (fields_same f is)) (rw is.size at (fields_fault-image f.keys f.cells (omega (arith, is.keys.1)) is.below))
-
 chm_image : (v : Form) → IsForm v → (f : Chm) → IsChm f → fields_at (chm_dump v f) 24 (chm_size f.keys f.ratio) f.keys ≡ Ok (fields_image f.keys f.cells)
 unfolding chm_dump
 chm_image v known f is =
@@ -155,13 +128,13 @@ chm_image v known f is =
     (ap (λ (l : List ℕ). header v 1 0 f.keys f.ratio f.seed ++ l) (sym (append-nil (fields_image f.keys f.cells))))
     (length-header v known 1 0 f.keys f.ratio f.seed)
     (length-fields_image f.keys f.cells ∙ ap (fields_len (width_of f.keys)) is.size)
-    (fields_sound f is)
+    (fields_sound f.keys (chm_size f.keys f.ratio) f.cells is.keys.1 is.size is.below)
 
 chm_end : (v : Form) → IsForm v → (f : Chm) → IsChm f → end_at (chm_dump v f) (24 + fields_len (width_of f.keys) (chm_size f.keys f.ratio)) ≡ Ok tt
 chm_end v known f is = end_there (chm_dump v f) _ (chm_dump_len v known f ∙ ap (λ (k : ℕ). 24 + fields_len (width_of f.keys) k) is.size)
 
 chm_spelling : (v : Form) → IsForm v → (f : Chm) → IsChm f → chm_at (chm_dump v f) (chm_header f) ≡ Ok f
-chm_spelling v known f is = chm_known (chm_dump v f) (chm_header f) f.cells f is.keys.1 is.size is.below (chm_image v known f is ∙ ap Ok (fields_same f is)) (chm_end v known f is) (record { keys = refl; ratio = refl; seed = refl; cells = refl })
+chm_spelling v known f is = chm_known (chm_dump v f) (chm_header f) f.cells f is.keys.1 is.size is.below (chm_image v known f is ∙ ap Ok (fields_same f.keys (chm_size f.keys f.ratio) f.cells is.size)) (chm_end v known f is) (record { keys = refl; ratio = refl; seed = refl; cells = refl })
 
 -- ---- digits
 

@@ -1,18 +1,19 @@
 -- Lemmas about the cells of an image, and about its faults, which the proofs of readers cite. No contract needs them.
-use Rattle.std.proofs.Common.{◌≡◌, ◌∙◌, ℕ, ◌-◌, ◌*◌, ◌/◌, ◌<◌, ◌≤◌, ◌^◌, List, length, get_or, sym, ap, arith, refl, Option, Some, None, Ok, Bool, true, false, subst, if◌then◌else◌}
+use Rattle.std.proofs.Common.{◌≡◌, ◌∙◌, ℕ, ◌-◌, ◌*◌, ◌/◌, ◌<◌, ◌≤◌, ◌^◌, List, ◌++◌, length, get_or, sym, ap, arith, refl, Option, Some, None, Ok, Bool, true, false, subst, if◌then◌else◌}
 use Rattle.std.proofs.Math.Nat.{mul-le-mul_left, div-le_self}
 use Rattle.std.proofs.lemmas.List.FromFn.{length-map-range_with_len, get_or-map-range_with_len}
 use Rattle.cm_bits.specs.PackedLaws.{held}
 use Rattle.cm_bits.specs.Bound.{AllBelow}
 use Rattle.cm_bits.specs.Fault.{bytes_number, field_cells, fields_fault, packed_fault}
-use Rattle.cm_bits.specs.FieldsLaws.{width-fits, bytes_number-image, field_cells-fields_number}
+use Rattle.cm_bits.specs.FieldsLaws.{width-fits, bytes_number-image, field_cells-fields_number, fields_fault-image}
 use Rattle.cm_bits.specs.Held.{packed_cells}
 use Rattle.cm_bits.specs.declared.TheConstants.{MAX_CELLS}
 use Rattle.cm_bits.specs.declared.fault.ImageFault.{ImageFault}
 use Rattle.cm_bits.specs.declared.fault.ImageFault.TheVariants as image
 use Rattle.cm_dump_items.specs.Reading.{item_at}
-use Rattle.cm_dump_items.specs.ItemLaws.{lt_of}
+use Rattle.cm_dump_items.specs.ItemLaws.{item_there, lt_of}
 use Rattle.cm_spec.specs.declared.limits.TheConstants.{MAX_EDGES, MAX_KEYS, MAX_VERTICES}
+use Rattle.cm_spec.specs.Dump.{fields_image}
 use Rattle.cm_spec.specs.Image.{width_of, fields_len, fields_byte, packed_len, packed_byte}
 use Rattle.cm_spec.specs.Lists.{list_of}
 use Rattle.cm_dump_images.specs.Places.{AreNear, IsPlace}
@@ -49,10 +50,27 @@ pub image_read : (x : List ℕ) (at size : ℕ) (place : ℕ → ℕ) (fault : L
 unfolding image_at
 image_read x at size place fault bytes whole none = rw (whole, none) refl
 
-none_some : {A : Type 0} (x : A) → (let o : Option A = None in o) ≡ Some x → ⊥
+-- an image that stands at an offset, and has no fault
+pub image_there : (bytes xs ys zs : List ℕ) (at size : ℕ) (place : ℕ → ℕ) (fault : List ℕ → Option ImageFault) → bytes ≡ xs ++ (ys ++ zs) → length xs ≡ at → length ys ≡ size → fault ys ≡ None → image_at bytes at size place fault ≡ Ok ys
+image_there bytes xs ys zs at size place fault is first long none = image_read bytes at size place fault ys (item_there bytes xs ys zs at size is first long) none
+
+-- the image of n cells
+pub length-fields_image : (m : ℕ) (cells : List ℕ) → length (fields_image m cells) ≡ fields_len (width_of m) (length cells)
+unfolding fields_image
+length-fields_image m cells = length-map-range_with_len _ 0 _
+
+pub fields_same : (m n : ℕ) (cells : List ℕ) → length cells ≡ n → fields_image m cells ≡ list_of (fields_byte (width_of m) cells) (fields_len (width_of m) n)
+unfolding fields_image
+fields_same m n cells size = ap (λ (k : ℕ). list_of (fields_byte (width_of m) cells) (fields_len (width_of m) k)) size
+
+pub fields_sound : (m n : ℕ) (cells : List ℕ) → m ≤ MAX_KEYS → length cells ≡ n → AllBelow m cells → fields_fault (width_of m) n m (fields_image m cells) ≡ None
+fields_sound m n cells small size below =
+    subst (λ (l : List ℕ). fields_fault (width_of m) n m l ≡ None) (sym (fields_same m n cells size)) (rw size at (fields_fault-image m cells (omega (arith, small)) below))
+
+pub none_some : {A : Type 0} (x : A) → (let o : Option A = None in o) ≡ Some x → ⊥
 none_some x e = grind (arith, e)
 
-some_same : {A : Type 0} {x y : A} → (let o : Option A = Some x in o) ≡ Some y → x ≡ y
+pub some_same : {A : Type 0} {x y : A} → (let o : Option A = Some x in o) ≡ Some y → x ≡ y
 some_same e = grind (arith, e)
 
 place_or : (place : ℕ → ℕ) (t u : Bool) (lowest last : ℕ) (f : ImageFault) → (t ≡ true → (lowest < MAX_CELLS) × (place lowest < 2 ^ 62)) → last < 2 ^ 62 → (if t then Some (image.BadCell lowest) else if u then Some (image.BadPadding last) else None) ≡ Some f → IsPlace place f

@@ -2,3 +2,4 @@ pub mod Images
 pub mod Places
 pub mod ImageLaws
 pub mod WritingLaws
+pub mod BackLaws

@@ -4,3 +4,6 @@ pub mod StepLaws
 pub mod ItemLaws
 pub mod PartLaws
 pub mod PieceLaws
+pub mod WidthLaws
+pub mod ThereLaws
+pub mod BackLaws

@@ -2,14 +2,20 @@ use Rattle.std.proofs.Common.{◌∙◌, ℕ, List, arith}
 use Rattle.cm_bits.specs.Bound.{AllBelow}
 use Rattle.cm_bits.specs.Fault.{bytes_number, field_cells}
 use Rattle.cm_dump_images.specs.ImageLaws.{cells_near}
+use Rattle.cm_dump_items.specs.StepLaws.{fails_then}
 use Rattle.cm_dump.proofs.BodyLemmas.{chm_known}
 use Rattle.cm_dump.proofs.CellLemmas.{few_cells}
+use Rattle.cm_dump.specs.Spelling.{chm_at}
 use Rattle.cm_dump.proofs.reader.load_chm.Goals as goal
 
 pub read_cells-requires-clause-room : goal.read_cells-requires-clause-room
 read_cells-requires-clause-room g c =
     let few = few_cells c.args.header.keys c.args.header.ratio c.requires.keys.0 c.requires.keys.1 c.requires.ratio in
     cells_near c.args.header.keys c.size-n.result (omega (arith, c.requires.keys.1)) (omega (arith, c.size-n.ensures.size, few))
+
+pub returns-in-Err-clause-exact : goal.returns-in-Err-clause-exact
+unfolding chm_at
+returns-in-Err-clause-exact g c = λ x is. fails_then c.in-Err.fault _ _ (rw c.size-n.ensures.size at (c.in-Err.ensures.exact x is))
 
 pub end-requires : goal.end-requires
 end-requires g c = record { at = λ x is. let at = c.in-Ok.ensures.at x is in (rw c.image_len.ensures at.0, rw c.image_len.ensures at.1) }
