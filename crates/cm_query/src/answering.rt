@@ -1,5 +1,5 @@
 //! The answers of a function to the keys of a pass.
-ghost use Rattle.std.specs.Prelude.{◌≡◌, ◌⊎◌, ◌<◌, ◌≤◌, ◌+◌, ℕ, List, length, Err, IsTrue, IfOk, IfErr, OnOk, None, true, false};
+ghost use Rattle.std.specs.Prelude.{◌≡◌, ◌⊎◌, ◌≤◌, ◌+◌, ℕ, List, Err, IsTrue, IfOk, IfErr, OnOk, None, false};
 ghost use Rattle.std.specs.Option.{ForSome};
 ghost use Rattle.cm_io.specs.States.{IsSent};
 ghost use Rattle.cm_io.specs.Noting.{Noted};
@@ -84,7 +84,7 @@ pub fn query<A: Answers, P: KeyPass, O: Sink, E: Sink>(
             Err(fault) => return Err(QueryFault::Key(fault)),
         }
         let answer = batch.answer();
-        let sends = reads_next(&batch, keys);
+        let sends = batch.reads_next(keys);
         match write_line(out, batch.key(), answer, end, sends, &mut buffer) {
             Ok(()) => {}
             Err(Failed) => return Err(QueryFault::Write),
@@ -94,14 +94,4 @@ pub fn query<A: Answers, P: KeyPass, O: Sink, E: Sink>(
         tally.count(answer, repeated);
         batch.pass();
     }
-}
-
-/// Whether the next key is not buffered. Its read may fail, so out is flushed first.
-fn reads_next<P: KeyPass>(batch: &Batch, keys: &P) -> bool
-    requires usable { IsTrue (P.usable keys.now) }
-    requires waits { 0 < length batch.now.keys }
-    ensures reads { result ≡ true → (length batch.now.keys ≡ 1) × ((key : List ℕ) → P.stands keys.now key → ⊥) }
-    ensures waits { result ≡ false → (1 < length batch.now.keys) ⊎ ((key : List ℕ) × P.stands keys.now key) }
-{
-    batch.is_last() && keys.peek().is_none()
 }

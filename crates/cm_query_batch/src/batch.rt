@@ -1,5 +1,5 @@
 //! Keys that wait for their lines.
-ghost use Rattle.std.specs.Prelude.{◌≡◌, ◌<◌, ◌≤◌, ℕ, List, [], length, drop, slice_index_or, Option, Ok, true, false, IsTrue, ◌↔◌, OnOk, OnErr, Some, IfErr};
+ghost use Rattle.std.specs.Prelude.{◌≡◌, ◌⊎◌, ◌<◌, ◌≤◌, ℕ, List, [], length, drop, slice_index_or, Option, Ok, true, false, IsTrue, ◌↔◌, OnOk, OnErr, Some, IfErr};
 ghost use Rattle.std.specs.Option.{ForSome};
 ghost use Rattle.cm_io.specs.Passes.{HasKeyCause};
 ghost use Rattle.cm_query_batch.specs.Waiting.{AreAnswers, FillsBatch, Refills, RefillsBy, WaitingKeys};
@@ -106,11 +106,22 @@ impl Batch {
     }
 
     /// Whether one key waits and no other. One must wait.
-    pub fn is_last(&self) -> bool
+    fn is_last(&self) -> bool
         requires waits { 0 < length self.now.keys }
         ensures { IsTrue result ↔ (length self.now.keys ≡ 1) }
     {
         self.next + 1 == self.taken.len()
+    }
+
+    /// Whether no key waits after the first, and the next of the pass is not buffered. Its read may fail, so what is written of the first
+    /// has to be flushed before. One must wait.
+    pub fn reads_next<P: KeyPass>(&self, keys: &P) -> bool
+        requires usable { IsTrue (P.usable keys.now) }
+        requires waits { 0 < length self.now.keys }
+        ensures reads { result ≡ true → (length self.now.keys ≡ 1) × ((key : List ℕ) → P.stands keys.now key → ⊥) }
+        ensures waits { result ≡ false → (1 < length self.now.keys) ⊎ ((key : List ℕ) × P.stands keys.now key) }
+    {
+        self.is_last() && keys.peek().is_none()
     }
 
     /// The bytes of the first key that waits. One must wait.
