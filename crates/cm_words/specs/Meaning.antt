@@ -1,9 +1,9 @@
 -- What arguments mean: a job, or a fault.
-use Rattle.std.specs.Prelude.{ℕ, ◌++◌, List, codes, Option, Some, None, Ok, Err, if◌then◌else◌, unwrap_or}
+use Rattle.std.specs.Prelude.{ℕ, List, codes, Option, Some, None, Ok, Err, if◌then◌else◌, unwrap_or}
 use Rattle.clap.specs.Words.{Row, Text, first_of}
 use Rattle.cm_words.specs.Command.{cmph_app}
 use Rattle.cm_words_values.specs.Options.{and_then}
-use Rattle.cm_words_arguments.specs.Options.{Read, as_usage, end_of, is_counted, is_set}
+use Rattle.cm_words_arguments.specs.Options.{Read, as_usage, end_of, is_counted, is_set, path_or}
 use Rattle.cm_words_arguments.specs.Refusals.{read_by}
 use Rattle.cm_words_arguments.specs.declared.fault.UsageFault.TheVariants.{NoFile}
 use Rattle.cm_words.specs.Options.{values_of}
@@ -16,7 +16,7 @@ use Rattle.cm_words.specs.declared.values.Values.{Values}
 
 -- the function file: the one that is named, or that of the keys file
 abbrev pub function_of : Option Text → Text → Text
-function_of given keys = unwrap_or given (keys ++ codes ".mph")
+function_of given keys = path_or given keys (codes ".mph")
 
 abbrev pub directory_of : Option Text → Text
 directory_of given = unwrap_or given (codes ".")

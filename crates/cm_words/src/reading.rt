@@ -11,21 +11,14 @@ use crate::arguments::command;
 use crate::values::{Values, all_values};
 use crate::{BuildJob, Job, QueryJob, TestJob, Text, UpgradeJob, UsageFault};
 use clap::ArgMatches;
-use cm_words_arguments::{copy, counted, end, flag, text};
+use cm_words_arguments::{copy, counted, end, flag, path_or, text};
 use std::alloc::{AllocError, Global};
 
 /// The path of the function file: the one that is given, or that of the keys file.
 fn function(alloc: Global, given: Option<&str>, keys: &str) -> Result<Text, AllocError>
     ensures { IfOk result (λ t. t ≡ function_of (option_map (λ s. s.now) given.entry) keys.now) }
 {
-    match given {
-        Some(path) => copy(alloc, path),
-        None => {
-            let mut path = String::from_str(alloc, keys)?;
-            path.push_str(".mph")?;
-            Ok(Text::new(path))
-        }
-    }
+    path_or(alloc, given, keys, ".mph")
 }
 
 fn directory(alloc: Global, given: Option<&str>) -> Result<Text, AllocError>

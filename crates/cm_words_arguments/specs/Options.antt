@@ -1,5 +1,5 @@
 -- What clap found of an option, and how a bad value is reported.
-use Rattle.std.specs.Prelude.{ℕ, Bool, false, nat_lt, List, codes, Result, Ok, Err, if◌then◌else◌}
+use Rattle.std.specs.Prelude.{ℕ, ◌++◌, Bool, false, nat_lt, List, codes, Option, Result, Ok, Err, if◌then◌else◌, unwrap_or}
 use Rattle.std.specs.Option.{option_map_or}
 use Rattle.std.specs.Str.{bytes_eq}
 use Rattle.clap.specs.Words.{Row, Text, count_of, first_of}
@@ -27,3 +27,7 @@ is_counted id rows = nat_lt 0 (count_of id rows)
 -- the byte that ends lines, by a flag for byte 0
 abbrev pub end_of : List Row → ℕ
 end_of rows = if is_set (codes "zero") rows then ZERO_BYTE else LINE_FEED
+
+-- the path that is given, or else that of the keys file with an ending
+abbrev pub path_or : Option Text → Text → Text → Text
+path_or given keys ending = unwrap_or given (keys ++ ending)

@@ -9,5 +9,5 @@ mod values;
 
 pub use arguments::command;
 pub use fault::UsageFault;
-pub use texts::{Text, copy};
+pub use texts::{Text, copy, path_or};
 pub use values::{counted, end, flag, text};
