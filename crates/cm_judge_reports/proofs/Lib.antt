@@ -1,8 +1,3 @@
-pub mod Merging
-pub mod Counting
-pub mod Passing
-pub mod Own
-pub mod Graphs
 pub mod FaultLemmas
 pub mod VerdictLemmas
 pub mod Lowest

@@ -8,7 +8,7 @@ use Rattle.cm_brz_func.specs.Functions.{bucket_of}
 use Rattle.cm_brz_func.specs.Splitting.{keys_of_bucket, size_of_bucket}
 use Rattle.cm_brz_split.specs.SizesLaws.{length_filter-cons}
 use Rattle.cm_judge_reports.proofs.Lowest.{first_passes}
-use Rattle.cm_judge_reports.proofs.Merging.{least_is}
+use Rattle.cm_judge_core.specs.LeastLaws.{least_is}
 use Rattle.cm_judge_reports.specs.Buckets.{AddsNext}
 use Rattle.cm_judge_verdict.specs.BucketLaws.{in_bucket}
 use Rattle.cm_judge_verdict.specs.Judged.{Judged}

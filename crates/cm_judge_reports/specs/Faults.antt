@@ -1,7 +1,9 @@
--- Why a report is not judged.
-use Rattle.std.specs.Prelude.{◌≡◌, ◌≢◌, ◌⊎◌, ℕ, ◌≤◌, [], Option, None, Some, Result, Ok, Err, IfSome}
+-- What passes over the keys of a report come to, and why it is not judged.
+use Rattle.std.specs.Prelude.{◌≡◌, ◌≢◌, ◌⊎◌, ℕ, ◌≤◌, [], Option, None, Some, Result, Ok, Err, IfErr, IfSome}
+use Rattle.std.specs.Option.{ForSome}
 use Rattle.cm_brz_split.specs.Given.{CountedBucket, GaveCount}
-use Rattle.cm_io.specs.PassFaults.{HasPassed, IsOtherCount}
+use Rattle.cm_brz_split.specs.Passes.{FailsAgain}
+use Rattle.cm_io.specs.PassFaults.{HasPassCause, HasPassFailure, HasPassed, IsOtherCount}
 use Rattle.cm_io.specs.Passes.{HasKeyCause, IsToldFault, Told}
 use Rattle.cm_io.specs.declared.key_pass.KeyFault.{KeyFault}
 use Rattle.cm_io.specs.declared.key_pass.KeyPass.{Ghosts}
@@ -12,6 +14,14 @@ use Rattle.cm_judge_reports.specs.declared.fault.JudgeFault.TheVariants.{Changed
 use Rattle.cm_judge_verdict.specs.declared.verdict.Settings.{Settings}
 use Rattle.cm_spec.specs.Rule.{IsRatio}
 use Rattle.cm_spec.specs.declared.limits.TheConstants.{MAX_WIDTH, MIN_WIDTH}
+
+-- what a call does to a pass over keys that were counted: it leaves what is known of them, and fails as the pass does, or, unless they are
+-- known, if there are others now
+pub record PassesAgain {P T : Type 0} (K : Ghosts P) (old new : P) (result : Result T PassFault) : Type 0 where
+  pub told : K.told new ≡ K.told old
+  pub cause : HasPassCause (K.faults old) (K.faults new) result
+  pub failed : IfErr result (HasPassFailure (K.failure new))
+  pub fault : IfErr result (λ fault. ForSome (K.told old) (λ told. FailsAgain told fault))
 
 -- the fault of a judge who fails in one of the passes
 abbrev pub judge_fault_of : PassFault → JudgeFault

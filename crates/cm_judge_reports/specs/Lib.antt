@@ -1,3 +1,2 @@
 pub mod Buckets
 pub mod Faults
-pub mod Walks

@@ -4,12 +4,13 @@ ghost use Rattle.std.specs.Option.{ForSome};
 ghost use Rattle.cm_brz_func.specs.Functions.{bucket_count};
 ghost use Rattle.cm_brz_func.specs.Splitting.{keys_of_bucket, size_of_bucket};
 ghost use Rattle.cm_brz_split.specs.BucketPass.{last_line};
-ghost use Rattle.cm_brz_split.specs.Passes.{AreCounted, FailsAgain};
-ghost use Rattle.cm_io.specs.PassFaults.{HasOtherCount, HasPassCause, HasPassFailure, IfChanged};
+ghost use Rattle.cm_brz_split.specs.Passes.{AreCounted};
+ghost use Rattle.cm_io.specs.PassFaults.{HasOtherCount, IfChanged};
 ghost use Rattle.cm_io.specs.Passes.{Ends};
 ghost use Rattle.cm_io.specs.declared.key_pass.TheConstants.{MAX_KEY_LEN};
+ghost use Rattle.cm_judge_core.specs.Walks.{graph_judged};
 ghost use Rattle.cm_judge_reports.specs.Buckets.{AddsHere, AddsNext};
-ghost use Rattle.cm_judge_reports.specs.Walks.{graph_judged};
+ghost use Rattle.cm_judge_reports.specs.Faults.{PassesAgain};
 ghost use Rattle.cm_judge_verdict.specs.Rising.{RisesBy};
 ghost use Rattle.cm_judge_verdict.specs.Verdicts.{core_reasons, first_reason, graph_reasons, lines_unknown, lowest};
 ghost use Rattle.cm_judge_verdict.specs.declared.verdict.Reason.TheVariants.{NoKey};
@@ -17,13 +18,13 @@ ghost use Rattle.cm_spec.specs.Bdz.{bdz_rule};
 ghost use Rattle.cm_spec.specs.Rule.{IsRatio};
 ghost use Rattle.cm_spec.specs.declared.limits.TheConstants.{MAX_BUCKET, MAX_KEYS, MAX_WIDTH, MIN_WIDTH};
 
-use crate::two_core::core_verdict;
 use cm_algo_scheme::Divisor;
 use cm_bdz::BdzScheme;
 use cm_brz_func::MAX_BUCKET;
 use cm_brz_split::{BucketKeys, Split, bucket_total};
 use cm_graph::{Steps, Xored};
 use cm_io::{KeyBuf, KeyPass, PassFault, expect_end};
+use cm_judge_core::core_verdict;
 use cm_judge_verdict::{Reason, Verdict};
 use cm_witness_gather::{Certificate, CoreEdge, InBucket};
 use std::alloc::{AllocError, Global};
@@ -66,9 +67,7 @@ fn take_next<P: KeyPass>(
     requires usable { IsTrue (P.usable keys.old) }
     requires few { length taken.old.keys ≤ MAX_BUCKET }
     requires rises { last_line taken.old.keys ≤ P.last keys.old }
-    ensures told { P.told keys.new ≡ P.told keys.old }
-    ensures cause { HasPassCause (P.faults keys.old) (P.faults keys.new) result }
-    ensures failed { IfErr result (HasPassFailure (P.failure keys.new)) }
+    ensures passes { PassesAgain P.KeyPass keys.old keys.new result }
     ensures usable { OnOk result (P.usable keys.new ≡ true) }
     ensures few { length taken.new.keys ≤ MAX_BUCKET }
     ensures rises { OnOk result (last_line taken.new.keys ≤ P.last keys.new) }
@@ -77,7 +76,6 @@ fn take_next<P: KeyPass>(
     ensures ends { IfOk result (λ o. IfNone o (ForSome (P.told keys.old) (λ told. Ends told (P.place keys.old) None))) }
     ensures ended { IfOk result (λ o. IfNone o (P.place keys.new ≡ P.place keys.old)) }
     ensures unchanged { IfErr result (λ fault. IfChanged fault (λ _ _. ⊥)) }
-    ensures fault { IfErr result (λ fault. ForSome (P.told keys.old) (λ told. FailsAgain told fault)) }
 {
     let (fits, len) = match keys.peek() {
         Some((line, next)) => (add_here(line, next, split, bucket, taken)?, next.len()),
@@ -106,15 +104,12 @@ pub(crate) fn take_bucket<P: KeyPass>(
     requires few { m ≤ MAX_KEYS }
     requires none { (taken.old.keys ≡ []) × (taken.old.given ≡ 0) }
     requires counted { ForSome (P.told keys.old) (AreCounted m) }
-    ensures told { P.told keys.new ≡ P.told keys.old }
-    ensures cause { HasPassCause (P.faults keys.old) (P.faults keys.new) result }
-    ensures failed { IfErr result (HasPassFailure (P.failure keys.new)) }
+    ensures passes { PassesAgain P.KeyPass keys.old keys.new result }
     ensures taken { IfOk result (λ fits. fits ≡ true → ForSome (P.told keys.old) (λ told. taken.new.keys ≡ keys_of_bucket told.keys split.now.buckets split.now.seed bucket)) }
     ensures full { IfOk result (λ fits. fits ≡ false → ForSome (P.told keys.old) (λ told. MAX_BUCKET < size_of_bucket told.keys split.now.buckets split.now.seed bucket)) }
     ensures passed { IfOk result (λ fits. fits ≡ true → P.at_end keys.new × (P.place keys.new ≡ m)) }
     ensures few { length taken.new.keys ≤ MAX_BUCKET }
     ensures changed { IfErr result (HasOtherCount m (P.place keys.new)) }
-    ensures fault { IfErr result (λ fault. ForSome (P.told keys.old) (λ told. FailsAgain told fault)) }
 {
     keys.rewind()?;
     for count in 0..m {
@@ -207,13 +202,10 @@ pub(crate) fn bucket_verdict<P: KeyPass, L: Ledger>(
     requires some { 0 < length shown.now.edges.items }
     requires edges { RisesBy (λ e. e.line) 0 shown.now.edges.items }
     requires equal { RisesBy (λ p. p.again) 0 shown.now.equal.items }
-    ensures told { P.told keys.new ≡ P.told keys.old }
-    ensures cause { HasPassCause (P.faults keys.old) (P.faults keys.new) result }
-    ensures failed { IfErr result (HasPassFailure (P.failure keys.new)) }
+    ensures passes { PassesAgain P.KeyPass keys.old keys.new result }
     ensures verdict { IfOk result (λ verdict. ForSome (P.told keys.old) (λ told. verdict ≡ first_reason (core_reasons (Some place) (bucket_count sizes.keys sizes.width)
         (graph_judged bdz_rule (keys_of_bucket told.keys (bucket_count sizes.keys sizes.width) place.split place.bucket) sizes.ratio shown.now.seed) shown.now.edges.items shown.now.equal.items))) }
     ensures changed { IfErr result (HasOtherCount sizes.keys (P.place keys.new)) }
-    ensures fault { IfErr result (λ fault. ForSome (P.told keys.old) (λ told. FailsAgain told fault)) }
 {
     let buckets = Divisor::new(bucket_total(sizes.keys, sizes.width));
     if place.bucket >= buckets.value() {

@@ -1,10 +1,10 @@
 //! Whether a report is true.
 ghost use Rattle.std.specs.Prelude.{◌≡◌, ◌⊎◌, ◌<◌, ◌≤◌, None, length, unwrap_or, IfErr, IfOk};
 ghost use Rattle.std.specs.Option.{ForSome};
-ghost use Rattle.cm_brz_split.specs.Passes.{AreCounted, FailsAgain};
-ghost use Rattle.cm_io.specs.PassFaults.{HasPassCause, HasPassFailure, IfChanged, IsOtherCount};
-ghost use Rattle.cm_judge_reports.specs.Faults.{AreSettings, DiffersInBucket, FailsJudge, HasJudgeCause, HasJudgeCounts, HasJudgeFailure};
-ghost use Rattle.cm_judge_reports.specs.Walks.{graph_judged};
+ghost use Rattle.cm_brz_split.specs.Passes.{AreCounted};
+ghost use Rattle.cm_io.specs.PassFaults.{IfChanged, IsOtherCount};
+ghost use Rattle.cm_judge_core.specs.Walks.{graph_judged};
+ghost use Rattle.cm_judge_reports.specs.Faults.{AreSettings, DiffersInBucket, FailsJudge, HasJudgeCause, HasJudgeCounts, HasJudgeFailure, PassesAgain};
 ghost use Rattle.cm_judge_verdict.specs.Rising.{RisesBy};
 ghost use Rattle.cm_judge_verdict.specs.Truth.{HaveRisingLines};
 ghost use Rattle.cm_judge_verdict.specs.Verdicts.{first_reason, graph_reasons, verdict_of};
@@ -17,7 +17,6 @@ ghost use Rattle.cm_words_values.specs.Options.{usual_ratio};
 use crate::bucket::{BuildSizes, bucket_verdict};
 use crate::fault::JudgeFault;
 use crate::overfull::{Claim, overfull_verdict};
-use crate::two_core::core_verdict;
 use cm_algo_names::Algorithm;
 use cm_algo_scheme::Scheme;
 use cm_algo_seeds::count_all;
@@ -25,6 +24,7 @@ use cm_bdz::{BdzPhScheme, BdzScheme};
 use cm_chm::ChmScheme;
 use cm_graph::{Steps, Xored};
 use cm_io::{KeyBuf, KeyPass, PassFault};
+use cm_judge_core::core_verdict;
 use cm_judge_verdict::{Settings, Verdict};
 use cm_witness_gather::Certificate;
 use cm_witness_report::Report;
@@ -68,12 +68,9 @@ fn graph_verdict<S: Scheme<K>, P: KeyPass, const K: usize, L: Ledger>(
     requires counted { ForSome (P.told keys.old) (AreCounted sizes.keys) }
     requires edges { RisesBy (λ e. e.line) 0 shown.now.edges.items }
     requires equal { RisesBy (λ p. p.again) 0 shown.now.equal.items }
-    ensures told { P.told keys.new ≡ P.told keys.old }
-    ensures cause { HasPassCause (P.faults keys.old) (P.faults keys.new) result }
-    ensures failed { IfErr result (HasPassFailure (P.failure keys.new)) }
+    ensures passes { PassesAgain P.KeyPass keys.old keys.new result }
     ensures verdict { IfOk result (λ verdict. ForSome (P.told keys.old) (λ told. verdict ≡ first_reason (graph_reasons (graph_judged (S.rule scheme.now) told.keys sizes.ratio shown.now.seed) shown.now.edges.items shown.now.equal.items))) }
     ensures changed { IfErr result (λ fault. IfChanged fault (λ first now. (first ≡ sizes.keys) × IsOtherCount first now (P.place keys.new))) }
-    ensures fault { IfErr result (λ fault. ForSome (P.told keys.old) (λ told. FailsAgain told fault)) }
 {
     let mut steps = Steps::<L>::new(blank);
     core_verdict::<S, Xored<K>, P, K, L>(
@@ -105,13 +102,10 @@ fn verdict_by<P: KeyPass, L: Ledger>(
     requires settings { AreSettings settings.now }
     requires counted { ForSome (P.told keys.old) (AreCounted m) }
     requires report { IsReport (core_said shown.now.algorithm shown.now.place shown.now.seed shown.now.edges.items shown.now.equal.items) }
-    ensures told { P.told keys.new ≡ P.told keys.old }
-    ensures cause { HasPassCause (P.faults keys.old) (P.faults keys.new) result }
-    ensures failed { IfErr result (HasPassFailure (P.failure keys.new)) }
+    ensures passes { PassesAgain P.KeyPass keys.old keys.new result }
     ensures verdict { IfOk result (λ verdict. ForSome (P.told keys.old) (λ told.
         verdict ≡ verdict_of (core_said shown.now.algorithm shown.now.place shown.now.seed shown.now.edges.items shown.now.equal.items) told.keys settings.now)) }
     ensures changed { IfErr result (λ fault. IfChanged fault (λ first now. (first ≡ m) × IsOtherCount first now (P.place keys.new))) }
-    ensures fault { IfErr result (λ fault. ForSome (P.told keys.old) (λ told. FailsAgain told fault)) }
 {
     let sizes = BuildSizes {
         keys: m,
@@ -152,12 +146,9 @@ fn verdict_on<P: KeyPass>(
     requires settings { AreSettings settings.now }
     requires counted { ForSome (P.told keys.old) (AreCounted m) }
     requires report { IsReport (said_of report.now) }
-    ensures told { P.told keys.new ≡ P.told keys.old }
-    ensures cause { HasPassCause (P.faults keys.old) (P.faults keys.new) result }
-    ensures failed { IfErr result (HasPassFailure (P.failure keys.new)) }
+    ensures passes { PassesAgain P.KeyPass keys.old keys.new result }
     ensures verdict { IfOk result (λ verdict. ForSome (P.told keys.old) (λ told. HaveRisingLines told.keys → verdict ≡ verdict_of (said_of report.now) told.keys settings.now)) }
     ensures changed { IfErr result (λ fault. IfChanged fault (λ first now. ((first ≡ m) × IsOtherCount first now (P.place keys.new)) ⊎ DiffersInBucket P.KeyPass keys.new first now)) }
-    ensures fault { IfErr result (λ fault. ForSome (P.told keys.old) (λ told. FailsAgain told fault)) }
 {
     match report {
         Report::Core(shown) => {

@@ -2,14 +2,9 @@
 #![tactic(auto)]
 
 mod bucket;
-mod comparing;
-mod edges;
 mod fault;
 mod judging;
 mod overfull;
-mod touching;
-mod two_core;
-mod walking;
 
 pub use crate::fault::JudgeFault;
 pub use crate::judging::judge;

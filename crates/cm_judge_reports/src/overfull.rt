@@ -2,20 +2,20 @@
 ghost use Rattle.std.specs.Prelude.{◌≡◌, ◌<◌, ◌≤◌, ◌⊎◌, IfErr, IfNone, IfOk, IfSome, None};
 ghost use Rattle.std.specs.Option.{ForSome};
 ghost use Rattle.cm_brz_func.specs.Functions.{bucket_count};
-ghost use Rattle.cm_brz_split.specs.Given.{CountedOver};
-ghost use Rattle.cm_brz_split.specs.Passes.{AreCounted, FailsAgain};
 ghost use Rattle.cm_brz_func.specs.Splitting.{IsLowestOver};
-ghost use Rattle.cm_io.specs.PassFaults.{HasOtherCount, HasPassCause, HasPassFailure, IfChanged, IsOtherCount};
-ghost use Rattle.cm_judge_reports.specs.Faults.{DiffersInBucket};
+ghost use Rattle.cm_brz_split.specs.Given.{CountedOver};
+ghost use Rattle.cm_brz_split.specs.Passes.{AreCounted};
+ghost use Rattle.cm_io.specs.PassFaults.{HasOtherCount, IfChanged, IsOtherCount};
+ghost use Rattle.cm_judge_reports.specs.Faults.{DiffersInBucket, PassesAgain};
 ghost use Rattle.cm_judge_verdict.specs.Rising.{RisesBy};
 ghost use Rattle.cm_judge_verdict.specs.Truth.{HaveRisingLines};
 ghost use Rattle.cm_judge_verdict.specs.Verdicts.{first_reason, lowest_overfull, overfull_reasons};
 ghost use Rattle.cm_spec.specs.declared.limits.TheConstants.{MAX_KEYS, MAX_WIDTH, MIN_WIDTH};
 
-use crate::comparing::first_apart;
 use cm_algo_scheme::Divisor;
 use cm_brz_split::{Overfull, Split, bucket_total, choose_split, gather_equal};
 use cm_io::{KeyBuf, KeyPass, PassFault};
+use cm_judge_core::first_apart;
 use cm_judge_verdict::{Reason, Verdict};
 use cm_witness_gather::Pair;
 use std::alloc::Global;
@@ -41,14 +41,11 @@ fn find_over<P: KeyPass>(
     requires few { m ≤ MAX_KEYS }
     requires few_buckets { buckets ≤ MAX_KEYS }
     requires counted { ForSome (P.told keys.old) (AreCounted m) }
-    ensures told { P.told keys.new ≡ P.told keys.old }
-    ensures cause { HasPassCause (P.faults keys.old) (P.faults keys.new) result }
-    ensures failed { IfErr result (HasPassFailure (P.failure keys.new)) }
+    ensures passes { PassesAgain P.KeyPass keys.old keys.new result }
     ensures lowest { IfOk result (λ o. IfSome o (λ over. ForSome (P.told keys.old) (λ told. IsLowestOver told.keys buckets split over.bucket over.count))) }
     ensures counted { IfOk result (λ o. IfSome o (λ over. CountedOver P.at_end P.gave buckets split over.bucket over.count)) }
     ensures none { IfOk result (λ o. IfNone o (ForSome (P.told keys.old) (λ told. lowest_overfull told.keys buckets split ≡ None))) }
     ensures changed { IfErr result (HasOtherCount m (P.place keys.new)) }
-    ensures fault { IfErr result (λ fault. ForSome (P.told keys.old) (λ told. FailsAgain told fault)) }
 {
     let mut sizes = vec![in alloc; 0; buckets.value() as usize]?;
     match choose_split(keys, key, m, buckets, &[split], &mut sizes)? {
@@ -72,16 +69,13 @@ pub(crate) fn overfull_verdict<P: KeyPass>(
     requires width { (MIN_WIDTH ≤ b) × (b ≤ MAX_WIDTH) }
     requires counted { ForSome (P.told keys.old) (AreCounted m) }
     requires equal { RisesBy (λ p. p.again) 0 equal.now }
-    ensures told { P.told keys.new ≡ P.told keys.old }
-    ensures cause { HasPassCause (P.faults keys.old) (P.faults keys.new) result }
-    ensures failed { IfErr result (HasPassFailure (P.failure keys.new)) }
+    ensures passes { PassesAgain P.KeyPass keys.old keys.new result }
     ensures verdict { IfOk result (λ verdict. ForSome (P.told keys.old) (λ told. HaveRisingLines told.keys →
         verdict ≡ first_reason (overfull_reasons told.keys (bucket_count m b) claim.split claim.bucket claim.count equal.now))) }
 
     // There are fewer keys, or one more; or the bucket has another number of them.
     ensures changed { IfErr result (λ fault. IfChanged fault (λ first now. ((first ≡ m) × IsOtherCount first now (P.place keys.new))
         ⊎ DiffersInBucket P.KeyPass keys.new first now)) }
-    ensures fault { IfErr result (λ fault. ForSome (P.told keys.old) (λ told. FailsAgain told fault)) }
 {
     let buckets = Divisor::new(bucket_total(m, b));
     let over = match find_over(alloc, keys, key, m, buckets, claim.split)? {

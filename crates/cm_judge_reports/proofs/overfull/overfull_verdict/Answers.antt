@@ -31,16 +31,16 @@ returns-then-over-claim-2-clause-verdict g c = λ told is rise.
     verdict_count told.keys (bucket_count c.args.m c.args.b) c.args.claim.split c.args.claim.bucket c.in-Some.over.count c.args.claim.count c.args.equal.now over c.if-over-claim-2.true
 
 pub gather_equal-requires-clause-counted : goal.gather_equal-requires-clause-counted
-gather_equal-requires-clause-counted g c = λ told is. c.requires.counted told (sym c.find_over.ensures.told ∙ is)
+gather_equal-requires-clause-counted g c = λ told is. c.requires.counted told (sym c.find_over.ensures.passes.told ∙ is)
 
 pub returns-in-Some-first_apart-clause-verdict : goal.returns-in-Some-first_apart-clause-verdict
 returns-in-Some-first_apart-clause-verdict g c = λ told is rise.
     by_pairs told.keys c.new-buckets.result (bucket_count c.args.m c.args.b) c.args.claim.split c.in-Some.over.bucket c.args.claim.bucket c.in-Some.over.count c.args.claim.count c.deref.result.now c.args.equal.now (Some c.in-Some-first_apart.line)
     (c.new-buckets.ensures.value ∙ c.bucket_total.ensures.count) c.if-over-claim.false c.if-over-claim-2.false ((rw c.in-Some.is at c.in_ok-over.ensures.lowest) told is)
-    (c.deref.ensures.value ∙ c.in_ok-real.ensures.equal told (c.find_over.ensures.told ∙ is)) rise (λ rises. c.in-Some-first_apart.ensures.apart rises c.requires.equal)
+    (c.deref.ensures.value ∙ c.in_ok-real.ensures.equal told (c.find_over.ensures.passes.told ∙ is)) rise (λ rises. c.in-Some-first_apart.ensures.apart rises c.requires.equal)
 
 pub returns-clause-verdict : goal.returns-clause-verdict
 returns-clause-verdict g c = λ told is rise.
     by_pairs told.keys c.new-buckets.result (bucket_count c.args.m c.args.b) c.args.claim.split c.in-Some.over.bucket c.args.claim.bucket c.in-Some.over.count c.args.claim.count c.deref.result.now c.args.equal.now None
     (c.new-buckets.ensures.value ∙ c.bucket_total.ensures.count) c.if-over-claim.false c.if-over-claim-2.false ((rw c.in-Some.is at c.in_ok-over.ensures.lowest) told is)
-    (c.deref.ensures.value ∙ c.in_ok-real.ensures.equal told (c.find_over.ensures.told ∙ is)) rise (λ rises. c.in-None-first_apart.ensures.apart rises c.requires.equal)
+    (c.deref.ensures.value ∙ c.in_ok-real.ensures.equal told (c.find_over.ensures.passes.told ∙ is)) rise (λ rises. c.in-None-first_apart.ensures.apart rises c.requires.equal)
