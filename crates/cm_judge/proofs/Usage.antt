@@ -1,5 +1,5 @@
 -- Arguments that are no job, or for which memory ran out.
-use Rattle.std.proofs.Common.{◌≡◌, ◌⊎◌, ◌∙◌, ℕ, [], Ok, Err, ap, inl, inr, refl, subst}
+use Rattle.std.proofs.Common.{◌≡◌, ◌⊎◌, ◌∙◌, ℕ, [], Ok, Err, ap, inl, inr, refl}
 use Rattle.cm_io.specs.States.{DiskState, IsSent, SinkState, outside}
 use Rattle.cm_judge.proofs.Promises.{Left, unjudged}
 use Rattle.cm_judge.specs.Runs.{Runs}
@@ -7,7 +7,8 @@ use Rattle.cm_judge.specs.Texts.{program}
 use Rattle.cm_judge.specs.declared.stop.JudgeStop.TheVariants.{Report}
 use Rattle.cm_judge_words.specs.declared.job.JudgeJob.{JudgeJob}
 use Rattle.cm_tool_stops.specs.Ends.{Says, usage_status_of}
-use Rattle.cm_tool_stops.specs.Messages.{out_of_memory, usage_message}
+use Rattle.cm_tool_stops.specs.Messages.{usage_message}
+use Rattle.cm_tool_stops.specs.RefusingLaws.{no_memory, refuses}
 use Rattle.cm_witness_report.specs.declared.report.ReportFault.TheVariants as report_fault
 use Rattle.cm_words_arguments.specs.Options.{Read}
 use Rattle.cm_words_arguments.specs.declared.fault.UsageFault.{UsageFault}
@@ -17,27 +18,10 @@ use Rattle.cm_words_arguments.specs.declared.fault.UsageFault.TheVariants.{Memor
 untouched : (job : JudgeJob) (disk : DiskState) → Left job disk disk (Err (Report report_fault.Memory))
 untouched job disk = record { files = refl; spilled = refl; write_faults = refl; cause = refl; ends = λ files known. tt }
 
--- what is said if memory ran out
-no_memory : (err_old err_new : SinkState) (fault : UsageFault) → fault ≡ Memory → Says err_old err_new (usage_message program [] fault) → Says err_old err_new (out_of_memory program)
-no_memory err_old err_new fault memory says = subst (λ f. Says err_old err_new (usage_message program [] f)) memory says
-
 -- what the report of a fault of the arguments does
 pub refused : (asked : Read JudgeJob) (fault : UsageFault) (disk : DiskState) (out err_old err_new : SinkState) (status : ℕ) → (fault ≡ Memory) ⊎ (let r : Read JudgeJob = Err fault in r ≡ asked) → status ≡ usage_status_of fault
     → Says err_old err_new (usage_message program [] fault) → IsSent err_old err_new → Runs asked (outside disk out err_old) (outside disk out err_new) status
-refused (Err bad) fault disk out err_old err_new status (inl memory) is says sent = record {
-  disk = refl;
-  out = refl;
-  err_sent = λ _. sent;
-  err = inr (is ∙ ap usage_status_of memory, no_memory err_old err_new fault memory says);
-}
-refused (Err bad) fault disk out err_old err_new status (inr same) is says sent =
-    let named : fault ≡ bad = cc in
-    record {
-      disk = refl;
-      out = refl;
-      err_sent = λ _. sent;
-      err = inl (is ∙ ap usage_status_of named, subst (λ f. Says err_old err_new (usage_message program [] f)) named says);
-    }
+refused (Err bad) fault disk out err_old err_new status cause is says sent = refuses {A = JudgeJob} program bad fault disk out err_old err_new status cause is says sent
 refused (Ok job) fault disk out err_old err_new status (inl memory) is says sent =
-    unjudged job disk disk out err_old err_new (Report report_fault.Memory) status (untouched job disk) (is ∙ ap usage_status_of memory) (no_memory err_old err_new fault memory says) sent
+    unjudged job disk disk out err_old err_new (Report report_fault.Memory) status (untouched job disk) (is ∙ ap usage_status_of memory) (no_memory program err_old err_new fault memory says) sent
 refused (Ok job) fault disk out err_old err_new status (inr same) is says sent = absurd (cc)

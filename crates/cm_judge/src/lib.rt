@@ -15,5 +15,6 @@ pub use crate::driving::judge_job;
 pub use crate::examples::{worked_outcomes, worked_texts};
 pub use crate::program::PROGRAM;
 pub use crate::stop::{BadReport, JudgeStop};
-pub use crate::top::{judge_run, report_no_memory};
+pub use crate::top::judge_run;
 pub use cm_judge_words::JudgeJob;
+pub use cm_tool_stops::report_no_memory;

@@ -1,11 +1,8 @@
 //! The top call.
-ghost use Rattle.std.specs.Prelude.{◌≡◌, map, string_bytes};
-ghost use Rattle.cm_io.specs.States.{IsSent, outside};
+ghost use Rattle.std.specs.Prelude.{map, string_bytes};
+ghost use Rattle.cm_io.specs.States.{outside};
 ghost use Rattle.cm_judge.specs.Runs.{Runs};
-ghost use Rattle.cm_judge.specs.Texts.{program};
 ghost use Rattle.cm_judge_words.specs.Meaning.{job_of};
-ghost use Rattle.cm_tool_stops.specs.Ends.{Says};
-ghost use Rattle.cm_tool_stops.specs.Messages.{out_of_memory};
 
 use crate::driving::judge_job;
 use crate::program::PROGRAM;
@@ -13,15 +10,6 @@ use cm_io::{Disk, Sink};
 use cm_judge_words::read_words;
 use cm_tool_stops::report_usage;
 use std::alloc::Global;
-
-/// Says that memory ran out before the arguments were read, and returns the status of that.
-pub fn report_no_memory<E: Sink>(err: &mut E) -> u8
-    ensures status { result ≡ 6 }
-    ensures says { Says (E.state err.old) (E.state err.new) (out_of_memory program) }
-    ensures sent { IsSent (E.state err.old) (E.state err.new) }
-{
-    cm_tool_stops::report_no_memory(PROGRAM, err)
-}
 
 /// The whole program: reads the arguments, of which the first is its name, and judges the report that they name by the keys of the file
 /// that they name. Returns the status: 2 if the arguments ask for no job, and else that of `judge_job`.

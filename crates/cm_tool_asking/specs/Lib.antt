@@ -5,3 +5,4 @@ pub mod Leaves
 pub mod Asks
 pub mod OutcomeLaws
 pub mod PassLaws
+pub mod MemoryLaws

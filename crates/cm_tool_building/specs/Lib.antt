@@ -6,3 +6,5 @@ pub mod Leaves
 pub mod Builds
 pub mod StopLaws
 pub mod OutcomeLaws
+pub mod MemoryLaws
+pub mod StoreLaws

@@ -3,3 +3,5 @@ pub mod Named
 pub mod Ends
 pub mod Ending
 pub mod EndLaws
+pub mod Refusing
+pub mod RefusingLaws

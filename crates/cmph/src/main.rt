@@ -2,7 +2,7 @@
 #![tactic(auto)]
 
 use cm_real::{FileDisk, StdSink, words_of};
-use cm_tool::{report_no_memory, run};
+use cm_tool::{PROGRAM, report_no_memory, run};
 use std::process;
 use std::process::ExitCode;
 
@@ -10,8 +10,8 @@ fn main(rt: HostRuntime) -> ExitCode {
     let mut out = StdSink::new(rt.stdout());
     let mut err = StdSink::new(rt.stderr());
     let mut disk = FileDisk::new(&rt, rt.alloc(), process::id(rt.process()));
-    match words_of(&rt, "cmph") {
+    match words_of(&rt, PROGRAM) {
         Ok(words) => ExitCode::from(run(rt.alloc(), &words, &mut disk, &mut out, &mut err)),
-        Err(_) => ExitCode::from(report_no_memory(&mut err)),
+        Err(_) => ExitCode::from(report_no_memory(PROGRAM, &mut err)),
     }
 }

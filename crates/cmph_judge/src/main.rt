@@ -1,7 +1,7 @@
 //! The program `cmph_judge`: the top call over real files and the standard streams.
 #![tactic(auto)]
 
-use cm_judge::{judge_run, report_no_memory};
+use cm_judge::{PROGRAM, judge_run, report_no_memory};
 use cm_real::{FileDisk, StdSink, words_of};
 use std::process;
 use std::process::ExitCode;
@@ -10,8 +10,8 @@ fn main(rt: HostRuntime) -> ExitCode {
     let mut out = StdSink::new(rt.stdout());
     let mut err = StdSink::new(rt.stderr());
     let mut disk = FileDisk::new(&rt, rt.alloc(), process::id(rt.process()));
-    match words_of(&rt, "cmph_judge") {
+    match words_of(&rt, PROGRAM) {
         Ok(words) => ExitCode::from(judge_run(rt.alloc(), &words, &mut disk, &mut out, &mut err)),
-        Err(_) => ExitCode::from(report_no_memory(&mut err)),
+        Err(_) => ExitCode::from(report_no_memory(PROGRAM, &mut err)),
     }
 }
