@@ -1,9 +1,5 @@
--- What is said at the end of a job, and what the file of a path holds that was written.
-use Rattle.std.proofs.Common.{◌≡◌, ◌∙◌, ℕ, List, [], None, Some, inl, inr, refl, ap, arith, Bool, cond}
-use Rattle.std.specs.Cmp.{eq_by_cmp_equiv}
-use Rattle.std.specs.Cmp.Lexicographic.{nat_list_cmp_total}
-use Rattle.std.specs.FinMap as map
-use Rattle.cm_io.specs.Files.{Files, file_at}
+-- What is said at the end of a job.
+use Rattle.std.proofs.Common.{◌≡◌, ℕ, [], None, Some, inl, inr, refl, arith}
 use Rattle.cm_io.specs.States.{SinkState}
 use Rattle.cm_io.specs.WritingLaws.{then_nothing}
 use Rattle.cm_tool_building.specs.Leaves.{IsOutCause}
@@ -24,11 +20,6 @@ nothing_said err = record { front = (0, then_nothing err.written); whole = λ _ 
 
 pub none_some : {o : Outcome} → None ≡ Some o → ⊥
 none_some e = absurd (cc)
-
--- the file of a path that was written
-pub written_at : (files : Files) (path bytes : List ℕ) → file_at (map.insert files path bytes) path ≡ Some bytes
-written_at files path bytes =
-    map.get-insert nat_list_cmp_total files path bytes path ∙ ap (λ (b : Bool). cond b (Some bytes) (map.get files path)) ((eq_by_cmp_equiv nat_list_cmp_total).refl path)
 
 -- the message of a build that stopped goes with its status
 pub message_is : (job : BuildJob) (before now : ℕ) (stop : Stop) → makes.IsAllowedStop (HasStopForm job.algorithm) stop → IsOutCause before now stop → IsBuildMessage job before now (status_of stop) (message_of (naming job.keys job.function) job.dir stop)

@@ -27,7 +27,7 @@ use Rattle.cm_tool.specs.Said.{seed_failure_message}
 use Rattle.cm_tool_stops.specs.declared.stop.Stop.TheVariants.{Memory, Read, Write, WriteOut, Refused, Changed, Spill, SpillDamaged, NoKeys, TooLong, TooMany}
 use Rattle.cm_tool_stops.specs.declared.stop.Stop.{Stop}
 use Rattle.cm_tool_builds.specs.Faults.{FailsFunc, HasFuncCause, HasFuncForm, IsChangeBy, IsSeedFailureBy, UsesSpill, shown_core, shown_overfull}
-use Rattle.cm_tool.specs.Jobs.{seeds_of}
+use Rattle.cm_tool_cells.specs.Seeds.{seeds_of}
 use Rattle.cm_tool_builds.specs.FuncOf.{IsFuncOf}
 use Rattle.cm_tool_building.specs.Leaves.{GotReport, IsOutCause, KeepsOut}
 use Rattle.cm_tool.specs.Building.{StopsFor}

@@ -1,15 +1,12 @@
 -- What a build is about: its seeds, its plan, and what they make of keys.
-use Rattle.std.specs.Prelude.{ℕ, ◌+◌, ◌%◌, ◌^◌, List, Result}
+use Rattle.std.specs.Prelude.{ℕ, List, Result}
 use Rattle.cm_func.specs.declared.function.Func.{Func}
-use Rattle.cm_spec.specs.Lists.{list_of}
 use Rattle.cm_tool_builds.specs.Results.{FailureReport, result_by}
 use Rattle.cm_tool_builds.specs.declared.plan.Plan.{Plan}
+use Rattle.cm_tool_cells.specs.Seeds.{seeds_of}
 use Rattle.cm_words.specs.declared.jobs.BuildJob.{BuildJob}
 
--- the seeds of a job: `count` numbers from the first on, modulo 2 ^ 32
-abbrev pub seeds_of : ℕ → ℕ → List ℕ
-seeds_of first count = list_of (λ i. (first + i) % 2 ^ 32) count
-
+-- the seeds of a job
 abbrev pub seeds_tried : BuildJob → List ℕ
 seeds_tried job = seeds_of job.seed job.count
 

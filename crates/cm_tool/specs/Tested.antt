@@ -15,7 +15,7 @@ use Rattle.cm_io.specs.Writing.{joined}
 use Rattle.cm_query.specs.Sums.{answer_sum}
 use Rattle.cm_keys.specs.Lines.{keys_in}
 use Rattle.cm_tool.specs.Ending.{Outcome, printing, reporting}
-use Rattle.cm_tool.specs.Jobs.{seeds_of}
+use Rattle.cm_tool_cells.specs.Seeds.{seeds_of}
 use Rattle.cm_tool_builds.specs.Results.{FailureReport, result_by}
 use Rattle.cm_tool_builds.specs.declared.plan.Plan.{Plan}
 use Rattle.cm_words.specs.declared.jobs.TestJob.{TestJob}

@@ -1,10 +1,9 @@
 //! Builds.
-ghost use Rattle.std.specs.Prelude.{◌≡◌, ◌≢◌, ◌<◌, ◌≤◌, ◌⊎◌, ◌↔◌, ◌^◌, ℕ, List, None, Ok};
+ghost use Rattle.std.specs.Prelude.{◌≡◌, ◌≢◌, ◌<◌, ◌⊎◌, ◌↔◌, ◌^◌, ℕ, List, None, Ok};
 ghost use Rattle.std.specs.Option.{ForSome};
 ghost use Rattle.cm_io.specs.States.{IsSent, outside};
 ghost use Rattle.cm_tool_builds.specs.Spills.{UnlessSpilled};
 ghost use Rattle.cm_tool_stops.specs.Ends.{Says};
-ghost use Rattle.cm_tool.specs.Jobs.{seeds_of};
 ghost use Rattle.cm_tool.specs.Outcome.{job_outcome};
 ghost use Rattle.cm_tool.specs.Run.{IsBuildMessage, IsCored, IsEmptied, IsStatus, IsUnfinished, KeysSpilled, LacksFile, Reaches, SavedNumbers, TookFirst};
 ghost use Rattle.cm_words.specs.Limits.{IsBuild};
@@ -15,27 +14,15 @@ use crate::laws::saved_numbers;
 use crate::plan::plan_of;
 use crate::program::PROGRAM;
 use crate::reports::{FuncReport, fault_of};
-use arrayvec::ArrayVec;
 use cm_io::{Disk, KeyPass, Sink};
 use cm_keys::numbering;
 use cm_tool_building::{BuildFiles, Builder, Fault, build};
 use cm_tool_builds::func_of;
+use cm_tool_cells::seeds;
 use cm_tool_files::FuncFile;
 use cm_tool_stops::Names;
 use cm_words::BuildJob;
 use std::alloc::Global;
-
-/// `count` seeds, from the first on.
-pub(crate) fn seeds(first: u32, count: u32) -> ArrayVec<u32, 1000>
-    requires room { count ≤ 1000 }
-    ensures { result.items ≡ seeds_of first count }
-{
-    let mut seeds = ArrayVec::new();
-    for i in 0..count {
-        seeds.push(first.wrapping_add(i));
-    }
-    seeds
-}
 
 /// What builds the function of a job.
 #[derive(Drop)]

@@ -13,7 +13,8 @@ mod texts;
 mod top;
 mod upgrading;
 
-pub use crate::program::report_no_memory;
+pub use crate::program::PROGRAM;
 pub use crate::texts::{print_help, print_version};
 pub use crate::top::run;
 pub use cm_keys_made::MadeKeys;
+pub use cm_tool_stops::report_no_memory;

@@ -23,7 +23,6 @@ ghost use Rattle.cm_tool.specs.Tested.{generated, line_text, test_outcome, test_
 ghost use Rattle.cm_words.specs.Limits.{IsTest};
 ghost use Rattle.cm_words.specs.declared.jobs.Job.TheVariants.{Test};
 
-use crate::building::seeds;
 use crate::program::PROGRAM;
 use crate::reports::fault_of;
 use cm_algo_names::Algorithm;
@@ -35,6 +34,7 @@ use cm_keys_made::MadeKeys;
 use cm_query::sum_answers;
 use cm_tool_building::stop_of;
 use cm_tool_builds::{FuncFault, Plan, func_of};
+use cm_tool_cells::seeds;
 use cm_tool_files::reload;
 use cm_tool_stops::{Names, Stop, report, send_text};
 use cm_words::TestJob;

@@ -29,9 +29,10 @@ use Rattle.cm_spec.specs.Chm.{Chm, chm_rule}
 use Rattle.cm_spec.specs.Rule.{Rule}
 use Rattle.cm_witness_gather.specs.declared.failure.SeedFailure.TheVariants.{NoSeed, NoSeedFor, NoSplit}
 use Rattle.cm_witness_gather.specs.declared.failure.SeedFailure.{SeedFailure}
-use Rattle.cm_tool_builds.specs.Faults.{FailsFunc, HasFuncCause, HasFuncForm, IsChange, IsChangeBy, IsSeedFailureBy, fault_from_brz, fault_from_build, seed_failure_of, shown_core}
-use Rattle.cm_tool_builds.specs.FuncOf.{IsBuiltFrom, IsFuncOf}
-use Rattle.cm_tool_builds.specs.Seeds.{IsCoredUnder, IsMadeBy, NoneWorks, TakesFirst}
+use Rattle.cm_tool_builds.specs.Faults.{FailsFunc, HasFuncCause, HasFuncForm, IsChangeBy, IsSeedFailureBy, fault_from_brz, fault_from_build, seed_failure_of, shown_core}
+use Rattle.cm_tool_builds.specs.FuncOf.{IsFuncOf}
+use Rattle.cm_tool_builds.specs.Seeds.{IsMadeBy, NoneWorks}
+use Rattle.cm_tool_cells.specs.Seeds.{IsBuiltFrom, IsChange, IsCoredUnder, TakesFirst}
 use Rattle.cm_tool_builds.specs.Results as results
 use Rattle.cm_tool_builds.specs.Results.{FailureReport, filled, seeded, split_into, result_by}
 use Rattle.cm_tool_builds.specs.declared.fault.FuncFault.{FuncFault}

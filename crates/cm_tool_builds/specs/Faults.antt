@@ -1,5 +1,5 @@
 -- Why there is no function of keys.
-use Rattle.std.specs.Prelude.{◌≡◌, ◌≢◌, ◌<◌, ◌≤◌, ◌+◌, ℕ, List, [], length, Option, None, Some, Result, Ok, Err}
+use Rattle.std.specs.Prelude.{◌≡◌, ◌≢◌, ◌<◌, ◌≤◌, ℕ, List, [], length, Option, None, Some, Result, Ok, Err}
 use Rattle.cm_io.specs.Passes.{IsToldFault}
 use Rattle.cm_algo_names.specs.declared.algorithm.Algorithm.{Algorithm}
 use Rattle.cm_algo_names.specs.declared.algorithm.Algorithm.TheVariants.{Brz}
@@ -12,6 +12,7 @@ use Rattle.cm_algo_seeds.specs.declared.fault.BuildFault.TheVariants as build_fa
 use Rattle.cm_witness_gather.specs.declared.failure.SeedFailure.TheVariants.{NoSeed, NoSeedFor, NoSplit}
 use Rattle.cm_witness_gather.specs.declared.failure.SeedFailure.{SeedFailure}
 use Rattle.cm_tool_builds.specs.Seeds.{NoneWorks}
+use Rattle.cm_tool_cells.specs.Seeds.{IsChange}
 use Rattle.cm_tool_builds.specs.Results.{FailureReport, result_by}
 use Rattle.cm_tool_builds.specs.declared.fault.FuncFault.{FuncFault}
 use Rattle.cm_tool_builds.specs.declared.fault.FuncFault.TheVariants.{Memory, NoKeys, Cored, Overfull, Key, Changed, Spill, SpillDamaged}
@@ -82,12 +83,6 @@ FailsFunc algorithm b told c seeds (Key fault) = IsToldFault told fault
 FailsFunc algorithm b told c seeds (Changed first again) = ⊥
 FailsFunc algorithm b told c seeds Spill = Unit {0}
 FailsFunc algorithm b told c seeds (SpillDamaged offset expected found) = ⊥
-
--- how many keys there were in the first pass, and how many of a later one: fewer, or one more, at which it stops
-pub record IsChange (first again : ℕ) : Type 0 where
-  pub some : 1 ≤ first
-  pub differs : again ≢ first
-  pub stops : again ≤ first + 1
 
 -- keys that changed have such numbers; by BRZ they may be those of a bucket
 abbrev pub IsChangeBy : Algorithm → ℕ → ℕ → Type 0

@@ -1,21 +1,11 @@
 -- The function that a build gives of known keys.
-use Rattle.std.specs.Prelude.{◌≡◌, ℕ, List, length, None, Some, Ok}
+use Rattle.std.specs.Prelude.{◌≡◌, ℕ, List, length, None, Ok}
 use Rattle.cm_algo_names.specs.declared.algorithm.Algorithm.{Algorithm}
 use Rattle.cm_func.specs.declared.function.Func.{Func}
 use Rattle.cm_io.specs.Passes.{Told}
-use Rattle.cm_spec.specs.Built.{cells_under, first_seed, IsFirst}
-use Rattle.cm_spec.specs.Rule.{IsCount, Rule}
+use Rattle.cm_spec.specs.Rule.{IsCount}
 use Rattle.cm_tool_builds.specs.Results.{result_by}
 use Rattle.cm_tool_builds.specs.Seeds.{IsMadeBy}
-
--- a build over known keys returned the number of keys, the seed and the cells, in whatever number of steps
-pub record IsBuiltFrom (r : Rule) (told : Told) (c : ℕ) (seeds : List ℕ) (m seed : ℕ) (cells : List ℕ) : Type 0 where
-  pub no_fault : told.fault ≡ None
-  pub many : m ≡ length told.keys
-  pub place : ℕ
-  pub chosen : first_seed r told.keys c seeds ≡ Some seed
-  pub first : IsFirst r told.keys c seeds place seed
-  pub cells_are : cells ≡ cells_under r told.keys c seed
 
 -- the function of keys with no fault at their end by an algorithm, with its parameter b
 pub record IsFuncOf (algorithm : Algorithm) (b : ℕ) (told : Told) (c : ℕ) (seeds : List ℕ) (f : Func) : Type 0 where

@@ -1,5 +1,5 @@
 -- The seeds that a build takes, and why none works, by 2-cores.
-use Rattle.std.specs.Prelude.{◌≡◌, ◌⊎◌, ℕ, List, length, slice_index, Some}
+use Rattle.std.specs.Prelude.{◌≡◌, ◌⊎◌, ℕ, List, length, Some}
 use Rattle.cm_algo_names.specs.declared.algorithm.Algorithm.{Algorithm}
 use Rattle.cm_algo_names.specs.declared.algorithm.Algorithm.TheVariants.{Chm, Bdz, BdzPh, Brz}
 use Rattle.cm_bdz.specs.Numbering.{bdz_under, bdz_ph_under}
@@ -11,15 +11,9 @@ use Rattle.cm_brz_func.specs.Functions.{bucket_count}
 use Rattle.cm_func.specs.declared.function.Func.{Func}
 use Rattle.cm_func.specs.declared.function.Func.TheVariants as func
 use Rattle.cm_spec.specs.Bdz.{bdz_rule, bdz_ph_rule}
-use Rattle.cm_spec.specs.Built.{AllCored, IsFirst, chm_under, graph_of}
+use Rattle.cm_spec.specs.Built.{chm_under}
 use Rattle.cm_spec.specs.Chm.{chm_rule}
-use Rattle.cm_spec.specs.Core.{IsCore}
-use Rattle.cm_spec.specs.Rounds.{rest_of}
-use Rattle.cm_spec.specs.Rule.{Rule}
-
--- a seed is the first of a list whose graph of the keys has an empty 2-core
-abbrev pub TakesFirst : Rule → List (ℕ × List ℕ) → ℕ → List ℕ → ℕ → Type 0
-TakesFirst r keys c seeds seed = (place : ℕ) × IsFirst r keys c seeds place seed
+use Rattle.cm_tool_cells.specs.Seeds.{IsCoredUnder, TakesFirst}
 
 -- the function is that of the keys by the algorithm, with its parameter b, under the first seed of the list that works. By BRZ the
 -- first that works splits the keys into buckets of at most MAX_BUCKET, and each bucket with keys has a first seed of its own.
@@ -29,11 +23,6 @@ IsMadeBy Bdz b keys c seeds (func.Bdz f) = (f ≡ bdz_under keys c f.seed b) × 
 IsMadeBy BdzPh b keys c seeds (func.BdzPh f) = (f ≡ bdz_ph_under keys c f.seed) × TakesFirst bdz_ph_rule keys c seeds f.seed
 IsMadeBy Brz b keys c seeds (func.Brz f) = IsBrzOf keys c b seeds f
 IsMadeBy algorithm b keys c seeds f = ⊥
-
--- under every seed of a list the graph of the keys has a 2-core with an edge, and under the first it is what peeling leaves
-pub record IsCoredUnder (r : Rule) (keys : List (ℕ × List ℕ)) (c : ℕ) (seeds : List ℕ) : Type 0 where
-  pub cored : AllCored r keys c seeds
-  pub core : IsCore (graph_of r keys c (slice_index seeds 0)) (rest_of (graph_of r keys c (slice_index seeds 0)))
 
 -- a seed splits the keys, the first of the list, and this is the lowest bucket, of k, with such graphs
 pub record HasCoredBucket (keys : List (ℕ × List ℕ)) (k c : ℕ) (seeds : List ℕ) : Type 0 where

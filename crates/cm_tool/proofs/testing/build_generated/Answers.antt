@@ -1,7 +1,7 @@
 use Rattle.std.proofs.Common.{arith, rules, ◌≡◌, subst}
 use Rattle.cm_tool_builds.specs.Spills.{UnlessSpilled}
 use Rattle.cm_tool_builds.specs.declared.plan.Plan.{Plan}
-use Rattle.cm_tool.specs.Jobs.{seeds_of}
+use Rattle.cm_tool_cells.specs.Seeds.{seeds_of}
 use Rattle.cm_tool.specs.Tested as tested
 use Rattle.cm_tool.proofs.Tests.{fails_test, fault_from, made_by, result_from}
 use Rattle.cm_tool.proofs.testing.build_generated.Goals as goal

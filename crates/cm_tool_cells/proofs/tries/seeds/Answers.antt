@@ -1,6 +1,6 @@
 use Rattle.std.proofs.Common.{rules, arith, ◌≡◌, ◌∙◌, ℕ, ◌+◌, ◌%◌, ◌^◌, ◌<◌, List, [], ◌∷◌, ◌++◌, length, ap, sym}
 use Rattle.std.proofs.lemmas.List.FromFn.{length-map-range_with_len, map-range_with_len_more}
-use Rattle.cm_tool.proofs.building.seeds.Goals as goal
+use Rattle.cm_tool_cells.proofs.tries.seeds.Goals as goal
 
 pub push-requires : goal.push-requires
 push-requires c =

@@ -1,4 +1,4 @@
-use Rattle.cm_tool_builds.proofs.functions.build_by.Goals as goal
+use Rattle.cm_tool_cells.proofs.cells.build_by.Goals as goal
 
 pub returns-in-Ok-clause-first : goal.returns-in-Ok-clause-first
 returns-in-Ok-clause-first g c = λ told is.

@@ -1,0 +1,3 @@
+pub mod Seeds
+pub mod Recipes
+pub mod RecipeLaws

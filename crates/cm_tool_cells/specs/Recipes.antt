@@ -1,0 +1,101 @@
+-- What is built of the cells of keys, for the driver of builds.
+use Rattle.std.specs.Prelude.{◌≡◌, ◌<◌, ◌≤◌, ℕ, List, [], ◌∷◌, length, slice_index, Option, None, Some, Result, Ok, Err}
+use Rattle.cm_algo_names.specs.declared.algorithm.Algorithm.{Algorithm}
+use Rattle.cm_algo_seeds.specs.declared.fault.BuildFault.{BuildFault}
+use Rattle.cm_algo_seeds.specs.declared.fault.BuildFault.TheVariants as build_fault
+use Rattle.cm_io.specs.Passes.{IsToldFault, Told}
+use Rattle.cm_io.specs.declared.key_pass.KeyFault.{KeyFault}
+use Rattle.cm_spec.specs.Built.{first_seed}
+use Rattle.cm_spec.specs.Rule.{IsCount, IsRatio, Rule}
+use Rattle.cm_tool_building.specs.Makes.{stop_from_key}
+use Rattle.cm_tool_building.specs.Meanings.{Meaning, Refusal}
+use Rattle.cm_tool_building.specs.declared.fault.Fault.{Fault}
+use Rattle.cm_tool_building.specs.declared.fault.Fault.TheVariants as faults
+use Rattle.cm_tool_cells.specs.Seeds.{IsChange, IsCoredUnder, TakesFirst, seeds_of}
+use Rattle.cm_tool_cells.specs.declared.recipe.Recipe.{Recipe}
+use Rattle.cm_tool_cells.specs.declared.report.CoreReport.{CoreReport}
+use Rattle.cm_tool_cells.specs.declared.tries.TheConstants.{MAX_SEEDS}
+use Rattle.cm_tool_stops.specs.declared.stop.Stop.{Stop}
+use Rattle.cm_tool_stops.specs.declared.stop.Stop.TheVariants as stops
+use Rattle.cm_witness_gather.specs.Reports.{core_report, report_text}
+use Rattle.cm_witness_gather.specs.declared.failure.SeedFailure.TheVariants.{NoSeed}
+
+-- the ranges of a recipe
+pub record IsRecipe (recipe : Recipe) : Type 0 where
+  pub ratio : IsRatio recipe.c
+  pub count : (1 ≤ recipe.count) × (recipe.count ≤ MAX_SEEDS)
+
+-- the seeds that it tries
+abbrev pub tried : Recipe → List ℕ
+tried recipe = seeds_of recipe.seed recipe.count
+
+-- the bytes of a report
+abbrev pub report_bytes : CoreReport → List ℕ
+report_bytes report = let made = report.certificate in report_text made.algorithm made.place made.seed made.edges.items made.equal.items
+
+-- the report on keys for which no seed works: what peeling leaves under the first
+unfoldable pub report_of : Algorithm → Rule → Recipe → List (ℕ × List ℕ) → List ℕ
+report_of algorithm r recipe keys = core_report algorithm r keys recipe.c (slice_index (tried recipe) 0)
+
+-- what is made under the first seed that works, or the report
+abbrev pub seeded : {M : Type 0} → (ℕ → M) → List ℕ → Option ℕ → Result M Refusal
+seeded make report None = Err (record { stop = stops.Refused NoSeed; report = report })
+seeded make report (Some seed) = Ok (make seed)
+
+-- what keys that end with a fault, or with none, come to, if this is made of them under a seed
+abbrev pub verdict_over : {M : Type 0} → Algorithm → Rule → Recipe → (List (ℕ × List ℕ) → ℕ → M) → List (ℕ × List ℕ) → Option KeyFault → Result M Refusal
+verdict_over algorithm r recipe make keys (Some fault) = Err (record { stop = stop_from_key fault; report = [] })
+verdict_over algorithm r recipe make [] None = Err (record { stop = stops.NoKeys; report = [] })
+verdict_over algorithm r recipe make (key ∷ keys) None = seeded (make (key ∷ keys)) (report_of algorithm r recipe (key ∷ keys)) (first_seed r (key ∷ keys) recipe.c (tried recipe))
+
+-- Known keys have no fault at their end, and this was made of them under the first seed that works.
+pub record IsMadeOf {M : Type 0} (r : Rule) (recipe : Recipe) (make : List (ℕ × List ℕ) → ℕ → M) (told : Told) (made : M) : Type 0 where
+  pub no_fault : told.fault ≡ None
+  pub many : IsCount (length told.keys)
+  pub seed : ℕ
+  pub takes : TakesFirst r told.keys recipe.c (tried recipe) seed
+  pub is : made ≡ make told.keys seed
+
+-- how a build may stop, whatever the keys are: without a seed that works, or with keys that changed; it has no spill
+abbrev pub MayStop : Stop → Type 0
+MayStop (stops.Refused failure) = failure ≡ NoSeed
+MayStop (stops.Changed first again) = IsChange first again
+MayStop stops.Spill = ⊥
+MayStop (stops.SpillDamaged offset expected found) = ⊥
+MayStop stop = Unit {0}
+
+-- what a builder means that makes this of keys under the first seed that works
+abbrev pub meaning_by : {M : Type 0} → Algorithm → Rule → Recipe → (List (ℕ × List ℕ) → ℕ → M) → Meaning M
+meaning_by algorithm r recipe make = record {
+  ready = IsRecipe recipe;
+  verdict = λ told. verdict_over algorithm r recipe make told.keys told.fault;
+  makes = λ told made _ _. IsMadeOf r recipe make told made;
+  reports = λ told. IsCoredUnder r told.keys recipe.c (tried recipe);
+  may_stop = MayStop;
+  uses_spill = ⊥;
+  said = λ _. [];
+}
+
+-- known keys for which no seed works, with the report on them
+pub record HasNoSeed (algorithm : Algorithm) (r : Rule) (recipe : Recipe) (told : Told) (report : List ℕ) : Type 0 where
+  pub no_fault : told.fault ≡ None
+  pub some : 0 < length told.keys
+  pub none : first_seed r told.keys recipe.c (tried recipe) ≡ None
+  pub report_is : report ≡ report_of algorithm r recipe told.keys
+  pub under : IsCoredUnder r told.keys recipe.c (tried recipe)
+
+-- the refusals over known keys: they never change, and what is refused is so by the keys alone
+abbrev pub FailsCells : Algorithm → Rule → Recipe → Told → Fault CoreReport → Type 0
+FailsCells algorithm r recipe told faults.Memory = Unit {0}
+FailsCells algorithm r recipe told faults.NoKeys = (told.fault ≡ None) × (told.keys ≡ [])
+FailsCells algorithm r recipe told (faults.Refused failure report) = (failure ≡ NoSeed) × HasNoSeed algorithm r recipe told (report_bytes report)
+FailsCells algorithm r recipe told (faults.Key fault) = IsToldFault told fault
+FailsCells algorithm r recipe told fault = ⊥
+
+-- a fault of a build, for the driver
+abbrev pub fault_from : BuildFault → Fault CoreReport
+fault_from build_fault.Memory = faults.Memory
+fault_from build_fault.NoKeys = faults.NoKeys
+fault_from (build_fault.Cored made) = faults.Refused NoSeed (record { certificate = made })
+fault_from (build_fault.Key fault) = faults.Key fault
+fault_from (build_fault.Changed first again) = faults.Changed first again
