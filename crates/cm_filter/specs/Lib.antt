@@ -1,0 +1,4 @@
+pub mod Filters
+pub mod Members
+pub mod Places
+pub mod FilterLaws
