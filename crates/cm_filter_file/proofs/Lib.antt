@@ -1,0 +1,5 @@
+pub mod WidthLemmas
+pub mod CellLemmas
+pub mod SpellingLemmas
+pub mod FaultLemmas
+pub mod ReadBackLemmas

@@ -1,0 +1,3 @@
+pub mod FilterFiles
+pub mod Loads
+pub mod Examples
