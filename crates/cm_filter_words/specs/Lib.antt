@@ -1,0 +1,5 @@
+pub mod Command
+pub mod Options
+pub mod Limits
+pub mod Meaning
+pub mod Examples
