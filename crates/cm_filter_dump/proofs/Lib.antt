@@ -1,0 +1,4 @@
+pub mod Loads
+pub mod Built
+pub mod Saved
+pub mod Usage

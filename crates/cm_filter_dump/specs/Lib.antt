@@ -1,0 +1,5 @@
+pub mod Program
+pub mod Asked
+pub mod Building
+pub mod Running
+pub mod Runs
