@@ -1,4 +1,5 @@
-# make            proves and builds bin/cmph and bin/cmph_judge: names each crate with its time, and puts all else into out/prove.log
+# make            proves and builds bin/cmph, bin/cmph_judge and bin/cmph_filter: names each crate with its time, and puts all else into
+#                 out/prove.log
 # make demo       builds a function over a word list, queries it, and tries all algorithms over generated keys
 # make check      the gate: proves everything from nothing, and runs all tests
 # make install    installs the programs, their man pages, and completions for bash and zsh below $(PREFIX)
@@ -13,6 +14,8 @@
 # make bench-most the same over as many keys as a function may have: it needs three gigabytes of disk
 # make bench-judge
 #                 the judge of reports beside the refused builds that printed them
+# make bench-filter
+#                 membership filters beside builds and queries, libbloom and plain Rust
 # make drawings   draws docs/chm.svg from a real run
 PREFIX ?= /usr/local
 SETS ?=
@@ -21,12 +24,13 @@ ROUNDS ?= 7
 BEFORE ?=
 SOURCES := crates.txt $(wildcard crates/*/src/*.rt crates/*/specs/*.antt) $(shell find crates -path '*/out' -prune -o -name '*.antt' -print)
 
-PROGRAMS := cmph cmph_judge
+PROGRAMS := cmph cmph_judge cmph_filter
 
 all: $(PROGRAMS:%=bin/%)
 
 # A run that was stopped goes on with the crates that were not proved. The programs are proved one after another, since they share crates.
 bin/cmph_judge: bin/cmph
+bin/cmph_filter: bin/cmph_judge
 bin/%: $(SOURCES)
 	@python3 tools/prove.py $*
 	@mkdir -p bin
@@ -82,10 +86,13 @@ bench-most: bin/cmph
 bench-judge: all
 	python3 bench/tables.py --record judge python3 bench/judge.py
 
+bench-filter: all
+	python3 bench/tables.py --record filter python3 bench/filter.py
+
 drawings: bin/cmph
 	python3 docs/draw.py
 
 clean:
 	rm -rf bin out crates/*/out
 
-.PHONY: all demo check install uninstall bench bench-bits bench-peel bench-spill bench-bbhash bench-versions bench-most bench-judge drawings clean
+.PHONY: all demo check install uninstall bench bench-bits bench-peel bench-spill bench-bbhash bench-versions bench-most bench-judge bench-filter drawings clean

@@ -1,20 +1,28 @@
 #!/usr/bin/env python3
-"""Compares the options and their choices in the usage text, the man page, the README, docs/command-line.md and the completions.
+"""Compares the options and their choices in the usage text, the man pages, the README, docs/command-line.md and the completions.
 
-    tests/completions.py [PROGRAM]        PROGRAM is crates/cmph/out/cmph if it is left out
+    tests/completions.py [CMPH [JUDGE [FILTER]]]        the programs are those below crates/ if they are left out
 
-The usage text may name options and algorithms before the program takes them. PROGRAM is asked which it takes, and the others are
-left out. The completions of bash are asked of bash; those of zsh are read, and zsh checks their syntax if it is there.
+The usage text may name options and algorithms before the program takes them. CMPH is asked which it takes, and the others are
+left out. The programs beside it have no usage text: they are asked for each letter. The completions of bash are asked of bash; those of
+zsh are read, and zsh checks their syntax if it is there.
 """
 import re
 import shutil
+import string
 import subprocess
 import sys
 from pathlib import Path
 
 TOP = Path(__file__).resolve().parent.parent
 BASH, ZSH = TOP / "completions" / "cmph.bash", TOP / "completions" / "_cmph"
-JUDGE = "cmph_judge"
+PROGRAMS = ["cmph", "cmph_judge", "cmph_filter"]
+
+# Of the programs beside cmph: how many files they take, what follows their options in the man page, and their heading in docs/command-line.md.
+BESIDE = {
+    "cmph_judge": (2, ".Ss What is true", "## The judge of reports"),
+    "cmph_filter": (1, ".Ss Keys", "## Filters"),
+}
 
 
 def run(*command):
@@ -97,26 +105,47 @@ def choices_of_zsh(letter):
     return found[1].split() if found else []
 
 
-def of_judge():
-    """The options of the judge, as its man page, the README, docs/command-line.md and the completions have them."""
-    bash, zsh = TOP / "completions" / f"{JUDGE}.bash", TOP / "completions" / f"_{JUDGE}"
-    offered = run("bash", "-c", f'source "$1"; COMP_WORDS=({JUDGE} -); COMP_CWORD=1; _{JUDGE}; printf "%s\\n" "${{COMPREPLY[@]}}"', "bash", bash)
+def taken_by(program, files):
+    """The options that a program without a usage text takes, each with whether it has a value."""
+    def takes(*words):
+        return "bad arguments" not in run(program, *words, *["/none/none"] * files).stderr
+
+    flags, valued = ([letter for letter in string.ascii_letters if takes(f"-{letter}", *value)] for value in ([], ["1"]))
+    return {**dict.fromkeys(flags, False), **dict.fromkeys(valued, True)}
+
+
+def of_section(page, heading):
+    """The text from a heading of a page to the next."""
+    return (TOP / page).read_text().split(f"{heading}\n")[1].split("\n## ")[0]
+
+
+def of_usage_lines(name):
+    """The options of the indented lines of the README that say how a program is called."""
+    lines = re.findall(rf"^    {name} (.*)$", (TOP / "README.md").read_text(), re.MULTILINE)
+    return {letter: bool(value) for line in lines for letter, value in re.findall(r"(?:^|\[)-(\w)( \w+)?", line)}
+
+
+def of_program(name):
+    """The options of a program beside cmph, as its man page, the README, docs/command-line.md and the completions have them."""
+    bash = TOP / "completions" / f"{name}.bash"
+    offered = run("bash", "-c", f'source "$1"; COMP_WORDS=({name} -); COMP_CWORD=1; _{name}; printf "%s\\n" "${{COMPREPLY[@]}}"', "bash", bash)
     values = re.search(r"\(\[(\w+)\]\)", bash.read_text())[1]
-    table = (TOP / "docs" / "command-line.md").read_text().split("## The judge of reports")[1]
-    usage = re.search(rf"^    {JUDGE} (.*)$", (TOP / "README.md").read_text(), re.MULTILINE)[1]
+    _, end, heading = BESIDE[name]
+    table = re.findall(r"^\| `-(\w)` \|([^|]*)\|", of_section("docs/command-line.md", heading), re.MULTILINE)
     return [
-        ("the options of the judge's man page", of_man(JUDGE, ".Ss What is true")),
-        ("the options of its synopsis", listed_in_synopsis(JUDGE)[1]),
-        ("its options in the README", {letter: bool(value) for letter, value in re.findall(r"\[-(\w)( \w)?\]", usage)}),
-        ("its options in docs/command-line.md", {letter: not what.startswith(" flag") for letter, what in re.findall(r"^\| `-(\w)` \|([^|]*)\|", table, re.MULTILINE)}),
-        ("its options of bash", {word[1:]: word[1:] in values for word in offered.stdout.split()}),
-        ("its options of zsh", of_zsh(zsh)),
+        (f"the options of the man page of {name}", of_man(name, end)),
+        (f"the options of the synopsis of {name}", listed_in_synopsis(name)[1]),
+        (f"the options of {name} in the README", of_usage_lines(name)),
+        (f"the options of {name} in docs/command-line.md", {letter: not what.startswith(" flag") for letter, what in table}),
+        (f"the options of {name} of bash", {word[1:]: word[1:] in values for word in offered.stdout.split()}),
+        (f"the options of {name} of zsh", of_zsh(ZSH.with_name(f"_{name}"))),
     ]
 
 
 def main():
-    program = Path(sys.argv[1] if len(sys.argv) > 1 else TOP / "crates" / "cmph" / "out" / "cmph").resolve()
-    options, algorithms, hashes = of_usage(program)
+    programs = {name: Path(sys.argv[number] if len(sys.argv) > number else TOP / "crates" / name / "out" / name).resolve()
+                for number, name in enumerate(PROGRAMS, 1)}
+    options, algorithms, hashes = of_usage(programs["cmph"])
     compared = [
         ("the options of the man page", of_man(), options),
         ("the options of its synopsis", of_synopsis(), options),
@@ -135,9 +164,11 @@ def main():
         ("the hash functions of bash", of_bash("-f", ""), hashes),
         ("the hash functions of zsh", choices_of_zsh("f"), hashes),
     ]
-    compared += [(what, found, {"z": False, "b": True, "c": True, "k": True}) for what, found in of_judge()]
+    for name, (files, _, _) in BESIDE.items():
+        options = taken_by(programs[name], files)
+        compared += [(what, found, options) for what, found in of_program(name)]
     if shutil.which("zsh"):
-        compared.append(("the faults that zsh finds", run("zsh", "-n", ZSH).stderr + run("zsh", "-n", ZSH.with_name(f"_{JUDGE}")).stderr, ""))
+        compared.append(("the faults that zsh finds", "".join(run("zsh", "-n", ZSH.with_name(f"_{name}")).stderr for name in PROGRAMS), ""))
     else:
         print("skipped, there is no zsh: the faults that it finds")
     wrong = [f"{what}: {found}, and must be {wanted}" for what, found, wanted in compared if found != wanted]

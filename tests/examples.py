@@ -1,7 +1,7 @@
 #!/usr/bin/env python3
-"""Runs the examples of the man pages, of the README and of docs/algorithms.md, and compares what they print with what stands there.
+"""Runs the examples of the man pages, of the README and of pages below docs/, and compares what they print with what stands there.
 
-    tests/examples.py [CMPH [JUDGE]]   the programs are those below crates/ if they are left out
+    tests/examples.py [CMPH [JUDGE [FILTER]]]   the programs are those below crates/ if they are left out
 
 Each page's examples run one after another in one shell, in a folder of its own. Both outputs come together, as on a terminal.
 """
@@ -12,6 +12,9 @@ import tempfile
 from pathlib import Path
 
 TOP = Path(__file__).resolve().parent.parent
+PROGRAMS = ["cmph", "cmph_judge", "cmph_filter"]
+SECTIONS = [("README.md", "## A session", "## Install"), ("docs/algorithms.md", "## Buckets", "## A worked example"),
+            ("docs/filters.md", "## A session", "## When to take which")]
 PRELUDE = 'ended() { local status=$?; printf "\\0"; return $status; }\n'
 
 
@@ -66,9 +69,9 @@ def differences(lines, programs, folder):
 
 def main():
     programs = {name: Path(sys.argv[number] if len(sys.argv) > number else TOP / "crates" / name / "out" / name).resolve()
-                for number, name in enumerate(["cmph", "cmph_judge"], 1)}
+                for number, name in enumerate(PROGRAMS, 1)}
     count, wrong = 0, []
-    for lines in (of_man("cmph"), of_man("cmph_judge"), of_section("README.md", "## A session", "## Install"), of_section("docs/algorithms.md", "## Buckets", "## A worked example")):
+    for lines in [*map(of_man, PROGRAMS), *(of_section(*section) for section in SECTIONS)]:
         with tempfile.TemporaryDirectory() as folder:
             ran, differing = differences(lines, programs, Path(folder))
             count, wrong = count + ran, wrong + differing
