@@ -4,7 +4,7 @@ import resource
 import subprocess
 
 from dumps import TWO_EQUAL
-from room import AS_ROOT, NOBODY, Wrong, case, ends, finished, limited, said, same
+from room import Wrong, case, ends, finished, limited, own_pipe, said, same
 
 JUDGE = "cmph_judge"
 TRUE = b"true\n"
@@ -12,14 +12,6 @@ TRUE = b"true\n"
 
 def judged(text):
     return said(text, JUDGE)
-
-
-def own_pipe():
-    """A pipe that the programs may open again by name."""
-    ends_of = os.pipe()
-    if AS_ROOT:
-        os.fchown(ends_of[0], NOBODY, NOBODY)
-    return ends_of
 
 
 def judged_from(room, given):

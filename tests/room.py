@@ -96,7 +96,7 @@ class Room:
         """The calls on paths of the last run under the shim, in their order, each as its name and its path."""
         return [tuple(os.fsdecode(line).split(" ", 1)) for line in self.get("calls").split(b"\n")[1:-1]]
 
-    def bent_runs(self, words, call, how, on=None):
+    def bent_runs(self, words, call, how, on=None, program="cmph"):
         """Runs with the n-th such call bent, for n from 1 until no call is; yields n and what each run left."""
         number = 0
         while True:
@@ -104,7 +104,7 @@ class Room:
             bend = {"EDGE_CALL": call, "EDGE_NUMBER": str(number), "EDGE_DO": how}
             if on:
                 bend["EDGE_FD"] = on
-            left = self.run(*words, bend=bend)
+            left = self.run(*words, program=program, bend=bend)
             if not self.counts()[4]:
                 same(f"whether there is a {call} to bend", number > 1, True)
                 return
@@ -135,6 +135,14 @@ def closed_once(room):
 
 def said(text, program="cmph"):
     return f"{program}: {text}\n".encode()
+
+
+def own_pipe():
+    """A pipe that the programs may open again by name."""
+    ends_of = os.pipe()
+    if AS_ROOT:
+        os.fchown(ends_of[0], NOBODY, NOBODY)
+    return ends_of
 
 
 def closed(number):

@@ -1,8 +1,9 @@
 //! What the judge of reports says of small reports, and of arguments and files that are none.
 use crate::equal::expect_equal_at;
-use cm_io::Disk;
+use crate::running::{AMPLE, Program, disk_with, expect_left, run_over};
+use cm_io::{Disk, Sink};
 use cm_judge::judge_run;
-use cm_outer::{BentDisk, DiskCall, MemDisk, MemSink};
+use cm_outer::BentDisk;
 use std::alloc::{AllocError, Global};
 use std::process::Abort;
 use std::test::Fail;
@@ -23,71 +24,20 @@ const TWICE: &[u8] =
 /// The arguments of most runs.
 pub(crate) const PLAIN: &[&str] = &["cmph_judge", "report", "keys"];
 
-/// The room for out and err if nothing is to fail, in bytes.
-pub(crate) const AMPLE: usize = 1_000;
+/// The judge of reports.
+pub(crate) struct Judge {}
 
-/// What a run leaves: its status, and what out and err got.
-#[derive(Drop)]
-pub(crate) struct Left {
-    pub status: u8,
-    pub out: Vec<u8>,
-    pub err: Vec<u8>,
-}
-
-/// Runs a command over a disk, with this room for out.
-pub(crate) fn run_over<D: Disk>(
-    alloc: Global,
-    words: &[&str],
-    disk: &mut D,
-    out_room: usize,
-) -> Result<Left, AllocError> {
-    let mut owned = Vec::new(alloc);
-    for word in words {
-        owned.push(String::from_str(alloc, *word)?)?;
+impl Program for Judge {
+    fn run<D: Disk, O: Sink, E: Sink>(
+        &self,
+        alloc: Global,
+        words: &[String],
+        disk: &mut D,
+        out: &mut O,
+        err: &mut E,
+    ) -> u8 {
+        judge_run(alloc, words, disk, out, err)
     }
-    let mut out = MemSink::new(alloc, out_room, Vec::new(alloc))?;
-    let mut err = MemSink::new(alloc, AMPLE, Vec::new(alloc))?;
-    let status = judge_run(alloc, &owned, disk, &mut out, &mut err);
-    Ok(Left {
-        status,
-        out: out.bytes().to_vec(alloc)?,
-        err: err.bytes().to_vec(alloc)?,
-    })
-}
-
-/// A disk with these files, of which one call fails, if it is named.
-pub(crate) fn disk_with(
-    alloc: Global,
-    report: Option<&[u8]>,
-    keys: Option<&[u8]>,
-    fails: Option<(DiskCall, u64)>,
-) -> Result<MemDisk, AllocError> {
-    let mut disk = MemDisk::new(alloc, AMPLE);
-    if let Some(bytes) = report {
-        disk.put("report", bytes)?;
-    }
-    if let Some(bytes) = keys {
-        disk.put("keys", bytes)?;
-    }
-    if let Some((call, number)) = fails {
-        disk.fail(call, number)?;
-    }
-    Ok(disk)
-}
-
-/// Fails the test unless a run has left this.
-pub(crate) fn expect_left(
-    rt: &impl Abort,
-    words: &[&str],
-    left: &Left,
-    status: u8,
-    out: &[u8],
-    err: &str,
-) {
-    let row = (words, out, err);
-    expect_equal_at(rt, &row, &left.status, &status);
-    expect_equal_at(rt, &row, &(&left.out as &[u8]), &out);
-    expect_equal_at(rt, &row, &(&left.err as &[u8]), &err.as_bytes());
 }
 
 /// Runs a command over a disk with these files, and compares all that it leaves.
@@ -98,66 +48,69 @@ fn expect_run(
     files: (Option<&[u8]>, Option<&[u8]>),
     end: (u8, &[u8], &str),
 ) -> Result<(), AllocError> {
-    let mut disk = disk_with(alloc, files.0, files.1, None)?;
-    let left = run_over(alloc, words, &mut disk, AMPLE)?;
+    let named = [("report", files.0), ("keys", files.1)];
+    let mut disk = disk_with(alloc, &named, None)?;
+    let left = run_over(&Judge {}, alloc, words, &mut disk, AMPLE)?;
     expect_left(rt, words, &left, end.0, end.1, end.2);
     expect_equal_at(rt, &words, &disk.get("report"), &files.0);
     expect_equal_at(rt, &words, &disk.get("keys"), &files.1);
     Ok(())
 }
 
+/// Reports and keys, each with the status and the output of its verdict.
+const VERDICTS: [(&[u8], &[u8], u8, &[u8]); 11] = [
+    (TWO, EMPTIES, 0, b"true\n"),
+    (
+        b"core chm seed 0 edges 2\nedge 1 4 1\nedge 2 4 1\n",
+        EMPTIES,
+        1,
+        b"false: pair of line 2\n",
+    ),
+    (
+        b"core chm seed 0 edges 1\nedge 2 4 1\n",
+        EMPTIES,
+        1,
+        b"false: vertex 1 is touched once\n",
+    ),
+    (
+        b"core chm seed 0 edges 2\nedge 1 1 7\nedge 3 1 7\nequal 1 3\n",
+        EMPTIES_AND_A,
+        1,
+        b"false: line 4 is missing\n",
+    ),
+    (TWO, b"\n", 1, b"false: line 2 is no key\n"),
+    (TWO, b"\n\nx\n", 1, b"false: line 1 has other vertices\n"),
+    (
+        b"core bdz seed 0 edges 2\nedge 1 1 4 7\nedge 2 1 4 7\nequal 1 2\n",
+        EMPTIES,
+        0,
+        b"true\n",
+    ),
+    (
+        b"core bdz_ph seed 0 edges 2\nedge 1 1 4 7\nedge 2 1 4 7\nequal 1 2\n",
+        EMPTIES,
+        0,
+        b"true\n",
+    ),
+    (TWICE, b"a\na\n", 0, b"true\n"),
+    (
+        b"core brz split 0 bucket 1 seed 0 edges 1\nedge 1 2 5 8\n",
+        b"a\na\n",
+        1,
+        b"false: no such bucket\n",
+    ),
+    (
+        b"overfull brz seed 0 bucket 0 keys 1024\n",
+        EMPTIES,
+        1,
+        b"false: no such bucket\n",
+    ),
+];
+
 /// Each verdict.
 #[test]
 fn verdicts(rt: HostRuntime) -> Result<(), Fail> {
-    let rows: [(&[u8], &[u8], u8, &[u8]); 11] = [
-        (TWO, EMPTIES, 0, b"true\n"),
-        (
-            b"core chm seed 0 edges 2\nedge 1 4 1\nedge 2 4 1\n",
-            EMPTIES,
-            1,
-            b"false: pair of line 2\n",
-        ),
-        (
-            b"core chm seed 0 edges 1\nedge 2 4 1\n",
-            EMPTIES,
-            1,
-            b"false: vertex 1 is touched once\n",
-        ),
-        (
-            b"core chm seed 0 edges 2\nedge 1 1 7\nedge 3 1 7\nequal 1 3\n",
-            EMPTIES_AND_A,
-            1,
-            b"false: line 4 is missing\n",
-        ),
-        (TWO, b"\n", 1, b"false: line 2 is no key\n"),
-        (TWO, b"\n\nx\n", 1, b"false: line 1 has other vertices\n"),
-        (
-            b"core bdz seed 0 edges 2\nedge 1 1 4 7\nedge 2 1 4 7\nequal 1 2\n",
-            EMPTIES,
-            0,
-            b"true\n",
-        ),
-        (
-            b"core bdz_ph seed 0 edges 2\nedge 1 1 4 7\nedge 2 1 4 7\nequal 1 2\n",
-            EMPTIES,
-            0,
-            b"true\n",
-        ),
-        (TWICE, b"a\na\n", 0, b"true\n"),
-        (
-            b"core brz split 0 bucket 1 seed 0 edges 1\nedge 1 2 5 8\n",
-            b"a\na\n",
-            1,
-            b"false: no such bucket\n",
-        ),
-        (
-            b"overfull brz seed 0 bucket 0 keys 1024\n",
-            EMPTIES,
-            1,
-            b"false: no such bucket\n",
-        ),
-    ];
-    for (report, keys, status, out) in rows {
+    for (report, keys, status, out) in VERDICTS {
         let files = (Some(report), Some(keys));
         expect_run(&rt, rt.alloc(), PLAIN, files, (status, out, ""))?;
     }
@@ -199,75 +152,77 @@ fn no_verdicts(rt: HostRuntime) -> Result<(), Fail> {
     Ok(())
 }
 
+/// Arguments and keys, each with the status and the output of its run, to out and to err.
+const ARGUMENTS: [(&[&str], &[u8], u8, &[u8], &str); 9] = [
+    (
+        &["cmph_judge", "-k", "2", "report", "keys"],
+        b"\n\nx\n",
+        0,
+        b"true\n",
+        "",
+    ),
+    (
+        &["cmph_judge", "-z", "report", "keys"],
+        b"\0\0",
+        0,
+        b"true\n",
+        "",
+    ),
+    (
+        &["cmph_judge", "-c", "2.09", "-b", "700", "report", "keys"],
+        EMPTIES,
+        0,
+        b"true\n",
+        "",
+    ),
+    (
+        &["cmph_judge", "-c", "3", "report", "keys"],
+        EMPTIES,
+        1,
+        b"false: line 1 has other vertices\n",
+        "",
+    ),
+    (
+        &["cmph_judge", "-k", "1", "report", "keys"],
+        EMPTIES,
+        1,
+        b"false: line 2 is no key\n",
+        "",
+    ),
+    (
+        &["cmph_judge", "report"],
+        EMPTIES,
+        2,
+        b"",
+        "cmph_judge: bad arguments\n",
+    ),
+    (
+        &["cmph_judge", "-h"],
+        EMPTIES,
+        2,
+        b"",
+        "cmph_judge: bad arguments\n",
+    ),
+    (
+        &["cmph_judge", "-k", "0", "-b", "63", "report", "keys"],
+        EMPTIES,
+        2,
+        b"",
+        "cmph_judge: bad value of -b\n",
+    ),
+    (
+        &["cmph_judge", "-c", "10.1", "report", "keys"],
+        EMPTIES,
+        2,
+        b"",
+        "cmph_judge: bad value of -c\n",
+    ),
+];
+
 /// What options do, and arguments that ask for no job.
 #[test]
 fn arguments(rt: HostRuntime) -> Result<(), Fail> {
-    let rows: [(&[&str], &[u8], u8, &[u8], &str); 9] = [
-        (
-            &["cmph_judge", "-k", "2", "report", "keys"],
-            b"\n\nx\n",
-            0,
-            b"true\n",
-            "",
-        ),
-        (
-            &["cmph_judge", "-z", "report", "keys"],
-            b"\0\0",
-            0,
-            b"true\n",
-            "",
-        ),
-        (
-            &["cmph_judge", "-c", "2.09", "-b", "700", "report", "keys"],
-            EMPTIES,
-            0,
-            b"true\n",
-            "",
-        ),
-        (
-            &["cmph_judge", "-c", "3", "report", "keys"],
-            EMPTIES,
-            1,
-            b"false: line 1 has other vertices\n",
-            "",
-        ),
-        (
-            &["cmph_judge", "-k", "1", "report", "keys"],
-            EMPTIES,
-            1,
-            b"false: line 2 is no key\n",
-            "",
-        ),
-        (
-            &["cmph_judge", "report"],
-            EMPTIES,
-            2,
-            b"",
-            "cmph_judge: bad arguments\n",
-        ),
-        (
-            &["cmph_judge", "-h"],
-            EMPTIES,
-            2,
-            b"",
-            "cmph_judge: bad arguments\n",
-        ),
-        (
-            &["cmph_judge", "-k", "0", "-b", "63", "report", "keys"],
-            EMPTIES,
-            2,
-            b"",
-            "cmph_judge: bad value of -b\n",
-        ),
-        (
-            &["cmph_judge", "-c", "10.1", "report", "keys"],
-            EMPTIES,
-            2,
-            b"",
-            "cmph_judge: bad value of -c\n",
-        ),
-    ];
-    for (words, keys, status, out, err) in rows {
+    for (words, keys, status, out, err) in ARGUMENTS {
         let files = (Some(TWO), Some(keys));
         expect_run(&rt, rt.alloc(), words, files, (status, out, err))?;
     }
@@ -289,7 +244,7 @@ fn keys_that_change(rt: HostRuntime) -> Result<(), Fail> {
         }
         assert!(rt; !passes.is_empty());
         let mut disk = BentDisk::new(alloc, AMPLE, passes, 0, 0);
-        let left = run_over(alloc, PLAIN, &mut disk, AMPLE)?;
+        let left = run_over(&Judge {}, alloc, PLAIN, &mut disk, AMPLE)?;
         expect_left(&rt, PLAIN, &left, 7, b"", err);
     }
     Ok(())

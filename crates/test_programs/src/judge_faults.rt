@@ -1,6 +1,7 @@
 //! The judge of reports over a disk of which each call fails in turn, and with little room for out.
 use crate::equal::{expect_equal_at, expect_prefix_at};
-use crate::judge::{AMPLE, EMPTIES, PLAIN, TWO, disk_with, expect_left, run_over};
+use crate::judge::{EMPTIES, Judge, PLAIN, TWO};
+use crate::running::{AMPLE, disk_with, expect_left, run_over};
 use cm_outer::DiskCall;
 use std::alloc::{AllocError, Global};
 use std::process::Abort;
@@ -15,6 +16,9 @@ const KEYS_UNREAD: &str = "cmph_judge: keys: cannot read\n";
 
 const OUT_UNWRITTEN: &str = "cmph_judge: cannot write standard output\n";
 
+/// A report, and its keys.
+const FILES: [(&str, Option<&[u8]>); 2] = [("report", Some(TWO)), ("keys", Some(EMPTIES))];
+
 /// Lets one call fail, and returns what is said of that, or nothing if the judge comes to its end without it.
 fn message_of(
     rt: &impl Abort,
@@ -22,8 +26,8 @@ fn message_of(
     call: DiskCall,
     number: u64,
 ) -> Result<Vec<u8>, AllocError> {
-    let mut disk = disk_with(alloc, Some(TWO), Some(EMPTIES), Some((call, number)))?;
-    let left = run_over(alloc, PLAIN, &mut disk, AMPLE)?;
+    let mut disk = disk_with(alloc, &FILES, Some((call, number)))?;
+    let left = run_over(&Judge {}, alloc, PLAIN, &mut disk, AMPLE)?;
     if left.err.is_empty() {
         expect_left(rt, PLAIN, &left, 0, b"true\n", "");
     } else {
@@ -81,8 +85,8 @@ fn disk_calls(rt: HostRuntime) -> Result<(), Fail> {
 #[test]
 fn out_that_fails(rt: HostRuntime) -> Result<(), Fail> {
     for room in 0..5usize {
-        let mut disk = disk_with(rt.alloc(), Some(TWO), Some(EMPTIES), None)?;
-        let left = run_over(rt.alloc(), PLAIN, &mut disk, room)?;
+        let mut disk = disk_with(rt.alloc(), &FILES, None)?;
+        let left = run_over(&Judge {}, rt.alloc(), PLAIN, &mut disk, room)?;
         expect_equal_at(&rt, &room, &left.status, &5);
         expect_prefix_at(&rt, &room, &left.out, b"true\n");
         expect_equal_at(&rt, &room, &(&left.err as &[u8]), &OUT_UNWRITTEN.as_bytes());

@@ -4,6 +4,20 @@
 #[cfg(test)]
 mod equal;
 #[cfg(test)]
+mod filter;
+#[cfg(test)]
+mod filter_bytes;
+#[cfg(test)]
+mod filter_calls;
+#[cfg(test)]
+mod filter_faults;
+#[cfg(test)]
+mod filter_files;
+#[cfg(test)]
+mod filter_reads;
+#[cfg(test)]
 mod judge;
 #[cfg(test)]
 mod judge_faults;
+#[cfg(test)]
+mod running;
