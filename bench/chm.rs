@@ -1,47 +1,12 @@
 //! A CHM build and a query in plain Rust, measured beside `cmph`: the same algorithms, and byte by byte the same function file and
 //! the same text. It checks nothing. Built by `bench/compare.py`; how it is called stands in `plain.rs`.
 
+mod fields;
 mod plain;
 
+use fields::Fields;
 use plain::{CHUNK, Divisor, Edges, Function, Peeled, gather};
 use std::io::{self, Write};
-
-fn width(bound: u32) -> u32 {
-    (1..27).find(|w| bound <= 1 << w).unwrap()
-}
-
-/// Cells of so many bits, one after another, with spare bytes at the end.
-struct Fields {
-    bytes: Vec<u8>,
-    width: u32,
-    mask: u32,
-}
-
-impl Fields {
-    fn new(bytes: Vec<u8>, bound: u32) -> Fields {
-        let width = width(bound);
-        let mask = (1 << width) - 1;
-        Fields { bytes, width, mask }
-    }
-
-    fn window(&self, i: u32) -> (usize, u32, u64) {
-        let bit = i as u64 * self.width as u64;
-        let at = (bit / 8) as usize;
-        let bytes = self.bytes[at..at + 8].try_into().unwrap();
-        (at, (bit % 8) as u32, u64::from_le_bytes(bytes))
-    }
-
-    fn get(&self, i: u32) -> u32 {
-        let (_, shift, window) = self.window(i);
-        (window >> shift) as u32 & self.mask
-    }
-
-    fn set(&mut self, i: u32, value: u32) {
-        let (at, shift, window) = self.window(i);
-        let new = window & !((self.mask as u64) << shift) | (value as u64) << shift;
-        self.bytes[at..at + 8].copy_from_slice(&new.to_le_bytes());
-    }
-}
 
 struct Chm {
     m: u32,
@@ -76,8 +41,7 @@ impl Function<2> for Chm {
     /// Edge by edge in the reverse of the order of peeling. The ends of some edges are read before the first of their cells is set.
     fn assign(edges: &Edges<2>, peeled: &Peeled) -> Chm {
         let m = edges.ends.len() as u32;
-        let len = (edges.vertices as u64 * width(m) as u64).div_ceil(8) as usize;
-        let mut cells = Fields::new(vec![0; len + 8], m);
+        let mut cells = Fields::zeroed(edges.vertices, m);
         let mut ends = [[0; 2]; CHUNK];
         let mut positions = [0; CHUNK];
         for chunk in peeled.order.rchunks(CHUNK) {
@@ -92,13 +56,11 @@ impl Function<2> for Chm {
     }
 
     fn save(&self, file: &mut impl Write) -> io::Result<()> {
-        let bytes = &self.cells.bytes;
-        file.write_all(&bytes[..bytes.len() - 8])
+        file.write_all(self.cells.image())
     }
 
-    fn load(m: u32, _n: u32, mut bytes: Vec<u8>) -> Chm {
-        bytes.extend_from_slice(&[0; 8]);
-        let cells = Fields::new(bytes, m);
+    fn load(m: u32, _n: u32, bytes: Vec<u8>) -> Chm {
+        let cells = Fields::from_image(bytes, m);
         Chm { m, cells }
     }
 

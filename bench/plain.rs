@@ -287,6 +287,15 @@ fn peeled<W: Word, const K: usize>(edges: &Edges<K>, timed: bool, start: &mut In
     peeled
 }
 
+/// Peels edges, with words of 4 bytes if their places fit.
+pub fn peel_all<const K: usize>(edges: &Edges<K>, timed: bool, start: &mut Instant) -> Peeled {
+    if edges.ends.len() <= MOST_NARROW as usize {
+        peeled::<u32, K>(edges, timed, start)
+    } else {
+        peeled::<u64, K>(edges, timed, start)
+    }
+}
+
 fn build<F: Function<K>, const K: usize>(path: &str, seed: u32, timed: bool) -> io::Result<()> {
     let mut start = Instant::now();
     let m = count_lines(path)?;
@@ -297,11 +306,7 @@ fn build<F: Function<K>, const K: usize>(path: &str, seed: u32, timed: bool) -> 
     for_lines(path, |key| ends.push(F::edge(words(key, seed), &range)))?;
     let edges = Edges { vertices: n, ends };
     tell(timed, "hash", &mut start);
-    let peeled = if m <= MOST_NARROW {
-        peeled::<u32, K>(&edges, timed, &mut start)
-    } else {
-        peeled::<u64, K>(&edges, timed, &mut start)
-    };
+    let peeled = peel_all(&edges, timed, &mut start);
     assert_eq!(peeled.order.len(), m as usize, "the graph has a 2-core");
     let function = F::assign(&edges, &peeled);
     tell(timed, "assign", &mut start);
