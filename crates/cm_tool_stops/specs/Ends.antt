@@ -2,12 +2,12 @@
 use Rattle.std.specs.Prelude.{◌≡◌, ◌<◌, ◌^◌, ℕ, List, [], take}
 use Rattle.cm_io.specs.States.{SinkState}
 use Rattle.cm_io.specs.Writing.{then_bytes}
-use Rattle.cm_tool_stops.specs.Messages.{bad_dump, cannot_write_out, out_of_memory, cannot_read, cannot_use_spill, cannot_write, keys_changed, no_keys, line_too_long, seed_failure_message, spill_damaged, too_many_keys}
+use Rattle.cm_tool_stops.specs.Messages.{bad_dump, cannot_write_out, out_of_memory, cannot_read, cannot_use_spill, cannot_write, keys_changed, no_keys, line_too_long, records_too_large, seed_failure_message, spill_damaged, too_many_keys}
 use Rattle.cm_tool_stops.specs.Named.{Named}
 use Rattle.cm_tool_stops.specs.declared.stop.QueryStop.{QueryStop}
 use Rattle.cm_tool_stops.specs.declared.stop.QueryStop.TheVariants as query_stop
 use Rattle.cm_tool_stops.specs.declared.stop.Stop.{Stop}
-use Rattle.cm_tool_stops.specs.declared.stop.Stop.TheVariants.{Memory, Read, Write, WriteOut, Refused, Changed, Spill, SpillDamaged, NoKeys, TooLong, TooMany}
+use Rattle.cm_tool_stops.specs.declared.stop.Stop.TheVariants.{Memory, Read, Write, WriteOut, Refused, Changed, Spill, SpillDamaged, NoKeys, TooLong, TooMany, TooLarge}
 use Rattle.cm_tool_stops.specs.declared.stop.UpgradeStop.{UpgradeStop}
 use Rattle.cm_tool_stops.specs.declared.stop.UpgradeStop.TheVariants as upgrade_stop
 use Rattle.cm_words_arguments.specs.declared.fault.UsageFault.{UsageFault}
@@ -26,6 +26,7 @@ status_of (SpillDamaged offset expected found) = 7
 status_of NoKeys = 8
 status_of (TooLong line) = 8
 status_of TooMany = 8
+status_of (TooLarge line) = 8
 
 -- its message, by what it names and by the directory of the spill
 abbrev pub message_of : Named → List ℕ → Stop → List ℕ
@@ -40,6 +41,7 @@ message_of names dir (SpillDamaged offset expected found) = spill_damaged names.
 message_of names dir NoKeys = no_keys names.program names.keys
 message_of names dir (TooLong line) = line_too_long names.program names.keys line
 message_of names dir TooMany = too_many_keys names.program names.keys
+message_of names dir (TooLarge line) = records_too_large names.program names.keys line
 
 -- the status of a query that stopped
 abbrev pub query_status_of : {F : Type 0} → QueryStop F → ℕ

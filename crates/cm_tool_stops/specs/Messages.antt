@@ -90,6 +90,9 @@ line_too_long program file line = joined (program ∷ codes ": " ∷ file ∷ co
 abbrev pub too_many_keys : List ℕ → List ℕ → List ℕ
 too_many_keys program file = joined (program ∷ codes ": " ∷ file ∷ codes ": more than " ∷ decimal MAX_KEYS ∷ codes " keys\n" ∷ [])
 
+abbrev pub records_too_large : List ℕ → List ℕ → ℕ → List ℕ
+records_too_large program file line = joined (program ∷ codes ": " ∷ file ∷ codes ": records are too large at line " ∷ decimal line ∷ codes "\n" ∷ [])
+
 -- what is said of the fault at the end of the keys
 abbrev pub fault_message : List ℕ → List ℕ → KeyFault → List ℕ
 fault_message program file Read = cannot_read program file

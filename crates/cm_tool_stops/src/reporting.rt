@@ -4,7 +4,7 @@ ghost use Rattle.cm_io.specs.States.{IsSent};
 ghost use Rattle.cm_io.specs.Noting.{Noted};
 ghost use Rattle.cm_io.specs.Writing.{joined};
 ghost use Rattle.cm_tool_stops.specs.Ends.{Says, status_of, message_of, query_status_of, query_message_of, upgrade_status_of, upgrade_message_of, usage_status_of};
-ghost use Rattle.cm_tool_stops.specs.Messages.{cannot_read, cannot_write, cannot_write_out, keys_changed, line_too_long, out_of_memory, seed_failure_message, spill_damaged, too_many_keys, usage_message};
+ghost use Rattle.cm_tool_stops.specs.Messages.{cannot_read, cannot_write, cannot_write_out, keys_changed, line_too_long, out_of_memory, records_too_large, seed_failure_message, spill_damaged, too_many_keys, usage_message};
 ghost use Rattle.cm_tool_stops.specs.Named.{named};
 
 use crate::dumps::explain_dump;
@@ -124,6 +124,7 @@ fn explain<E: Sink>(stop: Stop, names: &Names<'_>, dir: &[u8], err: &mut E, note
         Stop::NoKeys => notes.note_pieces(err, &[program, b": ", keys, b": no keys\n"]),
         Stop::TooLong { line } => note_long_line(program, keys, line, err, notes),
         Stop::TooMany => note_many_keys(program, keys, err, notes),
+        Stop::TooLarge { line } => note_large_records(program, keys, line, err, notes),
     }
 }
 
@@ -142,7 +143,7 @@ fn status(stop: Stop) -> u8
             expected: _,
             found: _,
         } => 7,
-        Stop::NoKeys | Stop::TooLong { line: _ } | Stop::TooMany => 8,
+        Stop::NoKeys | Stop::TooLong { line: _ } | Stop::TooMany | Stop::TooLarge { line: _ } => 8,
     }
 }
 
@@ -390,5 +391,31 @@ fn note_many_keys<E: Sink>(program: &[u8], file: &[u8], err: &mut E, notes: &mut
     notes.note_pieces(
         err,
         &[program, b": ", file, b": more than ", text, b" keys\n"],
+    );
+}
+
+/// Notes that the records up to a line take too many bytes.
+fn note_large_records<E: Sink>(
+    program: &[u8],
+    file: &[u8],
+    line: u32,
+    err: &mut E,
+    notes: &mut Notes,
+)
+    ensures noted { Noted notes.old notes.new (E.state err.old) (E.state err.new) (records_too_large program.now file.now line) }
+    ensures sent { notes.new ≡ false → (E.state err.new).waits ≡ 0 }
+{
+    let mut buffer = Buffer::new();
+    let text = buffer.format(line).as_bytes();
+    notes.note_pieces(
+        err,
+        &[
+            program,
+            b": ",
+            file,
+            b": records are too large at line ",
+            text,
+            b"\n",
+        ],
     );
 }

@@ -37,6 +37,10 @@ pub enum Stop {
     },
     /// There are more keys than a function may have.
     TooMany,
+    /// The records up to a line, counted from 1, take more bytes than a store may have.
+    TooLarge {
+        line: u32,
+    },
 }
 
 /// What kept an upgrade from its end.

@@ -61,3 +61,9 @@ returns-in-TooMany-clause-noted g c =
     let program : c.as_bytes-program.result.now ≡ c.args.names.now.program.now = c.as_bytes-program.ensures.value in
     let keys : c.as_bytes-keys.result.now ≡ c.args.names.now.keys.now = c.as_bytes-keys.ensures.value in
     rw c.in-TooMany.is (rw (program, keys) at c.note_many_keys.ensures.noted)
+
+pub returns-in-TooLarge-clause-noted : goal.returns-in-TooLarge-clause-noted
+returns-in-TooLarge-clause-noted g c =
+    let program : c.as_bytes-program.result.now ≡ c.args.names.now.program.now = c.as_bytes-program.ensures.value in
+    let keys : c.as_bytes-keys.result.now ≡ c.args.names.now.keys.now = c.as_bytes-keys.ensures.value in
+    rw c.in-TooLarge.is (rw (program, keys) at c.note_large_records.ensures.noted)
