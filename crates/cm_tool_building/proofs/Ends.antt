@@ -12,7 +12,7 @@ use Rattle.cm_tool_building.specs.OutcomeLaws.{outcome_there, refused_outcome}
 use Rattle.cm_tool_building.specs.Stores.{IsPart}
 use Rattle.cm_tool_stops.specs.Ending.{LacksFile, Outcome, Reaches}
 use Rattle.cm_tool_stops.specs.Ends.{Says, message_of, status_of}
-use Rattle.cm_tool_stops.specs.declared.stop.Stop.TheVariants.{Memory, Read, Write, WriteOut, Refused, Changed, Spill, SpillDamaged, NoKeys, TooLong, TooMany}
+use Rattle.cm_tool_stops.specs.declared.stop.Stop.TheVariants.{Memory, Read, Write, WriteOut, Refused, Changed, Spill, SpillDamaged, NoKeys, TooLong, TooMany, TooLarge}
 use Rattle.cm_tool_stops.specs.declared.stop.Stop.{Stop}
 
 none_some : {o : Outcome} → None ≡ Some o → ⊥
@@ -58,6 +58,7 @@ stopped b old new (SpillDamaged offset expected found) files leaves same says fo
 stopped b old new NoKeys files leaves same says four five six is = let refused = leaves.1 files is in quiet_end b files old new refused.0 _ refused.1 refused.2 same says (leaves.0 ∙ is)
 stopped b old new (TooLong line) files leaves same says four five six is = let refused = leaves.1 files is in quiet_end b files old new refused.0 _ refused.1 refused.2 same says (leaves.0 ∙ is)
 stopped b old new TooMany files leaves same says four five six is = let refused = leaves.1 files is in quiet_end b files old new refused.0 _ refused.1 refused.2 same says (leaves.0 ∙ is)
+stopped b old new (TooLarge line) files leaves same says four five six is = let refused = leaves.1 files is in quiet_end b files old new refused.0 _ refused.1 refused.2 same says (leaves.0 ∙ is)
 
 -- if the keys file is there, there is an outcome
 none_there : {M : Type 0} (b : Building M) (files : Files) (bytes : List ℕ) → file_at files b.named.keys ≡ Some bytes → outcome_of b files ≡ None → ⊥
@@ -81,6 +82,7 @@ missing b old new (SpillDamaged offset expected found) files leaves same is none
 missing b old new NoKeys files leaves same is none = let refused = leaves.1 files is in absurd (none_there b files refused.0 refused.1 none)
 missing b old new (TooLong line) files leaves same is none = let refused = leaves.1 files is in absurd (none_there b files refused.0 refused.1 none)
 missing b old new TooMany files leaves same is none = let refused = leaves.1 files is in absurd (none_there b files refused.0 refused.1 none)
+missing b old new (TooLarge line) files leaves same is none = let refused = leaves.1 files is in absurd (none_there b files refused.0 refused.1 none)
 
 -- a build that came to its end
 pub finished : {M : Type 0} (b : Building M) (old new : Outside) (made : M) (files : Files) → Leaves b old.disk.files new.disk.files old.out.written new.out.written (Ok made) → new.out.written ≡ old.out.written → Says old.err new.err (b.meaning.said made) → old.disk.files ≡ Some files
@@ -111,6 +113,7 @@ refused_with b old new out out_new (SpillDamaged offset expected found) files le
 refused_with b old new out out_new NoKeys files leaves is one = absurd (omega arith)
 refused_with b old new out out_new (TooLong line) files leaves is one = absurd (omega arith)
 refused_with b old new out out_new TooMany files leaves is one = absurd (omega arith)
+refused_with b old new out out_new (TooLarge line) files leaves is one = absurd (omega arith)
 
 part_of : {M : Type 0} (b : Building M) (old new : Option Files) {bytes text : List ℕ} → bytes ≡ text → IsPart b.named.function bytes old new → IsPart b.named.function text old new
 part_of b old new is part = subst (λ (bytes : List ℕ). IsPart b.named.function bytes old new) is part
@@ -135,6 +138,7 @@ written_part b old new (SpillDamaged offset expected found) files leaves same fo
 written_part b old new NoKeys files leaves same form count says is five = absurd (omega arith)
 written_part b old new (TooLong line) files leaves same form count says is five = absurd (omega arith)
 written_part b old new TooMany files leaves same form count says is five = absurd (omega arith)
+written_part b old new (TooLarge line) files leaves same form count says is five = absurd (omega arith)
 
 -- a build for which memory ran out
 pub emptied : {M : Type 0} (b : Building M) (old new : Option Files) (out out_new : Option (List ℕ)) (stop : Stop) → Leaves b old new out out_new (Err stop) → status_of stop ≡ 6 → (new ≡ old) ⊎ IsEmptied b old new
@@ -150,6 +154,7 @@ emptied b old new out out_new (SpillDamaged offset expected found) leaves six = 
 emptied b old new out out_new NoKeys leaves six = absurd (omega arith)
 emptied b old new out out_new (TooLong line) leaves six = absurd (omega arith)
 emptied b old new out out_new TooMany leaves six = absurd (omega arith)
+emptied b old new out out_new (TooLarge line) leaves six = absurd (omega arith)
 
 -- the status of a build that stopped is one of a build's
 pub stop_status : (stop : Stop) → has statuses (status_of stop) ≡ true
@@ -164,6 +169,7 @@ stop_status (SpillDamaged offset expected found) = refl
 stop_status NoKeys = refl
 stop_status (TooLong line) = refl
 stop_status TooMany = refl
+stop_status (TooLarge line) = refl
 
 -- over known files it is not 7
 pub stop_known : {M : Type 0} (b : Building M) (old new : Option Files) (out out_new : Option (List ℕ)) (stop : Stop) (files : Files) → Leaves b old new out out_new (Err stop) → old ≡ Some files → status_of stop ≢ 7
@@ -178,6 +184,7 @@ stop_known b old new out out_new (SpillDamaged offset expected found) files leav
 stop_known b old new out out_new NoKeys files leaves is seven = absurd (omega (arith, seven))
 stop_known b old new out out_new (TooLong line) files leaves is seven = absurd (omega (arith, seven))
 stop_known b old new out out_new TooMany files leaves is seven = absurd (omega (arith, seven))
+stop_known b old new out out_new (TooLarge line) files leaves is seven = absurd (omega (arith, seven))
 
 -- the files are as they were, unless they could not be written or memory ran out
 pub stop_kept : {M : Type 0} (b : Building M) (old new : Option Files) (out out_new : Option (List ℕ)) (stop : Stop) → Leaves b old new out out_new (Err stop) → status_of stop ≢ 5 → status_of stop ≢ 6 → new ≡ old
@@ -192,6 +199,7 @@ stop_kept b old new out out_new (SpillDamaged offset expected found) leaves five
 stop_kept b old new out out_new NoKeys leaves five six = leaves.0
 stop_kept b old new out out_new (TooLong line) leaves five six = leaves.0
 stop_kept b old new out out_new TooMany leaves five six = leaves.0
+stop_kept b old new out out_new (TooLarge line) leaves five six = leaves.0
 
 -- and out is, unless there is a report
 pub stop_quiet : (out out_new : Option (List ℕ)) (stop : Stop) → KeepsOut out out_new stop → status_of stop ≢ 1 → status_of stop ≢ 5 → out_new ≡ out
@@ -206,3 +214,4 @@ stop_quiet out out_new (SpillDamaged offset expected found) same one five = same
 stop_quiet out out_new NoKeys same one five = same
 stop_quiet out out_new (TooLong line) same one five = same
 stop_quiet out out_new TooMany same one five = same
+stop_quiet out out_new (TooLarge line) same one five = same

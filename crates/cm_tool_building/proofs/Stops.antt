@@ -11,7 +11,7 @@ use Rattle.cm_tool_building.specs.Makes.{IsAllowedFault, IsAllowedStop, IsMakeCa
 use Rattle.cm_tool_building.specs.declared.fault.Fault.{Fault}
 use Rattle.cm_tool_building.specs.declared.fault.Fault.TheVariants as made_fault
 use Rattle.cm_tool_stops.specs.EndLaws.{collected}
-use Rattle.cm_tool_stops.specs.declared.stop.Stop.TheVariants.{Memory, Read, Write, WriteOut, Refused, Changed, Spill, SpillDamaged, NoKeys, TooLong, TooMany}
+use Rattle.cm_tool_stops.specs.declared.stop.Stop.TheVariants.{Memory, Read, Write, WriteOut, Refused, Changed, Spill, SpillDamaged, NoKeys, TooLong, TooMany, TooLarge}
 use Rattle.cm_tool_stops.specs.declared.stop.Stop.{Stop}
 
 -- out got the report on keys of which nothing is made
@@ -27,6 +27,7 @@ reported b files bytes failure report old new (SpillDamaged offset expected foun
 reported b files bytes failure report old new NoKeys there is got = absurd got
 reported b files bytes failure report old new (TooLong line) there is got = absurd got
 reported b files bytes failure report old new TooMany there is got = absurd got
+reported b files bytes failure report old new (TooLarge line) there is got = absurd got
 
 -- a fault over the keys of a file that is there
 pub refused_from : {M R : Type 0} (b : Building M) (report_of : R → List ℕ) (files : Files) (bytes : List ℕ) (fault : Fault R) (old new : Option (List ℕ)) (stop : Stop) → file_at files b.named.keys ≡ Some bytes
@@ -38,6 +39,7 @@ refused_from b report_of files bytes (made_fault.Refused failure report) old new
 refused_from b report_of files bytes (made_fault.Key key_fault.Read) old new stop there refuses stops = rw stops.0 tt
 refused_from b report_of files bytes (made_fault.Key (key_fault.TooLong line)) old new stop there refuses stops = rw stops.0 (bytes, there, refuses)
 refused_from b report_of files bytes (made_fault.Key key_fault.TooMany) old new stop there refuses stops = rw stops.0 (bytes, there, refuses)
+refused_from b report_of files bytes (made_fault.TooLarge line) old new stop there refuses stops = rw stops.0 (bytes, there, refuses)
 refused_from b report_of files bytes (made_fault.Changed first again) old new stop there refuses stops = absurd refuses
 refused_from b report_of files bytes made_fault.Spill old new stop there refuses stops = rw stops.0 (bytes, there, tt)
 refused_from b report_of files bytes (made_fault.SpillDamaged offset expected found) old new stop there refuses stops = absurd refuses
@@ -55,6 +57,7 @@ shown_form may_stop failure report old new (SpillDamaged offset expected found) 
 shown_form may_stop failure report old new NoKeys may got = tt
 shown_form may_stop failure report old new (TooLong line) may got = tt
 shown_form may_stop failure report old new TooMany may got = tt
+shown_form may_stop failure report old new (TooLarge line) may got = absurd got
 
 -- and what any stop has
 pub stop_form : {R : Type 0} (may_stop : Stop → Type 0) (report_of : R → List ℕ) (fault : Fault R) (old new : Option (List ℕ)) (stop : Stop) → IsAllowedFault may_stop fault → StopsFor report_of fault old new stop → IsAllowedStop may_stop stop
@@ -64,6 +67,7 @@ stop_form may_stop report_of (made_fault.Refused failure report) old new stop fo
 stop_form may_stop report_of (made_fault.Key key_fault.Read) old new stop form stops = rw stops.0 form
 stop_form may_stop report_of (made_fault.Key (key_fault.TooLong line)) old new stop form stops = rw stops.0 form
 stop_form may_stop report_of (made_fault.Key key_fault.TooMany) old new stop form stops = rw stops.0 form
+stop_form may_stop report_of (made_fault.TooLarge line) old new stop form stops = rw stops.0 form
 stop_form may_stop report_of (made_fault.Changed first again) old new stop form stops = rw stops.0 form
 stop_form may_stop report_of made_fault.Spill old new stop form stops = rw stops.0 form
 stop_form may_stop report_of (made_fault.SpillDamaged offset expected found) old new stop form stops = rw stops.0 form
@@ -81,6 +85,7 @@ leaves_refused b old new out_old out_new (SpillDamaged offset expected found) sa
 leaves_refused b old new out_old out_new NoKeys same refused = (same, refused)
 leaves_refused b old new out_old out_new (TooLong line) same refused = (same, refused)
 leaves_refused b old new out_old out_new TooMany same refused = (same, refused)
+leaves_refused b old new out_old out_new (TooLarge line) same refused = (same, refused)
 
 -- which counts of the disk a stop for a report has raised: none
 shown_cause : (failure : SeedFailure) (report : List ℕ) (old new : Option (List ℕ)) (stop : Stop) (r r_now w w_now : ℕ) → GotReport failure report old new stop → r_now ≡ r → w_now ≡ w → IsStopCause r r_now w w_now stop
@@ -95,6 +100,7 @@ shown_cause failure report old new (SpillDamaged offset expected found) r r_now 
 shown_cause failure report old new NoKeys r r_now w w_now got read wrote = (read, wrote)
 shown_cause failure report old new (TooLong line) r r_now w w_now got read wrote = (read, wrote)
 shown_cause failure report old new TooMany r r_now w w_now got read wrote = (read, wrote)
+shown_cause failure report old new (TooLarge line) r r_now w w_now got read wrote = (read, wrote)
 
 -- and any stop, once the reader of the keys was handed back
 cause_of : {R : Type 0} (report_of : R → List ℕ) (fault : Fault R) (old new : Option (List ℕ)) (stop : Stop) (count count_now r middle r_now w w_now : ℕ) → StopsFor report_of fault old new stop → IsMakeCause count count_now w w_now fault → count ≡ 0 → Collects count_now middle r_now → middle ≡ r
@@ -107,6 +113,7 @@ cause_of report_of (made_fault.Key key_fault.Read) old new stop count count_now 
     rw stops.0 (omega (arith, back.later, same), collected count count_now r middle r_now cause.0 fresh back same, cause.1)
 cause_of report_of (made_fault.Key (key_fault.TooLong line)) old new stop count count_now r middle r_now w w_now stops cause fresh back same = rw stops.0 (back.none (cause.0 ∙ fresh) ∙ same, cause.1)
 cause_of report_of (made_fault.Key key_fault.TooMany) old new stop count count_now r middle r_now w w_now stops cause fresh back same = rw stops.0 (back.none (cause.0 ∙ fresh) ∙ same, cause.1)
+cause_of report_of (made_fault.TooLarge line) old new stop count count_now r middle r_now w w_now stops cause fresh back same = rw stops.0 (back.none (cause.0 ∙ fresh) ∙ same, cause.1)
 cause_of report_of (made_fault.Changed first again) old new stop count count_now r middle r_now w w_now stops cause fresh back same = rw stops.0 (back.none (cause.0 ∙ fresh) ∙ same, cause.1)
 cause_of report_of made_fault.Spill old new stop count count_now r middle r_now w w_now stops cause fresh back same = rw stops.0 (back.none (cause.0 ∙ fresh) ∙ same, cause.1, cause.2)
 cause_of report_of (made_fault.SpillDamaged offset expected found) old new stop count count_now r middle r_now w w_now stops cause fresh back same = rw stops.0 (back.none (cause.0 ∙ fresh) ∙ same, cause.1)

@@ -6,7 +6,7 @@ use Rattle.cm_io.specs.declared.key_pass.KeyFault.{KeyFault}
 use Rattle.cm_io.specs.declared.key_pass.KeyFault.TheVariants as key_fault
 use Rattle.cm_tool_building.specs.Meanings.{Meaning}
 use Rattle.cm_tool_building.specs.declared.fault.Fault.{Fault}
-use Rattle.cm_tool_building.specs.declared.fault.Fault.TheVariants.{Memory, NoKeys, Refused, Key, Changed, Spill, SpillDamaged}
+use Rattle.cm_tool_building.specs.declared.fault.Fault.TheVariants.{Memory, NoKeys, Refused, Key, TooLarge, Changed, Spill, SpillDamaged}
 use Rattle.cm_tool_stops.specs.declared.stop.Stop.{Stop}
 use Rattle.cm_tool_stops.specs.declared.stop.Stop.TheVariants as stops
 
@@ -33,6 +33,7 @@ stop_for Memory = stops.Memory
 stop_for NoKeys = stops.NoKeys
 stop_for (Refused failure report) = stops.Refused failure
 stop_for (Key fault) = stop_from_key fault
+stop_for (TooLarge line) = stops.TooLarge line
 stop_for (Changed first again) = stops.Changed first again
 stop_for Spill = stops.Spill
 stop_for (SpillDamaged offset expected found) = stops.SpillDamaged offset expected found
@@ -46,16 +47,19 @@ RefusesBy bytes meaning told (Refused failure report) = (meaning.verdict told �
 RefusesBy bytes meaning told (Key key_fault.Read) = Unit {0}
 RefusesBy bytes meaning told (Key (key_fault.TooLong line)) = meaning.verdict told ≡ Err (record { stop = stops.TooLong line; report = [] })
 RefusesBy bytes meaning told (Key key_fault.TooMany) = meaning.verdict told ≡ Err (record { stop = stops.TooMany; report = [] })
+RefusesBy bytes meaning told (TooLarge line) = meaning.verdict told ≡ Err (record { stop = stops.TooLarge line; report = [] })
 RefusesBy bytes meaning told (Changed first again) = ⊥
 RefusesBy bytes meaning told Spill = Unit {0}
 RefusesBy bytes meaning told (SpillDamaged offset expected found) = ⊥
 
--- what a stop has, whatever the keys and the spill are: a report, keys that changed, and a spill are as the builder allows
+-- what a stop has, whatever the keys and the spill are: a report, keys that changed, a spill, and records that are too large are as the
+-- builder allows
 abbrev pub IsAllowedStop : (Stop → Type 0) → Stop → Type 0
 IsAllowedStop may_stop (stops.Refused failure) = may_stop (stops.Refused failure)
 IsAllowedStop may_stop (stops.Changed first again) = may_stop (stops.Changed first again)
 IsAllowedStop may_stop stops.Spill = may_stop stops.Spill
 IsAllowedStop may_stop (stops.SpillDamaged offset expected found) = may_stop (stops.SpillDamaged offset expected found)
+IsAllowedStop may_stop (stops.TooLarge line) = may_stop (stops.TooLarge line)
 IsAllowedStop may_stop stop = Unit {0}
 
 -- and what a fault has

@@ -2,7 +2,7 @@
 use Rattle.std.proofs.Common.{◌≡◌, ◌⊎◌, ◌↔◌, ℕ, ◌<◌, ◌^◌, inl, inr, refl, arith}
 use Rattle.cm_tool_building.specs.Leaves.{IsOutCause, IsStopCause}
 use Rattle.cm_tool_stops.specs.Ends.{status_of}
-use Rattle.cm_tool_stops.specs.declared.stop.Stop.TheVariants.{Memory, Read, Write, WriteOut, Refused, Changed, Spill, SpillDamaged, NoKeys, TooLong, TooMany}
+use Rattle.cm_tool_stops.specs.declared.stop.Stop.TheVariants.{Memory, Read, Write, WriteOut, Refused, Changed, Spill, SpillDamaged, NoKeys, TooLong, TooMany, TooLarge}
 use Rattle.cm_tool_stops.specs.declared.stop.Stop.{Stop}
 
 -- it is not 0
@@ -18,6 +18,7 @@ stop_failed (SpillDamaged offset expected found) zero = absurd (omega arith)
 stop_failed NoKeys zero = absurd (omega arith)
 stop_failed (TooLong line) zero = absurd (omega arith)
 stop_failed TooMany zero = absurd (omega arith)
+stop_failed (TooLarge line) zero = absurd (omega arith)
 
 -- it is 4 exactly if the count of reading rose
 pub stop_read : (stop : Stop) (r r_now w w_now : ℕ) → IsStopCause r r_now w w_now stop → r < 2 ^ 63 → (status_of stop ≡ 4) ↔ (r < r_now)
@@ -32,6 +33,7 @@ stop_read (SpillDamaged offset expected found) r r_now w w_now cause low = (λ f
 stop_read NoKeys r r_now w w_now cause low = (λ four. absurd (omega (arith, four)), λ rose. absurd (omega (arith, rose, cause.0)))
 stop_read (TooLong line) r r_now w w_now cause low = (λ four. absurd (omega (arith, four)), λ rose. absurd (omega (arith, rose, cause.0)))
 stop_read TooMany r r_now w w_now cause low = (λ four. absurd (omega (arith, four)), λ rose. absurd (omega (arith, rose, cause.0)))
+stop_read (TooLarge line) r r_now w w_now cause low = (λ four. absurd (omega (arith, four)), λ rose. absurd (omega (arith, rose, cause.0)))
 
 -- neither count rose
 pub neither : {P : Type 0} (w w_now o o_now : ℕ) → w_now ≡ w → o_now ≡ o → (w < w_now) ⊎ (o < o_now) → P
@@ -51,3 +53,4 @@ stop_write (SpillDamaged offset expected found) r r_now w w_now o o_now cause ou
 stop_write NoKeys r r_now w w_now o o_now cause out low few = (λ five. absurd (omega (arith, five)), λ either. neither w w_now o o_now cause.1 out either)
 stop_write (TooLong line) r r_now w w_now o o_now cause out low few = (λ five. absurd (omega (arith, five)), λ either. neither w w_now o o_now cause.1 out either)
 stop_write TooMany r r_now w w_now o o_now cause out low few = (λ five. absurd (omega (arith, five)), λ either. neither w w_now o o_now cause.1 out either)
+stop_write (TooLarge line) r r_now w w_now o o_now cause out low few = (λ five. absurd (omega (arith, five)), λ either. neither w w_now o o_now cause.1 out either)

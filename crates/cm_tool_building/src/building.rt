@@ -63,6 +63,7 @@ pub fn stop_of<R: Saved, O: Sink>(fault: Fault<R>, out: &mut O) -> Stop
         Fault::NoKeys => Stop::NoKeys,
         Fault::Refused { failure, report } => show(failure, &report, out),
         Fault::Key(fault) => stop_of_key(fault),
+        Fault::TooLarge { line } => Stop::TooLarge { line },
         Fault::Changed { first, now } => Stop::Changed { first, now },
         Fault::Spill => Stop::Spill,
         Fault::SpillDamaged {

@@ -47,7 +47,8 @@ fn build_file<B: Builder, D: Disk, O: Sink>(
 
 /// Runs a build, and returns its status: 0 what was made is saved; 1 the keys are refused, and out has the report; 4 the keys file can't
 /// be opened, read or rewound; 5 the file can't be created, written or closed, the spill can't be used, or out can't be written; 6 out of
-/// memory; 7 the keys or the spill changed between passes; 8 no keys, a line that is too long, or too many keys.
+/// memory; 7 the keys or the spill changed between passes; 8 no keys, a line that is too long, too many keys, or records that take more
+/// bytes than a store may have.
 pub fn build<B: Builder, D: Disk, O: Sink, E: Sink>(
     alloc: Global,
     builder: &B,

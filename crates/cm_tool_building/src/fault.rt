@@ -17,6 +17,10 @@ pub enum Fault<R> {
     },
     /// A pass over the keys failed.
     Key(KeyFault),
+    /// The records up to a line, counted from 1, take more bytes than a store may have.
+    TooLarge {
+        line: u32,
+    },
     /// The first pass yielded `first` keys, and a later one `now` keys.
     Changed {
         first: u32,
