@@ -6,7 +6,7 @@ use Rattle.cm_tool_building.specs.Leaves.{IsOutCause}
 use Rattle.cm_tool_building.specs.Makes as makes
 use Rattle.cm_tool_stops.specs.Ends.{Says, message_of, status_of}
 use Rattle.cm_tool.specs.declared.built.Summary.{Summary}
-use Rattle.cm_tool_stops.specs.declared.stop.Stop.TheVariants.{Memory, Read, Write, WriteOut, Refused, Changed, Spill, SpillDamaged, NoKeys, TooLong, TooMany}
+use Rattle.cm_tool_stops.specs.declared.stop.Stop.TheVariants.{Memory, Read, Write, WriteOut, Refused, Changed, Spill, SpillDamaged, NoKeys, TooLong, TooMany, TooLarge}
 use Rattle.cm_tool_stops.specs.declared.stop.Stop.{Stop}
 use Rattle.cm_tool.specs.Ending.{Outcome}
 use Rattle.cm_tool.specs.Run.{IsBuildMessage}
@@ -35,6 +35,7 @@ message_is job before now (SpillDamaged offset expected found) differ count =
 message_is job before now NoKeys differ count = record { done = λ e. absurd (omega arith); cored = λ e. absurd (omega arith); read = λ e. absurd (omega arith); write = λ e. absurd (omega arith); memory = λ e. absurd (omega arith); changed = λ e. absurd (omega arith); keys = λ e. inl refl }
 message_is job before now (TooLong line) differ count = record { done = λ e. absurd (omega arith); cored = λ e. absurd (omega arith); read = λ e. absurd (omega arith); write = λ e. absurd (omega arith); memory = λ e. absurd (omega arith); changed = λ e. absurd (omega arith); keys = λ e. inr (inr (line, refl)) }
 message_is job before now TooMany differ count = record { done = λ e. absurd (omega arith); cored = λ e. absurd (omega arith); read = λ e. absurd (omega arith); write = λ e. absurd (omega arith); memory = λ e. absurd (omega arith); changed = λ e. absurd (omega arith); keys = λ e. inr (inl refl) }
+message_is job before now (TooLarge line) differ count = absurd differ
 
 -- and that of one that came to its end
 pub built_is : (job : BuildJob) (before now : ℕ) (s : Summary) → IsBuildMessage job before now 0 (built_message job s)

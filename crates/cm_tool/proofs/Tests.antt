@@ -24,7 +24,7 @@ use Rattle.cm_query.specs.Sums.{answer_sum}
 use Rattle.cm_query_batch.specs.declared.fault.QueryFault.TheVariants.{Key}
 use Rattle.cm_tool_stops.specs.Ends.{Says, message_of, status_of}
 use Rattle.cm_tool.specs.Said.{seed_failure_message}
-use Rattle.cm_tool_stops.specs.declared.stop.Stop.TheVariants.{Memory, Read, Write, WriteOut, Refused, Changed, Spill, SpillDamaged, NoKeys, TooLong, TooMany}
+use Rattle.cm_tool_stops.specs.declared.stop.Stop.TheVariants.{Memory, Read, Write, WriteOut, Refused, Changed, Spill, SpillDamaged, NoKeys, TooLong, TooMany, TooLarge}
 use Rattle.cm_tool_stops.specs.declared.stop.Stop.{Stop}
 use Rattle.cm_tool_builds.specs.Faults.{FailsFunc, HasFuncCause, HasFuncForm, IsChangeBy, IsSeedFailureBy, UsesSpill, shown_core, shown_overfull}
 use Rattle.cm_tool_cells.specs.Seeds.{seeds_of}
@@ -78,6 +78,7 @@ report_ends files shown old new (SpillDamaged offset expected found) got = absur
 report_ends files shown old new NoKeys got = absurd got
 report_ends files shown old new (TooLong line) got = absurd got
 report_ends files shown old new TooMany got = absurd got
+report_ends files shown old new (TooLarge line) got = absurd got
 
 -- by the result on an algorithm
 by_result : (job : TestJob) (algorithm : Algorithm) (files : Files) (v : Result Func FailureReport) (old new : Option (List ℕ)) (r : Result (Unit {0}) Stop) → tested.test_result job algorithm ≡ v → EndsTest (tested_then job algorithm files v (printing [] files)) old new r
@@ -111,6 +112,7 @@ report_form algorithm shown old new (SpillDamaged offset expected found) failure
 report_form algorithm shown old new NoKeys failure got = tt
 report_form algorithm shown old new (TooLong line) failure got = tt
 report_form algorithm shown old new TooMany failure got = tt
+report_form algorithm shown old new (TooLarge line) failure got = absurd got
 
 pub test_form : (algorithm : Algorithm) (fault : FuncFault) (w w' : ℕ) (old new : Option (List ℕ)) (stop : Stop) → HasFuncCause {T = Func} 0 0 w w' (Err fault) → HasFuncForm algorithm fault → StopsFor fault old new stop → HasTestForm algorithm stop
 test_form algorithm func_fault.Memory w w' old new stop cause form stops = rw stops.0 tt
@@ -156,6 +158,7 @@ after_line line o old mid new (Err (SpillDamaged offset expected found)) first e
 after_line line o old mid new (Err NoKeys) first ends = absurd ends
 after_line line o old mid new (Err (TooLong at)) first ends = absurd ends
 after_line line o old mid new (Err TooMany) first ends = absurd ends
+after_line line o old mid new (Err (TooLarge at)) first ends = absurd ends
 
 -- an algorithm that came to its end, and what the next ones come to
 next_by : (job : TestJob) (algorithm : Algorithm) (files : Files) (v : Result Func FailureReport) (o : Outcome) (old mid new : Option (List ℕ)) (r : Result (Unit {0}) Stop)
@@ -188,6 +191,7 @@ stop_by job algorithm files (Ok f) o old new (SpillDamaged offset expected found
 stop_by job algorithm files (Ok f) o old new NoKeys ends = absurd ends
 stop_by job algorithm files (Ok f) o old new (TooLong line) ends = absurd ends
 stop_by job algorithm files (Ok f) o old new TooMany ends = absurd ends
+stop_by job algorithm files (Ok f) o old new (TooLarge line) ends = absurd ends
 
 pub stop_ends : (job : TestJob) (algorithm : Algorithm) (next : List Algorithm) (files : Files) (old new : Option (List ℕ)) (stop : Stop)
     → EndsTest (tested_by job files (algorithm ∷ [])) old new (Err stop) → EndsTest (tested_by job files (algorithm ∷ next)) old new (Err stop)
@@ -211,6 +215,7 @@ stops_spilling job files all first algorithm next old mid new (SpillDamaged offs
 stops_spilling job files all first algorithm next old mid new NoKeys is form same ends = tt
 stops_spilling job files all first algorithm next old mid new (TooLong line) is form same ends = tt
 stops_spilling job files all first algorithm next old mid new TooMany is form same ends = tt
+stops_spilling job files all first algorithm next old mid new (TooLarge line) is form same ends = tt
 
 -- BRZ alone has a spill, and the others are tried before it
 before_brz : (first : List Algorithm) (algorithm : Algorithm) (next : List Algorithm) → UsesSpill algorithm → algorithms ≡ first ++ algorithm ∷ next → first ≡ Chm ∷ Bdz ∷ BdzPh ∷ []
@@ -254,6 +259,7 @@ outcome_stopped o files (SpillDamaged offset expected found) old new dir same en
 outcome_stopped o files NoKeys old new dir same ends says a b left = absurd ends
 outcome_stopped o files (TooLong line) old new dir same ends says a b left = absurd ends
 outcome_stopped o files TooMany old new dir same ends says a b left = absurd ends
+outcome_stopped o files (TooLarge line) old new dir same ends says a b left = absurd ends
 
 pub test_stopped : (job : TestJob) (files : Files) (stop : Stop) (old new : Outside) → EndsTest (tested.test_outcome job files) old.out.written new.out.written (Err stop)
     → Says old.err new.err (message_of (naming test_name []) job.dir stop) → status_of stop ≢ 5 → status_of stop ≢ 6 → new.disk.files ≡ Some files → Reaches old new (Some (tested.test_outcome job files)) (status_of stop)
@@ -288,6 +294,7 @@ never_changed o old new (SpillDamaged offset expected found) ends = absurd ends
 never_changed o old new NoKeys ends = absurd ends
 never_changed o old new (TooLong line) ends = absurd ends
 never_changed o old new TooMany ends = absurd ends
+never_changed o old new (TooLarge line) ends = absurd ends
 
 -- a test that a fault or lack of memory stopped
 pub part_of_test : (o : Outcome) (old new : Option (List ℕ)) (stop : Stop) → EndsTest o old new (Err stop) → (status_of stop ≡ 5) ⊎ (status_of stop ≡ 6) → GotPrefix o.out old new
@@ -302,6 +309,7 @@ part_of_test o old new (SpillDamaged offset expected found) ends either = absurd
 part_of_test o old new NoKeys ends either = absurd ends
 part_of_test o old new (TooLong line) ends either = absurd ends
 part_of_test o old new TooMany ends either = absurd ends
+part_of_test o old new (TooLarge line) ends either = absurd ends
 
 -- a test that could not write
 pub unfinished_test : (job : TestJob) (files : Files) (old new : Outside) (stop : Stop) → EndsTest (tested.test_outcome job files) old.out.written new.out.written (Err stop) → StopsSpilling job files algorithms old.out.written new.out.written stop → IsOutCause old.out.faults new.out.faults stop
@@ -320,6 +328,7 @@ unfinished_test job files old new (SpillDamaged offset expected found) ends spil
 unfinished_test job files old new NoKeys ends spilling count says five = absurd (omega arith)
 unfinished_test job files old new (TooLong line) ends spilling count says five = absurd (omega arith)
 unfinished_test job files old new TooMany ends spilling count says five = absurd (omega arith)
+unfinished_test job files old new (TooLarge line) ends spilling count says five = absurd (omega arith)
 
 -- the message of a test that stopped goes with its status
 differs_by : (algorithm : Algorithm) (first again : ℕ) → IsChangeBy algorithm first again → again ≢ first
@@ -354,6 +363,7 @@ test_message job algorithm before now (SpillDamaged offset expected found) form 
 test_message job algorithm before now NoKeys form count = record { done = λ e. absurd (omega arith); refused = λ e. absurd (omega arith); write = λ e. absurd (omega arith); memory = λ e. absurd (omega arith); changed = λ e. absurd (omega arith); keys = λ e. inl refl }
 test_message job algorithm before now (TooLong line) form count = record { done = λ e. absurd (omega arith); refused = λ e. absurd (omega arith); write = λ e. absurd (omega arith); memory = λ e. absurd (omega arith); changed = λ e. absurd (omega arith); keys = λ e. inr (inr (line, refl)) }
 test_message job algorithm before now TooMany form count = record { done = λ e. absurd (omega arith); refused = λ e. absurd (omega arith); write = λ e. absurd (omega arith); memory = λ e. absurd (omega arith); changed = λ e. absurd (omega arith); keys = λ e. inr (inl refl) }
+test_message job algorithm before now (TooLarge line) form count = absurd form
 
 pub done_message : (job : TestJob) (before now : ℕ) → IsTestMessage job before now 0 []
 done_message job before now = record { done = λ e. refl; refused = λ e. absurd (omega arith); write = λ e. absurd (omega arith); memory = λ e. absurd (omega arith); changed = λ e. absurd (omega arith); keys = λ e. absurd (omega arith) }
@@ -371,6 +381,7 @@ test_status job algorithm (SpillDamaged offset expected found) form = refl
 test_status job algorithm NoKeys form = refl
 test_status job algorithm (TooLong line) form = refl
 test_status job algorithm TooMany form = refl
+test_status job algorithm (TooLarge line) form = refl
 
 pub test_known : (algorithm : Algorithm) (stop : Stop) → HasTestForm algorithm stop → status_of stop ≢ 4
 test_known algorithm Memory form = λ e. omega (arith, e)
@@ -384,6 +395,7 @@ test_known algorithm (SpillDamaged offset expected found) form = λ e. omega (ar
 test_known algorithm NoKeys form = λ e. omega (arith, e)
 test_known algorithm (TooLong line) form = λ e. omega (arith, e)
 test_known algorithm TooMany form = λ e. omega (arith, e)
+test_known algorithm (TooLarge line) form = λ e. omega (arith, e)
 
 -- nothing waits after what was sent on, and then something more
 pub sent_on : (a b d : SinkState) → b.faults ≡ a.faults → IsSent a b → (b.waits ≡ 0 → IsSent b d) → IsSent a d

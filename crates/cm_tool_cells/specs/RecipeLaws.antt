@@ -8,7 +8,7 @@ use Rattle.cm_spec.specs.Built.{first_seed}
 use Rattle.cm_spec.specs.Rule.{IsCount, Rule}
 use Rattle.cm_tool_building.specs.Makes.{RefusesBy, stop_from_key}
 use Rattle.cm_tool_building.specs.declared.fault.Fault.{Fault}
-use Rattle.cm_tool_building.specs.declared.fault.Fault.TheVariants.{Memory, NoKeys, Refused, Key, Changed, Spill, SpillDamaged}
+use Rattle.cm_tool_building.specs.declared.fault.Fault.TheVariants.{Memory, NoKeys, Refused, Key, TooLarge, Changed, Spill, SpillDamaged}
 use Rattle.cm_tool_cells.specs.Recipes.{FailsCells, IsMadeOf, meaning_by, report_bytes, report_of, seeded, tried, verdict_over}
 use Rattle.cm_tool_cells.specs.Seeds.{IsBuiltFrom}
 use Rattle.cm_tool_cells.specs.declared.recipe.Recipe.{Recipe}
@@ -60,6 +60,7 @@ refuses a r recipe make told (Refused failure report) fails =
 refuses a r recipe make told (Key key_fault.Read) fails = tt
 refuses a r recipe make told (Key (key_fault.TooLong line)) fails = over_fault a r recipe make told.keys told.fault (key_fault.TooLong line) fails
 refuses a r recipe make told (Key key_fault.TooMany) fails = over_fault a r recipe make told.keys told.fault key_fault.TooMany fails
+refuses a r recipe make told (TooLarge line) fails = absurd fails
 refuses a r recipe make told (Changed first again) fails = absurd fails
 refuses a r recipe make told Spill fails = absurd fails
 refuses a r recipe make told (SpillDamaged offset expected found) fails = absurd fails

@@ -56,12 +56,13 @@ pub record IsMadeOf {M : Type 0} (r : Rule) (recipe : Recipe) (make : List (ℕ 
   pub takes : TakesFirst r told.keys recipe.c (tried recipe) seed
   pub is : made ≡ make told.keys seed
 
--- how a build may stop, whatever the keys are: without a seed that works, or with keys that changed; it has no spill
+-- how a build may stop, whatever the keys are: without a seed that works, or with keys that changed; it has no spill and no records
 abbrev pub MayStop : Stop → Type 0
 MayStop (stops.Refused failure) = failure ≡ NoSeed
 MayStop (stops.Changed first again) = IsChange first again
 MayStop stops.Spill = ⊥
 MayStop (stops.SpillDamaged offset expected found) = ⊥
+MayStop (stops.TooLarge line) = ⊥
 MayStop stop = Unit {0}
 
 -- what a builder means that makes this of keys under the first seed that works
