@@ -3,7 +3,7 @@ use Rattle.std.specs.Prelude.{◌≡◌, ◌⊎◌, ◌≤◌, ◌*◌, ℕ, Opt
 use Rattle.std.specs.Option.{ForSome}
 use Rattle.cm_spec.specs.Rule.{IsRatio}
 use Rattle.cm_spec.specs.declared.limits.TheConstants.{MAX_WIDTH, MIN_WIDTH}
-use Rattle.cm_words_values.specs.declared.limits.TheConstants.{LINE_FEED, MAX_TEST_KEYS, MEGABYTE, ZERO_BYTE}
+use Rattle.cm_words_values.specs.declared.limits.TheConstants.{LINE_FEED, MAX_SEEDS, MAX_TEST_KEYS, MEGABYTE, ZERO_BYTE}
 
 -- a number of lines, if it is given, is at least one
 abbrev pub IsFirst : Option ℕ → Type 0
@@ -19,7 +19,7 @@ IsWidth b = (MIN_WIDTH ≤ b) × (b ≤ MAX_WIDTH)
 
 -- how many seeds are tried
 abbrev pub IsCount : ℕ → Type 0
-IsCount seeds = (1 ≤ seeds) × (seeds ≤ 1000)
+IsCount seeds = (1 ≤ seeds) × (seeds ≤ MAX_SEEDS)
 
 -- a buffer in bytes: from 1 to 1,024 megabytes
 abbrev pub IsBuffer : ℕ → Type 0

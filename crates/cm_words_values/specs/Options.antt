@@ -7,7 +7,7 @@ use Rattle.cm_algo_names.specs.declared.algorithm.Algorithm.TheVariants.{Chm, Bd
 use Rattle.cm_words_values.specs.Digits.{millionths_of, whole_of}
 use Rattle.cm_words_values.specs.declared.fault.BadValue.{BadValue}
 use Rattle.cm_spec.specs.declared.limits.TheConstants.{MAX_WIDTH, MIN_WIDTH}
-use Rattle.cm_words_values.specs.declared.limits.TheConstants.{MAX_TEST_KEYS, MEGABYTE}
+use Rattle.cm_words_values.specs.declared.limits.TheConstants.{MAX_SEEDS, MAX_TEST_KEYS, MEGABYTE}
 
 abbrev pub Text : Type 0
 Text = List ℕ
@@ -79,7 +79,7 @@ buffer_value text = and_then (number_value 77 1 1024 1 text) (λ megabytes. Ok (
 
 -- -r
 abbrev pub count_value : Option Text → Checked ℕ
-count_value = number_value 114 1 1000 100
+count_value = number_value 114 1 MAX_SEEDS 100
 
 -- -s
 abbrev pub seed_value : Option Text → Checked ℕ

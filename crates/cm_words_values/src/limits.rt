@@ -1,7 +1,10 @@
-//! The numbers that only options have.
+//! The numbers of options.
 
 /// The bytes of a megabyte.
 pub const MEGABYTE: u32 = 1_048_576;
+
+/// The most seeds that a build tries.
+pub const MAX_SEEDS: u32 = 1000;
 
 /// The greatest number of generated keys that a test may have.
 pub const MAX_TEST_KEYS: u32 = 16_777_216;

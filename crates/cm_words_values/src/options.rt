@@ -6,7 +6,7 @@ ghost use Rattle.cm_spec.specs.Rule.{IsRatio};
 ghost use Rattle.cm_words_values.specs.Limits.{IsBuffer, IsCount, IsFirst, IsSampling, IsTestSize, IsWidth};
 ghost use Rattle.cm_words_values.specs.Options.{algorithm_value, bits_value, buffer_value, count_value, first_value, hash_value, number_value, optional_value, ratio_value, seed_value, test_value};
 
-use crate::{BadValue, MAX_TEST_KEYS, MEGABYTE, millionths, whole};
+use crate::{BadValue, MAX_SEEDS, MAX_TEST_KEYS, MEGABYTE, millionths, whole};
 use cm_algo_names::Algorithm;
 use cm_spec::{MAX_WIDTH, MIN_WIDTH};
 
@@ -116,12 +116,12 @@ pub fn buffer(text: Option<&str>) -> Result<u32, BadValue>
     Ok(number(text, b'M', 1, 1024, 1)? * MEGABYTE)
 }
 
-/// `-r`: how many seeds are tried at most, from 1 to 1,000; 100 if it isn't given.
+/// `-r`: how many seeds are tried at most, from 1 to `MAX_SEEDS`; 100 if it isn't given.
 pub fn count(text: Option<&str>) -> Result<u32, BadValue>
     ensures value { result ≡ count_value (option_map (λ s. s.now) text.entry) }
     ensures within { IfOk result IsCount }
 {
-    number(text, b'r', 1, 1000, 100)
+    number(text, b'r', 1, MAX_SEEDS, 100)
 }
 
 /// `-s`: the first seed that is tried; 1 if it isn't given.
