@@ -1,5 +1,5 @@
 -- What is built of the cells of keys, for the driver of builds.
-use Rattle.std.specs.Prelude.{◌≡◌, ◌<◌, ◌≤◌, ℕ, List, [], ◌∷◌, length, slice_index, Option, None, Some, Result, Ok, Err}
+use Rattle.std.specs.Prelude.{◌≡◌, ◌<◌, ℕ, List, [], ◌∷◌, length, slice_index, Option, None, Some, Result, Ok, Err}
 use Rattle.cm_algo_names.specs.declared.algorithm.Algorithm.{Algorithm}
 use Rattle.cm_algo_seeds.specs.declared.fault.BuildFault.{BuildFault}
 use Rattle.cm_algo_seeds.specs.declared.fault.BuildFault.TheVariants as build_fault
@@ -14,16 +14,16 @@ use Rattle.cm_tool_building.specs.declared.fault.Fault.TheVariants as faults
 use Rattle.cm_tool_cells.specs.Seeds.{IsChange, IsCoredUnder, TakesFirst, seeds_of}
 use Rattle.cm_tool_cells.specs.declared.recipe.Recipe.{Recipe}
 use Rattle.cm_tool_cells.specs.declared.report.CoreReport.{CoreReport}
-use Rattle.cm_tool_cells.specs.declared.tries.TheConstants.{MAX_SEEDS}
 use Rattle.cm_tool_stops.specs.declared.stop.Stop.{Stop}
 use Rattle.cm_tool_stops.specs.declared.stop.Stop.TheVariants as stops
 use Rattle.cm_witness_gather.specs.Reports.{core_report, report_text}
 use Rattle.cm_witness_gather.specs.declared.failure.SeedFailure.TheVariants.{NoSeed}
+use Rattle.cm_words_values.specs.Limits as values
 
 -- the ranges of a recipe
 pub record IsRecipe (recipe : Recipe) : Type 0 where
   pub ratio : IsRatio recipe.c
-  pub count : (1 ≤ recipe.count) × (recipe.count ≤ MAX_SEEDS)
+  pub count : values.IsCount recipe.count
 
 -- the seeds that it tries
 abbrev pub tried : Recipe → List ℕ

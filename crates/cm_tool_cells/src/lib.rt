@@ -11,4 +11,4 @@ pub use crate::cells::build_by;
 pub use crate::making::make_cells;
 pub use crate::recipe::Recipe;
 pub use crate::report::CoreReport;
-pub use crate::tries::{MAX_SEEDS, seeds};
+pub use crate::tries::seeds;
