@@ -1,4 +1,4 @@
--- From a failed build over a pass to what the driver is told of it.
+-- From a failed build over a pass to what the driver gets.
 use Rattle.std.proofs.Common.{◌≡◌, ℕ, List, refl}
 use Rattle.std.specs.Prelude.{slice_index}
 use Rattle.cm_algo_names.specs.declared.algorithm.Algorithm.{Algorithm}

@@ -34,7 +34,9 @@ fn fault_of(fault: BuildFault) -> Fault<CoreReport>
 }
 
 /// The cells of the keys of a pass under the first seed of a recipe whose graph has an empty 2-core, or why there are none, for the
-/// driver of builds, with steps that nobody reads. The recipe must be in its ranges.
+/// driver of builds, with steps that nobody reads. The recipe must be in its ranges. The faults: `Memory` out of memory; `NoKeys` there
+/// are no keys; `Refused` no seed of the recipe works, with the report on the first; `Key` a pass over the keys failed; `Changed` a later
+/// pass yielded another number of keys than the first.
 pub fn make_cells<S: Scheme<K>, P: KeyPass, const K: usize, L: Ledger>(
     alloc: Global,
     scheme: &S,
