@@ -1,24 +1,18 @@
 -- From a failed build over a pass to what the driver gets.
-use Rattle.std.proofs.Common.{◌≡◌, ℕ, List, refl}
+use Rattle.std.proofs.Common.{refl}
 use Rattle.std.specs.Prelude.{slice_index}
 use Rattle.cm_algo_names.specs.declared.algorithm.Algorithm.{Algorithm}
-use Rattle.cm_algo_seeds.specs.Fails.{FailsBuild, HasForm, ShowsCore}
+use Rattle.cm_algo_seeds.specs.Fails.{FailsBuild, HasForm}
 use Rattle.cm_algo_seeds.specs.declared.fault.BuildFault.{BuildFault}
 use Rattle.cm_algo_seeds.specs.declared.fault.BuildFault.TheVariants as build_fault
 use Rattle.cm_io.specs.Passes.{Told}
 use Rattle.cm_peel.specs.CoreLaws.{rest_is_core}
 use Rattle.cm_spec.specs.Rule.{Rule}
-use Rattle.cm_tool_cells.specs.Recipes as recipes
-use Rattle.cm_tool_cells.specs.Recipes.{FailsCells, fault_from, report_bytes, report_of, tried}
+use Rattle.cm_tool_cells.specs.RecipeLaws.{core_shown}
+use Rattle.cm_tool_cells.specs.Recipes.{FailsCells, fault_from, tried}
 use Rattle.cm_tool_cells.specs.declared.recipe.Recipe.{Recipe}
-use Rattle.cm_witness_gather.specs.declared.certificate.Certificate.{Certificate}
 
--- the certificate shows what peeling leaves under the first seed
-core_shown : (a : Algorithm) (r : Rule) (recipe : Recipe) (keys : List (ℕ × List ℕ)) (made : Certificate) → HasForm a (slice_index (tried recipe) 0) (build_fault.Cored made) → ShowsCore r keys recipe.c (slice_index (tried recipe) 0) made
-    → report_bytes (record { certificate = made }) ≡ report_of a r recipe keys
-unfolding recipes.report_of
-core_shown a r recipe keys made form shows = rw (form.0, form.1, form.2, shows.edges, shows.equal) refl
-
+-- a failed build is a refusal of the keys, by these alone
 pub fails_cells : (a : Algorithm) (r : Rule) (recipe : Recipe) (told : Told) (fault : BuildFault) → FailsBuild r told recipe.c (tried recipe) fault → HasForm a (slice_index (tried recipe) 0) fault → FailsCells a r recipe told (fault_from fault)
 fails_cells a r recipe told build_fault.Memory fails form = tt
 fails_cells a r recipe told build_fault.NoKeys fails form = (fails.1, fails.0)
@@ -28,7 +22,7 @@ fails_cells a r recipe told (build_fault.Cored made) fails form = (
     no_fault = fails.1;
     some = fails.0;
     none = fails.2;
-    report_is = core_shown a r recipe told.keys made form fails.4;
+    report_is = core_shown a r told.keys recipe.c (tried recipe) made form fails.4;
     under = record { cored = fails.3; core = rest_is_core _ };
   },
 )

@@ -33,20 +33,32 @@ tried recipe = seeds_of recipe.seed recipe.count
 abbrev pub report_bytes : CoreReport → List ℕ
 report_bytes report = let made = report.certificate in report_text made.algorithm made.place made.seed made.edges.items made.equal.items
 
--- the report on keys for which no seed works: what peeling leaves under the first
-unfoldable pub report_of : Algorithm → Rule → Recipe → List (ℕ × List ℕ) → List ℕ
-report_of algorithm r recipe keys = core_report algorithm r keys recipe.c (slice_index (tried recipe) 0)
+-- the report on keys for which no seed of a list works: what peeling leaves under the first
+unfoldable pub report_by : Algorithm → Rule → List (ℕ × List ℕ) → ℕ → List ℕ → List ℕ
+report_by algorithm r keys c seeds = core_report algorithm r keys c (slice_index seeds 0)
 
--- what is made under the first seed that works, or the report
-abbrev pub seeded : {M : Type 0} → (ℕ → M) → List ℕ → Option ℕ → Result M Refusal
-seeded make report None = Err (record { stop = stops.Refused NoSeed; report = report })
-seeded make report (Some seed) = Ok (make seed)
+-- what is made under the first seed that works, or what shows that there is none
+abbrev pub seeded : {M R : Type 0} → (ℕ → M) → R → Option ℕ → Result M R
+seeded make shown None = Err shown
+seeded make shown (Some seed) = Ok (make seed)
+
+-- what keys that end with a fault, or with none, come to, if some with none come to this
+abbrev pub verdict_on : {M : Type 0} → (List (ℕ × List ℕ) → Result M Refusal) → List (ℕ × List ℕ) → Option KeyFault → Result M Refusal
+verdict_on result keys (Some fault) = Err (record { stop = stop_from_key fault; report = [] })
+verdict_on result [] None = Err (record { stop = stops.NoKeys; report = [] })
+verdict_on result (key ∷ keys) None = result (key ∷ keys)
+
+-- keys for which no seed of a recipe works, with the report on them
+abbrev pub refused_by : Algorithm → Rule → Recipe → List (ℕ × List ℕ) → Refusal
+refused_by algorithm r recipe keys = record { stop = stops.Refused NoSeed; report = report_by algorithm r keys recipe.c (tried recipe) }
+
+-- what is made of keys under the first seed of a recipe that works, or the refusal
+abbrev pub result_over : {M : Type 0} → Algorithm → Rule → Recipe → (List (ℕ × List ℕ) → ℕ → M) → List (ℕ × List ℕ) → Result M Refusal
+result_over algorithm r recipe make keys = seeded (make keys) (refused_by algorithm r recipe keys) (first_seed r keys recipe.c (tried recipe))
 
 -- what keys that end with a fault, or with none, come to, if this is made of them under a seed
 abbrev pub verdict_over : {M : Type 0} → Algorithm → Rule → Recipe → (List (ℕ × List ℕ) → ℕ → M) → List (ℕ × List ℕ) → Option KeyFault → Result M Refusal
-verdict_over algorithm r recipe make keys (Some fault) = Err (record { stop = stop_from_key fault; report = [] })
-verdict_over algorithm r recipe make [] None = Err (record { stop = stops.NoKeys; report = [] })
-verdict_over algorithm r recipe make (key ∷ keys) None = seeded (make (key ∷ keys)) (report_of algorithm r recipe (key ∷ keys)) (first_seed r (key ∷ keys) recipe.c (tried recipe))
+verdict_over algorithm r recipe make keys fault = verdict_on (result_over algorithm r recipe make) keys fault
 
 -- Known keys have no fault at their end, and this was made of them under the first seed that works.
 pub record IsMadeOf {M : Type 0} (r : Rule) (recipe : Recipe) (make : List (ℕ × List ℕ) → ℕ → M) (told : Told) (made : M) : Type 0 where
@@ -82,7 +94,7 @@ pub record HasNoSeed (algorithm : Algorithm) (r : Rule) (recipe : Recipe) (told 
   pub no_fault : told.fault ≡ None
   pub some : 0 < length told.keys
   pub none : first_seed r told.keys recipe.c (tried recipe) ≡ None
-  pub report_is : report ≡ report_of algorithm r recipe told.keys
+  pub report_is : report ≡ report_by algorithm r told.keys recipe.c (tried recipe)
   pub under : IsCoredUnder r told.keys recipe.c (tried recipe)
 
 -- the refusals over known keys: they never change, and what is refused is so by the keys alone
