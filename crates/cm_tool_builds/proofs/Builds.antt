@@ -24,7 +24,7 @@ use Rattle.cm_algo_seeds.specs.Fails.{FailsBuild, HasBuildCause, HasForm, HasNum
 use Rattle.cm_algo_seeds.specs.declared.fault.BuildFault.{BuildFault}
 use Rattle.cm_algo_seeds.specs.declared.fault.BuildFault.TheVariants as build_fault
 use Rattle.cm_spec.specs.Bdz.{bdz_rule, bdz_ph_rule}
-use Rattle.cm_spec.specs.Built.{IsFirst, cells_under, chm_under, first_seed}
+use Rattle.cm_spec.specs.Built.{IsFirst, cells_under, chm_under}
 use Rattle.cm_spec.specs.Chm.{Chm, chm_rule}
 use Rattle.cm_spec.specs.Rule.{Rule}
 use Rattle.cm_witness_gather.specs.declared.failure.SeedFailure.TheVariants.{NoSeed, NoSeedFor, NoSplit}
@@ -32,9 +32,10 @@ use Rattle.cm_witness_gather.specs.declared.failure.SeedFailure.{SeedFailure}
 use Rattle.cm_tool_builds.specs.Faults.{FailsFunc, HasFuncCause, HasFuncForm, IsChangeBy, IsSeedFailureBy, fault_from_brz, fault_from_build, seed_failure_of, shown_core}
 use Rattle.cm_tool_builds.specs.FuncOf.{IsFuncOf}
 use Rattle.cm_tool_builds.specs.Seeds.{IsMadeBy, NoneWorks}
+use Rattle.cm_tool_cells.specs.RecipeLaws.{core_shown}
+use Rattle.cm_tool_cells.specs.Recipes.{seeded}
 use Rattle.cm_tool_cells.specs.Seeds.{IsBuiltFrom, IsChange, IsCoredUnder, TakesFirst}
-use Rattle.cm_tool_builds.specs.Results as results
-use Rattle.cm_tool_builds.specs.Results.{FailureReport, filled, seeded, split_into, result_by}
+use Rattle.cm_tool_builds.specs.Results.{FailureReport, filled, result_by, result_under, split_into, unseeded}
 use Rattle.cm_tool_builds.specs.declared.fault.FuncFault.{FuncFault}
 use Rattle.cm_witness_gather.specs.Reports.{overfull_text, report_text}
 use Rattle.cm_witness_gather.specs.declared.certificate.Certificate.{Certificate}
@@ -85,7 +86,7 @@ pub chm_from : (told : Told) (c b : ℕ) (seeds : List ℕ) (f : Chm) (m seed : 
 chm_from told c b seeds f m seed cells some few built keys_are ratio_is seed_is cells_are =
     let is : f ≡ chm_under told.keys c seed = chm_by_parts f told.keys c seed (keys_are ∙ built.many) ratio_is seed_is (cells_are ∙ built.cells_are) in
     func_from algorithms.Chm chm_rule b told c seeds (func.Chm f) m seed cells some few built
-    (ap (seeded (λ (s : ℕ). func.Chm (chm_under told.keys c s)) (results.report_by algorithms.Chm chm_rule told.keys c seeds)) built.chosen ∙ ap (λ (g : Chm). let v : Result Func FailureReport = Ok (func.Chm g) in v) (sym is))
+    (ap (seeded (λ (s : ℕ). func.Chm (chm_under told.keys c s)) (unseeded algorithms.Chm chm_rule told.keys c seeds)) built.chosen ∙ ap (λ (g : Chm). let v : Result Func FailureReport = Ok (func.Chm g) in v) (sym is))
     (is ∙ ap (chm_under told.keys c) (sym seed_is), takes_first chm_rule told c seeds m seed f.seed cells seed_is built)
 
 pub bdz_from : (told : Told) (c b : ℕ) (seeds : List ℕ) (f : Bdz) (m seed : ℕ) (cells : List ℕ) → 1 ≤ m → m ≤ MAX_KEYS → IsBuiltFrom bdz_rule told c seeds m seed cells
@@ -93,7 +94,7 @@ pub bdz_from : (told : Told) (c b : ℕ) (seeds : List ℕ) (f : Bdz) (m seed : 
 bdz_from told c b seeds f m seed cells some few built keys_are ratio_is seed_is shift_is cells_are =
     let is : f ≡ bdz_under told.keys c seed b = bdz_by_parts f told.keys c seed b (keys_are ∙ built.many) ratio_is seed_is shift_is (cells_are ∙ built.cells_are) in
     func_from algorithms.Bdz bdz_rule b told c seeds (func.Bdz f) m seed cells some few built
-    (ap (seeded (λ (s : ℕ). func.Bdz (bdz_under told.keys c s b)) (results.report_by algorithms.Bdz bdz_rule told.keys c seeds)) built.chosen ∙ ap (λ (g : Bdz). let v : Result Func FailureReport = Ok (func.Bdz g) in v) (sym is))
+    (ap (seeded (λ (s : ℕ). func.Bdz (bdz_under told.keys c s b)) (unseeded algorithms.Bdz bdz_rule told.keys c seeds)) built.chosen ∙ ap (λ (g : Bdz). let v : Result Func FailureReport = Ok (func.Bdz g) in v) (sym is))
     (is ∙ ap (λ (s : ℕ). bdz_under told.keys c s b) (sym seed_is), takes_first bdz_rule told c seeds m seed f.seed cells seed_is built)
 
 pub bdz_ph_from : (told : Told) (c b : ℕ) (seeds : List ℕ) (f : BdzPh) (m seed : ℕ) (cells : List ℕ) → 1 ≤ m → m ≤ MAX_KEYS → IsBuiltFrom bdz_ph_rule told c seeds m seed cells
@@ -101,25 +102,24 @@ pub bdz_ph_from : (told : Told) (c b : ℕ) (seeds : List ℕ) (f : BdzPh) (m se
 bdz_ph_from told c b seeds f m seed cells some few built keys_are ratio_is seed_is cells_are =
     let is : f ≡ bdz_ph_under told.keys c seed = bdz_ph_by_parts f told.keys c seed (keys_are ∙ built.many) ratio_is seed_is (cells_are ∙ built.cells_are) in
     func_from algorithms.BdzPh bdz_ph_rule b told c seeds (func.BdzPh f) m seed cells some few built
-    (ap (seeded (λ (s : ℕ). func.BdzPh (bdz_ph_under told.keys c s)) (results.report_by algorithms.BdzPh bdz_ph_rule told.keys c seeds)) built.chosen ∙ ap (λ (g : BdzPh). let v : Result Func FailureReport = Ok (func.BdzPh g) in v) (sym is))
+    (ap (seeded (λ (s : ℕ). func.BdzPh (bdz_ph_under told.keys c s)) (unseeded algorithms.BdzPh bdz_ph_rule told.keys c seeds)) built.chosen ∙ ap (λ (g : BdzPh). let v : Result Func FailureReport = Ok (func.BdzPh g) in v) (sym is))
     (is ∙ ap (bdz_ph_under told.keys c) (sym seed_is), takes_first bdz_ph_rule told c seeds m seed f.seed cells seed_is built)
 
 -- the certificate of a build under one seed shows what the keys have
-core_shown : (algorithm : Algorithm) (r : Rule) (keys : List (ℕ × List ℕ)) (c : ℕ) (seeds : List ℕ) (made : Certificate) → HasForm algorithm (slice_index seeds 0) (build_fault.Cored made) → ShowsCore r keys c (slice_index seeds 0) made
-    → shown_core made ≡ record { failure = NoSeed; report = results.report_by algorithm r keys c seeds }
-unfolding results.report_by
-core_shown algorithm r keys c seeds made form shows = rw (form.0, form.1, form.2, shows.edges, shows.equal) refl
+shown_none : (algorithm : Algorithm) (r : Rule) (keys : List (ℕ × List ℕ)) (c : ℕ) (seeds : List ℕ) (made : Certificate) → HasForm algorithm (slice_index seeds 0) (build_fault.Cored made) → ShowsCore r keys c (slice_index seeds 0) made
+    → shown_core made ≡ unseeded algorithm r keys c seeds
+shown_none algorithm r keys c seeds made form shows = rw (core_shown algorithm r keys c seeds made form shows, form.2) refl
 
 -- why there is no function under one seed
 fails_by : (algorithm : Algorithm) (r : Rule) (function : ℕ → Func) (b : ℕ) (told : Told) (c : ℕ) (seeds : List ℕ) (fault : BuildFault)
-    → result_by algorithm b told.keys c seeds ≡ seeded function (results.report_by algorithm r told.keys c seeds) (first_seed r told.keys c seeds) → (IsCoredUnder r told.keys c seeds → NoneWorks algorithm b told.keys c seeds)
+    → result_by algorithm b told.keys c seeds ≡ result_under algorithm r function told.keys c seeds → (IsCoredUnder r told.keys c seeds → NoneWorks algorithm b told.keys c seeds)
     → FailsBuild r told c seeds fault → HasForm algorithm (slice_index seeds 0) fault → FailsFunc algorithm b told c seeds (fault_from_build fault)
 fails_by algorithm r function b told c seeds build_fault.Memory result_is none fails form = tt
 fails_by algorithm r function b told c seeds build_fault.NoKeys result_is none fails form = (fails.1, fails.0)
 fails_by algorithm r function b told c seeds (build_fault.Cored made) result_is none fails form = record {
   no_fault = fails.1;
   some = fails.0;
-  result_is = result_is ∙ (ap (seeded function (results.report_by algorithm r told.keys c seeds)) fails.2 ∙ ap (λ (s : FailureReport). let v : Result Func FailureReport = Err s in v) (sym (core_shown algorithm r told.keys c seeds made form fails.4)));
+  result_is = result_is ∙ (ap (seeded function (unseeded algorithm r told.keys c seeds)) fails.2 ∙ ap (λ (s : FailureReport). let v : Result Func FailureReport = Err s in v) (sym (shown_none algorithm r told.keys c seeds made form fails.4)));
   none = none (record { cored = fails.3; core = rest_is_core _ });
 }
 fails_by algorithm r function b told c seeds (build_fault.Key fault) result_is none fails form = fails

@@ -1,5 +1,5 @@
 -- What a build makes of keys: a function, or a report on why there is none.
-use Rattle.std.specs.Prelude.{ℕ, List, length, slice_index, Option, None, Some, Result, Ok, Err}
+use Rattle.std.specs.Prelude.{ℕ, List, length, Option, None, Some, Result, Ok, Err}
 use Rattle.cm_algo_names.specs.declared.algorithm.Algorithm.{Algorithm}
 use Rattle.cm_algo_names.specs.declared.algorithm.Algorithm.TheVariants.{Chm, Bdz, BdzPh, Brz}
 use Rattle.cm_bdz.specs.Numbering.{bdz_under, bdz_ph_under}
@@ -12,26 +12,22 @@ use Rattle.cm_spec.specs.Bdz.{bdz_rule, bdz_ph_rule}
 use Rattle.cm_spec.specs.Built.{chm_under, first_seed}
 use Rattle.cm_spec.specs.Chm.{chm_rule}
 use Rattle.cm_spec.specs.Rule.{Rule}
+use Rattle.cm_tool_cells.specs.Recipes.{report_by, seeded}
 use Rattle.cm_witness_gather.specs.declared.failure.SeedFailure.TheVariants.{NoSeed, NoSeedFor, NoSplit}
 use Rattle.cm_witness_gather.specs.declared.failure.SeedFailure.{SeedFailure}
-use Rattle.cm_witness_gather.specs.Reports.{core_report}
 
 -- what is shown of keys that have no function: why, and the report
 pub record FailureReport : Type 0 where
   pub failure : SeedFailure
   pub report : List ℕ
 
--- the report on keys for which no seed of a list works: what peeling leaves under the first
-unfoldable pub report_by : Algorithm → Rule → List (ℕ × List ℕ) → ℕ → List ℕ → List ℕ
-report_by algorithm r keys c seeds = core_report algorithm r keys c (slice_index seeds 0)
+-- what is shown of keys for which no seed of a list works
+abbrev pub unseeded : Algorithm → Rule → List (ℕ × List ℕ) → ℕ → List ℕ → FailureReport
+unseeded algorithm r keys c seeds = record { failure = NoSeed; report = report_by algorithm r keys c seeds }
 
 -- the function under the first seed that works
-abbrev pub seeded : (ℕ → Func) → List ℕ → Option ℕ → Result Func FailureReport
-seeded function report None = Err (record { failure = NoSeed; report = report })
-seeded function report (Some seed) = Ok (function seed)
-
 abbrev pub result_under : Algorithm → Rule → (ℕ → Func) → List (ℕ × List ℕ) → ℕ → List ℕ → Result Func FailureReport
-result_under algorithm r function keys c seeds = seeded function (report_by algorithm r keys c seeds) (first_seed r keys c seeds)
+result_under algorithm r function keys c seeds = seeded function (unseeded algorithm r keys c seeds) (first_seed r keys c seeds)
 
 -- by BRZ, under a seed that splits the keys into k buckets: the lowest bucket for which no seed works, if there is one
 abbrev pub filled : List (ℕ × List ℕ) → ℕ → ℕ → List ℕ → ℕ → Option ℕ → Result Func FailureReport
