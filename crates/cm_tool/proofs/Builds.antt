@@ -16,7 +16,8 @@ use Rattle.cm_tool_building.specs.Builds.{IsEnd}
 use Rattle.cm_tool_files.specs.declared.storing.FuncFile.{FuncFile}
 use Rattle.cm_tool_stops.specs.Ends.{Says}
 use Rattle.cm_tool_stops.specs.declared.stop.Stop.{Stop}
-use Rattle.cm_tool.specs.Building.{building_of, verdict_by, verdict_over}
+use Rattle.cm_tool_cells.specs.Recipes.{verdict_on}
+use Rattle.cm_tool.specs.Building.{building_of, verdict_by, verdict_of}
 use Rattle.cm_tool.specs.Jobs.{result_of}
 use Rattle.cm_tool.specs.Outcome as outcomes
 use Rattle.cm_tool.specs.Outcome.{Outcome, build_over, built_or_refused, job_outcome, keys_in, saving}
@@ -30,7 +31,7 @@ by_result : (job : BuildJob) (files : Files) (result : Result Func FailureReport
 by_result job files (Ok f) = refl
 by_result job files (Err shown) = refl
 
-by_keys : (job : BuildJob) (files : Files) (keys : List (ℕ × List ℕ)) (fault : Option KeyFault) (max n : ℕ) → FollowsKeys max n fault → outcome_by (building_of job) files (verdict_over job keys fault) ≡ build_over job files keys fault
+by_keys : (job : BuildJob) (files : Files) (keys : List (ℕ × List ℕ)) (fault : Option KeyFault) (max n : ℕ) → FollowsKeys max n fault → outcome_by (building_of job) files (verdict_on (verdict_of job) keys fault) ≡ build_over job files keys fault
 by_keys job files [] None max n follows = refl
 by_keys job files (key ∷ keys) None max n follows = by_result job files (result_of job (key ∷ keys))
 by_keys job files [] (Some key_fault.Read) max n follows = absurd follows

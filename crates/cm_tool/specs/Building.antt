@@ -1,11 +1,10 @@
 -- What a build of `cmph` makes of keys, for the driver of builds.
-use Rattle.std.specs.Prelude.{ℕ, List, [], ◌∷◌, Option, None, Some, Result, Ok, Err}
+use Rattle.std.specs.Prelude.{ℕ, List, Option, Result, Ok, Err}
 use Rattle.cm_dump.specs.Dumps.{dump_of}
 use Rattle.cm_func.specs.Functions.{IsFunction}
 use Rattle.cm_witness_gather.specs.declared.failure.SeedFailure.TheVariants.{NoSplit}
 use Rattle.cm_func.specs.declared.function.Func.{Func}
 use Rattle.cm_io.specs.Passes.{Told}
-use Rattle.cm_io.specs.declared.key_pass.KeyFault.{KeyFault}
 use Rattle.cm_tool_builds.specs.Faults.{UsesSpill, seed_failure_of, shown_core, shown_overfull}
 use Rattle.cm_tool_builds.specs.FuncOf.{IsFuncOf}
 use Rattle.cm_tool_builds.specs.Results.{FailureReport}
@@ -15,10 +14,10 @@ use Rattle.cm_tool_builds.specs.declared.fault.FuncFault.{FuncFault}
 use Rattle.cm_tool_builds.specs.declared.fault.FuncFault.TheVariants as func_fault
 use Rattle.cm_tool_building.specs.Building.{Building}
 use Rattle.cm_tool_building.specs.Leaves as leaves
-use Rattle.cm_tool_building.specs.Makes.{stop_from_key}
 use Rattle.cm_tool_building.specs.Meanings.{Meaning, Refusal}
 use Rattle.cm_tool_building.specs.declared.fault.Fault.{Fault}
 use Rattle.cm_tool_building.specs.declared.fault.Fault.TheVariants.{Memory, NoKeys, Refused, Key, Changed, Spill, SpillDamaged}
+use Rattle.cm_tool_cells.specs.Recipes.{verdict_on}
 use Rattle.cm_tool_files.specs.declared.storing.FuncFile.{FuncFile}
 use Rattle.cm_tool.specs.Summaries.{summary_of}
 use Rattle.cm_tool_stops.specs.declared.stop.Stop.{Stop}
@@ -59,11 +58,9 @@ abbrev pub verdict_by : Result Func FailureReport → Result FuncFile Refusal
 verdict_by (Ok f) = Ok (record { func = f })
 verdict_by (Err shown) = Err (record { stop = stops.Refused shown.failure; report = shown.report })
 
--- what a job makes of keys that end with a fault, or with none
-abbrev pub verdict_over : BuildJob → List (ℕ × List ℕ) → Option KeyFault → Result FuncFile Refusal
-verdict_over job keys (Some fault) = Err (record { stop = stop_from_key fault; report = [] })
-verdict_over job [] None = Err (record { stop = stops.NoKeys; report = [] })
-verdict_over job (key ∷ keys) None = verdict_by (result_of job (key ∷ keys))
+-- what a job makes of keys that end with no fault
+abbrev pub verdict_of : BuildJob → List (ℕ × List ℕ) → Result FuncFile Refusal
+verdict_of job keys = verdict_by (result_of job keys)
 
 -- what is known of the function of keys, with the last spill before and after
 pub record IsFileOf (job : BuildJob) (told : Told) (file : FuncFile) (old new : Option (List ℕ)) : Type 0 where
@@ -74,7 +71,7 @@ pub record IsFileOf (job : BuildJob) (told : Told) (file : FuncFile) (old new : 
 abbrev pub meaning_of : BuildJob → Meaning FuncFile
 meaning_of job = record {
   ready = IsBuild job;
-  verdict = λ told. verdict_over job told.keys told.fault;
+  verdict = λ told. verdict_on (verdict_of job) told.keys told.fault;
   makes = IsFileOf job;
   reports = λ told. NoneWorks job.algorithm job.b told.keys job.c (seeds_tried job);
   may_stop = HasStopForm job.algorithm;
