@@ -14,6 +14,6 @@ mod writer;
 
 pub use crate::reader::{Loaded, load, load_versioned};
 pub use crate::versions::Version;
-pub use crate::writer::{save, saved_len};
+pub use crate::writer::{bdz_len, save, save_bdz, saved_len};
 pub use cm_dump_items::LoadFault;
 pub use cm_func::Func;

@@ -1,9 +1,10 @@
 //! The dump of a function, written in version 2.
-ghost use Rattle.std.specs.Prelude.{◌≡◌, length};
+ghost use Rattle.std.specs.Prelude.{◌≡◌, ◌<◌, ◌^◌, length};
 ghost use Rattle.cm_io.specs.Causes.{HasCause};
 ghost use Rattle.cm_io.specs.Writing.{Writes};
-ghost use Rattle.cm_dump.specs.Dumps.{bdz_dump, bdz_ph_dump, brz_dump, chm_dump, dump_of, header};
+ghost use Rattle.cm_dump.specs.Dumps.{bdz_ph_dump, brz_dump, chm_dump, dump_of, header};
 ghost use Rattle.cm_dump.specs.Forms.{version_2};
+ghost use Rattle.cm_func.specs.declared.function.Func.TheVariants as func;
 
 use crate::buckets::{buckets_len, save_buckets};
 use crate::front::MAGIC_TWO;
@@ -54,10 +55,11 @@ fn save_chm<O: Sink>(chm: &Chm, out: &mut O) -> Result<(), Failed>
     save_image(chm.cells(), out)
 }
 
-/// Writes the dump of a BDZ function.
+/// Writes the dump of a BDZ function in version 2, as `save` does. Fails exactly if the sink does, which has then taken a prefix of the dump.
+/// Allocates no memory.
 #[tactic(auto, unfolding(crate::specs::Dumps::bdz_dump, crate::specs::Dumps::packed_image))]
-fn save_bdz<O: Sink>(bdz: &Bdz, out: &mut O) -> Result<(), Failed>
-    ensures bytes { Writes (O.state out.old).written (O.state out.new).written (bdz_dump version_2 bdz.now) result }
+pub fn save_bdz<O: Sink>(bdz: &Bdz, out: &mut O) -> Result<(), Failed>
+    ensures bytes { Writes (O.state out.old).written (O.state out.new).written (dump_of (func.Bdz bdz.now)) result }
     ensures cause { HasCause (O.state out.old).faults (O.state out.new).faults result }
 {
     save_header(2, bdz.b() as u16, bdz.keys(), bdz.c(), bdz.seed(), out)?;
@@ -107,11 +109,14 @@ fn chm_len(chm: &Chm) -> u64
     HEADER_LEN + Fields::image_len(cells.len(), cells.bound())
 }
 
-/// How many bytes the dump of a BDZ function has.
+/// How many bytes the dump of a BDZ function has in version 2: fewer than 2^32. Allocates no memory.
 #[tactic(auto, using(crate::proofs::DumpLemmas::bdz_written_len))]
-fn bdz_len(bdz: &Bdz) -> u64
-    ensures { result ≡ length (bdz_dump version_2 bdz.now) }
+pub fn bdz_len(bdz: &Bdz) -> u64
+    ensures length { result ≡ length (dump_of (func.Bdz bdz.now)) }
+    ensures few { result < 2 ^ 32 }
 {
+    // A rank is kept of every eighth cell at most.
+    prove!(bdz.b() >= 3);
     HEADER_LEN + Crumbs::image_len(bdz.cells().len(), 4) + 4 * bdz.ranks().entries() as u64
 }
 
