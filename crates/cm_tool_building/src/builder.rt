@@ -1,5 +1,5 @@
 //! What makes something of keys.
-ghost use Rattle.std.specs.Prelude.{◌≡◌, Ok, IfOk, IfErr};
+ghost use Rattle.std.specs.Prelude.{◌≡◌, Ok, IfOk, IfErr, IsTrue};
 ghost use Rattle.std.specs.Option.{ForSome};
 ghost use Rattle.cm_io.specs.States.{IsSent};
 ghost use Rattle.cm_tool_building.specs.Makes.{IsAllowedFault, HasMakeCause, RefusesBy};
@@ -29,6 +29,8 @@ pub trait Builder {
         disk: &mut D,
     ) -> Result<Self::Made, Fault<Self::Report>>
         requires ready { (meaning self.now).ready }
+        requires usable { IsTrue (P.usable keys.old) }
+        requires start { P.place keys.old ≡ 0 }
         ensures files { (D.state disk.new).files ≡ (D.state disk.old).files }
         ensures read_faults { (D.state disk.new).read_faults ≡ (D.state disk.old).read_faults }
         ensures cause { HasMakeCause (P.faults keys.old) (P.faults keys.new) (D.state disk.old).write_faults (D.state disk.new).write_faults result }

@@ -1,6 +1,7 @@
 //! Cells for the driver of builds.
-ghost use Rattle.std.specs.Prelude.{◌≡◌, ◌<◌, ◌≤◌, ℕ, length, IfErr, IfOk};
+ghost use Rattle.std.specs.Prelude.{◌≡◌, ◌<◌, ◌≤◌, ℕ, count_by, length, IfErr, IfOk};
 ghost use Rattle.std.specs.Option.{ForSome};
+ghost use Rattle.cm_spec.specs.Cells.{is_busy};
 ghost use Rattle.cm_spec.specs.declared.limits.TheConstants.{MAX_KEYS};
 ghost use Rattle.cm_tool_building.specs.Makes.{HasMakeCause, IsAllowedFault};
 ghost use Rattle.cm_tool_cells.specs.Recipes.{FailsCells, IsRecipe, MayStop, fault_from, tried};
@@ -52,6 +53,7 @@ pub fn make_cells<S: Scheme<K>, P: KeyPass, const K: usize, L: Ledger>(
     ensures cause { (w : ℕ) → HasMakeCause (P.faults keys.old) (P.faults keys.new) w w result }
     ensures many { IfOk result (λ b. (1 ≤ b.m) × (b.m ≤ MAX_KEYS) × (b.c ≡ recipe.c)) }
     ensures cells { IfOk result (λ b. (S.Table.bound_of b.cells ≡ (S.rule scheme.now).bound b.m) × (length (S.Table.cells b.cells) ≡ (S.rule scheme.now).size b.m recipe.c)) }
+    ensures busy { IfOk result (λ b. (S.rule scheme.now).modulus b.m ≤ (S.rule scheme.now).idle → count_by (is_busy (S.rule scheme.now).idle) (S.Table.cells b.cells) ≡ b.m) }
     ensures first { IfOk result (λ b. ForSome (P.told keys.old) (λ told. IsBuiltFrom (S.rule scheme.now) told recipe.c (tried recipe) b.m b.seed (S.Table.cells b.cells))) }
     ensures refused { IfErr result (λ fault. ForSome (P.told keys.old) (λ told. FailsCells (S.algorithm_of scheme.now) (S.rule scheme.now) recipe told fault)) }
     ensures form { IfErr result (IsAllowedFault MayStop) }
