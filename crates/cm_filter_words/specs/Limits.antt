@@ -6,12 +6,11 @@ use Rattle.cm_filter_words.specs.declared.jobs.FilterJob.TheVariants.{Build, Tes
 use Rattle.cm_filter_words.specs.declared.jobs.FilterTest.{FilterTest}
 use Rattle.cm_filter_words.specs.declared.values.Values.{Values}
 use Rattle.cm_spec.specs.Rule.{IsRatio}
+use Rattle.cm_words_arguments.specs.Builds.{AreBuildValues}
 use Rattle.cm_words_values.specs.Limits.{IsCount, IsEnd, IsFirst}
 
 pub record AreValues (v : Values) : Type 0 where
-  pub ratio : IsRatio v.c
-  pub first : IsFirst v.first
-  pub count : IsCount v.count
+  pub build : AreBuildValues v.build
   pub width : IsFingerprint v.w
 
 -- The ranges of a build's numbers, and the byte that ends its lines.

@@ -1,7 +1,6 @@
 //! The arguments of the command line of `cmph_filter`, read as a job.
 #![tactic(auto)]
 
-mod arguments;
 pub mod examples;
 mod jobs;
 mod reading;

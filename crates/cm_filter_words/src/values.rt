@@ -6,22 +6,15 @@ ghost use Rattle.cm_filter_words.specs.Limits.{AreValues};
 ghost use Rattle.cm_filter_words.specs.Options.{values_of, width_value};
 
 use clap::ArgMatches;
-use cm_algo_names::Algorithm;
 use cm_filter::{MAX_FINGERPRINT, MIN_FINGERPRINT};
-use cm_words_arguments::text;
-use cm_words_values::{BadValue, count, first, number, ratio, seed};
+use cm_words_arguments::{BuildValues, build_values, text};
+use cm_words_values::{BadValue, number};
 
 /// The values of the options that are tested.
 #[derive(Clone, Copy, Debug)]
 pub struct Values {
-    /// The ratio of vertices to keys in millionths.
-    pub c: u32,
-    /// How many lines of the keys file are read, or all.
-    pub first: Option<u32>,
-    /// How many seeds are tried at most.
-    pub count: u32,
-    /// The first seed that is tried.
-    pub seed: u32,
+    /// Those of any build.
+    pub build: BuildValues,
     /// How many bits a fingerprint has.
     pub w: u8,
 }
@@ -40,16 +33,7 @@ pub fn all_values(matches: &ArgMatches<'_>) -> Result<Values, BadValue>
     ensures values { result ≡ values_of (rows_of (found_of matches.now)) }
     ensures within { IfOk result AreValues }
 {
-    let c = ratio(text(matches, "ratio"), Algorithm::Bdz)?;
-    let first = first(text(matches, "first"))?;
-    let count = count(text(matches, "count"))?;
-    let seed = seed(text(matches, "seed"))?;
+    let build = build_values(matches)?;
     let w = width(text(matches, "width"))?;
-    Ok(Values {
-        c,
-        first,
-        count,
-        seed,
-        w,
-    })
+    Ok(Values { build, w })
 }

@@ -1,4 +1,5 @@
 pub mod Command
+pub mod CommandLaws
 pub mod Examples
 pub mod Limits
 pub mod Meaning

@@ -4,14 +4,13 @@ ghost use Rattle.clap.specs.Words.{first_of, found_of, rows_of};
 ghost use Rattle.cm_words_values.specs.Limits.{IsFirst, IsTestSize};
 ghost use Rattle.cm_words_arguments.specs.Options.{is_set};
 ghost use Rattle.cm_words.specs.Limits.{AreValues, IsBuild, IsJob, IsQuery, IsTest};
-ghost use Rattle.cm_words.specs.Meaning.{build_of, directory_of, function_of, job_of, job_of_rows, job_over, query_of, test_of, upgrade_over};
+ghost use Rattle.cm_words.specs.Meaning.{build_of, directory_of, function_of, job_of, job_over, query_of, test_of, upgrade_over};
 ghost use Rattle.cm_words.specs.Options.{is_build};
 
-use crate::arguments::command;
 use crate::values::{Values, all_values};
-use crate::{BuildJob, Job, QueryJob, TestJob, Text, UpgradeJob, UsageFault};
-use clap::ArgMatches;
-use cm_words_arguments::{copy, counted, end, flag, path_or, text};
+use crate::{BuildJob, Job, QueryJob, TestJob, Text, UpgradeJob, UsageFault, arguments};
+use clap::{ArgMatches, Command};
+use cm_words_arguments::{Reader, copy, counted, end, flag, path_or, read, text};
 use std::alloc::{AllocError, Global};
 
 /// The path of the function file: the one that is given, or that of the keys file.
@@ -134,41 +133,57 @@ fn file_job(alloc: Global, matches: &ArgMatches<'_>, values: Values) -> Result<J
     }
 }
 
-/// The job of the arguments that clap found.
-fn job(alloc: Global, matches: &ArgMatches<'_>) -> Result<Job, UsageFault>
-    ensures job { IfOk result (λ job. Ok job ≡ job_of_rows (rows_of (found_of matches.now))) }
-    ensures fault { IfErr result (λ fault. (fault ≡ UsageFault.Memory)
-        ⊎ (Err fault ≡ job_of_rows (rows_of (found_of matches.now)))) }
-    ensures within { IfOk result IsJob }
+/// What reads the arguments of `cmph`.
+struct CmphReader;
 
-    // A fault that was found is never reported as out of memory.
-    ensures memory { result ≡ Err UsageFault.Memory → IsOk (job_of_rows (rows_of (found_of matches.now))) }
-{
-    if flag(matches, "help") {
-        return Ok(Job::Help);
+impl Reader for CmphReader {
+    ghost use Rattle.cm_words.specs.Command.{cmph_app};
+    ghost use Rattle.cm_words.specs.CommandLaws.{cmph_app-free, cmph_app-simple};
+    ghost use Rattle.cm_words.specs.Limits.{IsJob};
+    ghost use Rattle.cm_words.specs.Meaning.{job_of_rows};
+
+    type Job = Job;
+
+    ghost app = { cmph_app };
+
+    ghost meaning = { job_of_rows };
+
+    ghost is_job = { IsJob };
+
+    ghost simple = { cmph_app-simple };
+
+    ghost free = { cmph_app-free };
+
+    fn command<'a>(alloc: Global) -> Result<Command<'a>, AllocError> {
+        arguments::command(alloc)
     }
-    if flag(matches, "version") {
-        return Ok(Job::Version);
+
+    fn job(alloc: Global, matches: &ArgMatches<'_>) -> Result<Job, UsageFault> {
+        if flag(matches, "help") {
+            return Ok(Job::Help);
+        }
+        if flag(matches, "version") {
+            return Ok(Job::Version);
+        }
+        let values = all_values(matches)?;
+        if let Some(keys) = values.test {
+            return Ok(Job::Test(test_job(alloc, matches, values, keys)?));
+        }
+        if flag(matches, "upgrade") {
+            return upgrade_job(alloc, matches);
+        }
+        file_job(alloc, matches, values)
     }
-    let values = all_values(matches)?;
-    if let Some(keys) = values.test {
-        return Ok(Job::Test(test_job(alloc, matches, values, keys)?));
-    }
-    if flag(matches, "upgrade") {
-        return upgrade_job(alloc, matches);
-    }
-    file_job(alloc, matches, values)
 }
 
 /// Reads the arguments of a command line, of which the first is the program's name, as a job. It copies the paths, and fails with
 /// `Memory` if memory runs out for that.
+#[tactic(auto, unfolding(crate::specs::Meaning::job_of))]
 pub fn read_words(alloc: Global, words: &[String]) -> Result<Job, UsageFault>
     ensures job { IfOk result (λ job. Ok job ≡ job_of (map (λ w. string_bytes w) words.now)) }
     ensures fault { IfErr result (λ fault. (fault ≡ UsageFault.Memory)
         ⊎ (Err fault ≡ job_of (map (λ w. string_bytes w) words.now))) }
     ensures within { IfOk result IsJob }
 {
-    let command = command(alloc)?;
-    let matches = command.try_get_matches_from(words)?;
-    job(alloc, &matches)
+    read::<CmphReader>(alloc, words)
 }

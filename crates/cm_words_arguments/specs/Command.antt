@@ -1,5 +1,5 @@
 -- The command that parses the arguments, in clap's terms.
-use Rattle.std.specs.Prelude.{ℕ, Bool, true, List, [], ◌∷◌, Some}
+use Rattle.std.specs.Prelude.{ℕ, Bool, true, List, [], ◌∷◌, Some, codes}
 use Rattle.clap.specs.Words.{App, Rule, Text, new_app, new_rule, with_rule}
 use Rattle.clap.specs.declared.builder.action.ArgAction.{ArgAction}
 use Rattle.clap.specs.declared.builder.action.ArgAction.TheVariants.{Count, Set, SetTrue}
@@ -41,3 +41,19 @@ bare_app name = let app = new_app name in record app {
 -- the command of this name with these options, and then these arguments that belong to none
 abbrev pub app_for : Text → List Rule → List Rule → App
 app_for name options files = with_arguments (with_arguments (bare_app name) options) files
+
+-- The options of a program that makes a file of another, or asks what was made, with one of its own that has a value.
+abbrev pub build_options : Text → ℕ → List Rule
+build_options own letter =
+    flag_rule (codes "generate") 103 ∷  -- g
+    flag_rule (codes "zero") 122 ∷  -- z
+    value_rule (codes "ratio") 99 ∷  -- c
+    value_rule (codes "first") 107 ∷  -- k
+    value_rule (codes "made") 109 ∷  -- m
+    value_rule (codes "count") 114 ∷  -- r
+    value_rule (codes "seed") 115 ∷  -- s
+    value_rule own letter ∷ []
+
+-- its whole command: these options, and the file whose lines are read, without which clap refuses the arguments
+abbrev pub build_app : Text → Text → ℕ → App
+build_app name own letter = app_for name (build_options own letter) (file_rule (codes "input") true ∷ [])

@@ -1,5 +1,6 @@
+pub mod Builds
 pub mod Command
 pub mod Examples
+pub mod Files
 pub mod Options
-pub mod ReadingLaws
 pub mod Refusals

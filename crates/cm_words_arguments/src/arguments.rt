@@ -1,7 +1,7 @@
 //! The command that parses the arguments.
 ghost use Rattle.std.specs.Prelude.{◌≡◌, IfOk, map};
 ghost use Rattle.clap.specs.Words.{app_of};
-ghost use Rattle.cm_words_arguments.specs.Command.{app_for, bare_app, file_rule, option_rule, with_argument, with_arguments};
+ghost use Rattle.cm_words_arguments.specs.Command.{app_for, bare_app, build_app, file_rule, option_rule, with_argument, with_arguments};
 
 use clap::{Arg, ArgAction, Command};
 use std::alloc::{AllocError, Global};
@@ -87,4 +87,29 @@ pub fn command<'a>(
 {
     let command = with_options(alloc, bare(alloc, name), options)?;
     with_files(alloc, command, files)
+}
+
+/// The command of a program that makes a file of another, or asks what was made: with the options `-g`, `-z`, `-c`, `-k`, `-m`, `-r` and `-s`,
+/// with one option of its own that has a value, by its name within the program and its letter, and with the file whose lines are read, which
+/// is required. It fails if memory runs out.
+pub fn build_command<'a>(
+    alloc: Global,
+    name: &'a str,
+    own: &'a str,
+    letter: char,
+) -> Result<Command<'a>, AllocError>
+    ensures app { IfOk result (λ r. app_of r ≡ build_app name.entry.now own.entry.now letter) }
+{
+    let options = [
+        ("generate", 'g', ArgAction::SetTrue),
+        ("zero", 'z', ArgAction::SetTrue),
+        ("ratio", 'c', ArgAction::Set),
+        ("first", 'k', ArgAction::Set),
+        ("made", 'm', ArgAction::Set),
+        ("count", 'r', ArgAction::Set),
+        ("seed", 's', ArgAction::Set),
+        (own, letter, ArgAction::Set),
+    ];
+    let files = [("input", true)];
+    command(alloc, name, &options, &files)
 }

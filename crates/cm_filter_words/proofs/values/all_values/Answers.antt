@@ -1,16 +1,12 @@
 use Rattle.std.proofs.Common.{◌≡◌, ◌∙◌, Ok, ap, codes, refl, sym}
 use Rattle.clap.specs.Words.{first_of, found_of, rows_of}
-use Rattle.cm_algo_names.specs.declared.algorithm.Algorithm.TheVariants.{Bdz}
 use Rattle.cm_filter_words.proofs.values.all_values.Goals as goal
 use Rattle.cm_filter_words.specs.Options.{width_value}
-use Rattle.cm_words_values.specs.Options.{count_value, first_value, ratio_value, seed_value}
+use Rattle.cm_words_arguments.specs.Builds.{build_values_of}
 
 pub returns-clause-values : goal.returns-clause-values
 returns-clause-values c =
     let rows = rows_of (found_of c.args.matches.now) in
-    let r : ratio_value Bdz (first_of (codes "ratio") rows) ≡ Ok c.in_ok-c.c = ap (ratio_value Bdz) (sym c.text.ensures) ∙ sym c.ratio.ensures.value ∙ c.in_ok-c.was in
-    let first : first_value (first_of (codes "first") rows) ≡ Ok c.in_ok-first.first = ap first_value (sym c.text-2.ensures) ∙ sym c.first.ensures.value ∙ c.in_ok-first.was in
-    let count : count_value (first_of (codes "count") rows) ≡ Ok c.in_ok-count.count = ap count_value (sym c.text-3.ensures) ∙ sym c.count.ensures.value ∙ c.in_ok-count.was in
-    let seed : seed_value (first_of (codes "seed") rows) ≡ Ok c.in_ok-seed.seed = ap seed_value (sym c.text-4.ensures) ∙ sym c.seed.ensures.value ∙ c.in_ok-seed.was in
-    let w : width_value (first_of (codes "width") rows) ≡ Ok c.in_ok-w.w = ap width_value (sym c.text-5.ensures) ∙ sym c.width.ensures.value ∙ c.in_ok-w.was in
-    rw (r, first, count, seed, w) refl
+    let build : build_values_of rows ≡ Ok c.in_ok-build.build = sym c.build_values.ensures.values ∙ c.in_ok-build.was in
+    let w : width_value (first_of (codes "width") rows) ≡ Ok c.in_ok-w.w = ap width_value (sym c.text.ensures) ∙ sym c.width.ensures.value ∙ c.in_ok-w.was in
+    rw (build, w) refl

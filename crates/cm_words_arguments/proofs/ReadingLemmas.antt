@@ -1,4 +1,4 @@
--- Laws of reading by a command: from what clap found, or its fault, to what the arguments mean. They are for the programs that read so.
+-- From what clap found of the arguments, or its fault, to what they mean.
 use Rattle.std.specs.Prelude.{◌≡◌, ◌⊎◌, true, List, [], ◌∷◌, Ok, Err, IfErr, IfOk, IsErrAnd, refl, if◌then◌else◌}
 use Rattle.std.proofs.Common.{◌∙◌, ap, sym, inl, inr}
 use Rattle.clap.specs.Words.{App, HasKind, HasMatchesOf, IsAmong, Kinds, Row, Text, fault_of, found_of, is_simple, is_simple_and_free, kind_of, matches_of, rows_of}
