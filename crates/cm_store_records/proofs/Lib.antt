@@ -1,0 +1,5 @@
+mod TabLemmas
+mod PartLemmas
+mod PassLemmas
+mod PutLemmas
+mod ReadLemmas

@@ -1,0 +1,5 @@
+pub mod Records
+pub mod RecordPass
+pub mod Reads
+pub mod RecordLaws
+pub mod PassLaws

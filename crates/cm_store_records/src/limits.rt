@@ -1,0 +1,10 @@
+//! The form of records, and how many bytes they take at most.
+
+/// The byte that ends the key of a line.
+pub const TAB: u8 = 9;
+
+/// How many bytes of a record stand before its key: the lengths of key and value.
+pub const HEAD_LEN: usize = 4;
+
+/// How many bytes all records take at most.
+pub const MAX_RECORD_BYTES: usize = 1_073_741_824;
