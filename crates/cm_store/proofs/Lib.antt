@@ -1,0 +1,5 @@
+mod Standing
+mod AllPlaces
+mod Looking
+mod FillLemmas
+mod NumberLemmas
