@@ -1,0 +1,5 @@
+pub mod Headers
+pub mod Steps
+pub mod StoreFiles
+pub mod Loads
+pub mod Examples
