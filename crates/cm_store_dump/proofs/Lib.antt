@@ -1,0 +1,5 @@
+pub mod Loads
+pub mod Built
+pub mod Made
+pub mod Saved
+pub mod Usage
