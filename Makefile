@@ -1,5 +1,5 @@
-# make            proves and builds bin/cmph, bin/cmph_judge and bin/cmph_filter: names each crate with its time, and puts all else into
-#                 out/prove.log
+# make            proves and builds bin/cmph, bin/cmph_judge, bin/cmph_filter and bin/cmph_store: names each crate with its time, and puts
+#                 all else into out/prove.log
 # make demo       builds a function over a word list, queries it, and tries all algorithms over generated keys
 # make check      the gate: proves everything from nothing, and runs all tests
 # make install    installs the programs, their man pages, and completions for bash and zsh below $(PREFIX)
@@ -16,6 +16,8 @@
 #                 the judge of reports beside the refused builds that printed them
 # make bench-filter
 #                 membership filters beside builds and queries, libbloom and plain Rust
+# make bench-store
+#                 record stores beside builds and queries, tinycdb and LMDB
 # make drawings   draws docs/chm.svg from a real run
 PREFIX ?= /usr/local
 SETS ?=
@@ -24,13 +26,14 @@ ROUNDS ?= 7
 BEFORE ?=
 SOURCES := crates.txt $(wildcard crates/*/src/*.rt crates/*/specs/*.antt) $(shell find crates -path '*/out' -prune -o -name '*.antt' -print)
 
-PROGRAMS := cmph cmph_judge cmph_filter
+PROGRAMS := cmph cmph_judge cmph_filter cmph_store
 
 all: $(PROGRAMS:%=bin/%)
 
 # A run that was stopped goes on with the crates that were not proved. The programs are proved one after another, since they share crates.
 bin/cmph_judge: bin/cmph
 bin/cmph_filter: bin/cmph_judge
+bin/cmph_store: bin/cmph_filter
 bin/%: $(SOURCES)
 	@python3 tools/prove.py $*
 	@mkdir -p bin
@@ -89,10 +92,13 @@ bench-judge: all
 bench-filter: all
 	python3 bench/tables.py --record filter python3 bench/filter.py
 
+bench-store: all
+	python3 bench/tables.py --record store python3 bench/store.py
+
 drawings: bin/cmph
 	python3 docs/draw.py
 
 clean:
 	rm -rf bin out crates/*/out
 
-.PHONY: all demo check install uninstall bench bench-bits bench-peel bench-spill bench-bbhash bench-versions bench-most bench-judge bench-filter drawings clean
+.PHONY: all demo check install uninstall bench bench-bits bench-peel bench-spill bench-bbhash bench-versions bench-most bench-judge bench-filter bench-store drawings clean
