@@ -1,7 +1,7 @@
 #!/usr/bin/env python3
 """Compares the options and their choices in the usage text, the man pages, the README, docs/command-line.md and the completions.
 
-    tests/completions.py [CMPH [JUDGE [FILTER]]]        the programs are those below crates/ if they are left out
+    tests/completions.py [CMPH [JUDGE [FILTER [STORE]]]]        the programs are those below crates/ if they are left out
 
 The usage text may name options and algorithms before the program takes them. CMPH is asked which it takes, and the others are
 left out. The programs beside it have no usage text: they are asked for each letter. The completions of bash are asked of bash; those of
@@ -16,12 +16,13 @@ from pathlib import Path
 
 TOP = Path(__file__).resolve().parent.parent
 BASH, ZSH = TOP / "completions" / "cmph.bash", TOP / "completions" / "_cmph"
-PROGRAMS = ["cmph", "cmph_judge", "cmph_filter"]
+PROGRAMS = ["cmph", "cmph_judge", "cmph_filter", "cmph_store"]
 
 # Of the programs beside cmph: how many files they take, what follows their options in the man page, and their heading in docs/command-line.md.
 BESIDE = {
     "cmph_judge": (2, ".Ss What is true", "## The judge of reports"),
     "cmph_filter": (1, ".Ss Keys", "## Filters"),
+    "cmph_store": (1, ".Ss Lines and keys", "## Record stores"),
 }
 
 

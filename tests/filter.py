@@ -63,12 +63,12 @@ def rounds_of(graph):
         left -= set(taken)
 
 
-def cells_of(graph, rounds, targets, count, width):
+def cells_of(graph, rounds, targets, count, modulus):
     """The cells by which the ends of each edge add up to its target."""
     cells = [0] * count
     for taken in reversed(rounds):
         for line, pivot in taken.items():
-            cells[pivot] = (targets[line] - sum(cells[end] for end in graph[line] if end != pivot)) % 2**width
+            cells[pivot] = (targets[line] - sum(cells[end] for end in graph[line] if end != pivot)) % modulus
     return cells
 
 
@@ -79,7 +79,7 @@ def filter_under(keys, ratio, seed, width):
     if left:
         return None
     targets = {line: fingerprint(key, seed, width) for line, key in keys.items()}
-    return Filter(len(keys), ratio, seed, width, cells_of(graph, rounds, targets, cell_count(len(keys), ratio), width))
+    return Filter(len(keys), ratio, seed, width, cells_of(graph, rounds, targets, cell_count(len(keys), ratio), 2**width))
 
 
 def report(keys, ratio, seed):

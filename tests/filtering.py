@@ -8,17 +8,15 @@ The last line is 'N passed, M failed', where each set of keys and each file is o
 """
 import functools
 import random
-import subprocess
-import sys
-import tempfile
-from pathlib import Path
 
+import comparing
 import filter as plain
 import judge
+from comparing import difference, kept, put, run
 
 judge.hashes = functools.cache(judge.hashes)  # of the same keys, for thousands of runs
 
-CMPH, FILTER = (Path(path).resolve() for path in (sys.argv[1:] + ["crates/cmph/out/cmph", "crates/cmph_filter/out/cmph_filter"][len(sys.argv) - 1:])[:2])
+CMPH, FILTER = comparing.programs("cmph", "cmph_filter")
 LONGEST = b"x" * 65535
 WIDTHS = range(1, 17)
 MOST_SETS = 64
@@ -37,39 +35,15 @@ REFUSED = [
 ]
 
 
-def words_of(options):
-    """The options of a command line that stand for those of tests/filter.py."""
-    letters = {"width": "-w", "seed": "-s", "count": "-r", "first": "-k"}
-    words = [word for name, letter in letters.items() if name in options for word in (letter, str(options[name]))]
-    ratio = ["-c", "%d.%06d" % divmod(options["ratio"], 10**6)] if "ratio" in options else []
-    return words + ratio + (["-z"] if options.get("end") == b"\0" else [])
-
-
-def run(room, *words):
-    ran = subprocess.run(words, cwd=room, stdin=subprocess.DEVNULL, capture_output=True, timeout=60)
-    return ran.returncode, ran.stdout, ran.stderr
-
-
-def kept(room):
-    path = room / "keys.flt"
-    return path.read_bytes() if path.exists() else None
-
-
-def shown(values):
-    return ", ".join(repr(value) if len(repr(value)) < 200 else f"{repr(value)[:90]} .. ({len(value)} bytes)" for value in values)
-
-
-def difference(what, found, wanted):
-    if found != wanted:
-        yield f"{what}: {shown(found)}, and must be {shown(wanted)}"
+words_of = functools.partial(comparing.words_of, letters={"width": "-w", "seed": "-s", "count": "-r", "first": "-k"})
 
 
 def built(room, text, options):
     """What goes wrong with a build."""
-    (room / "keys").write_bytes(text)
+    put(room / "keys", text)
     (room / "keys.flt").unlink(missing_ok=True)
     wanted = plain.built(text, **options)
-    yield from difference(f"a build with {words_of(options)}", (*run(room, FILTER, "-g", *words_of(options), "keys"), kept(room)), wanted)
+    yield from difference(f"a build with {words_of(options)}", (*run(room, FILTER, "-g", *words_of(options), "keys"), kept(room / "keys.flt")), wanted)
     if wanted[0] == 1:
         words = words_of({name: value for name, value in options.items() if name != "width"})
         yield from difference(f"cmph -a bdz with {words}", run(room, CMPH, "-g", "-a", "bdz", *words, "keys")[:2], wanted[:2])
@@ -77,9 +51,9 @@ def built(room, text, options):
 
 def tested(room, file, text, options):
     """What goes wrong with a test of keys."""
-    (room / "keys").write_bytes(text)
-    (room / "keys.flt").write_bytes(file)
-    found = (*run(room, FILTER, *words_of(options), "keys"), kept(room))
+    put(room / "keys", text)
+    put(room / "keys.flt", file)
+    found = (*run(room, FILTER, *words_of(options), "keys"), kept(room / "keys.flt"))
     yield from difference(f"a test with {words_of(options)} by {file[:60].hex()}", found, (*plain.tested(file, text, **options), file))
 
 
@@ -95,15 +69,8 @@ def of_keys(room, text, strange, options):
 
 
 def differing(file):
-    """The files with one byte cut off, changed, removed or doubled, and with more after them."""
-    for at in range(len(file)):
-        yield file[:at]
-        for byte in {file[at] ^ 1, file[at] ^ 128, 0, 255, (file[at] + 1) % 256} - {file[at]}:
-            yield file[:at] + bytes([byte]) + file[at + 1:]
-        yield file[:at] + file[at + 1:]
-        yield file[:at + 1] + file[at:]
-    yield from (file + b"\0", file * 2, file + bytes(70000))
-    # Headers with the most keys and the greatest ratio, and no cells.
+    """The files that differ little from another, and headers with the most keys and the greatest ratio, and no cells."""
+    yield from comparing.differing(file)
     yield from (file[:12] + (2**26).to_bytes(4, "little") + ratio.to_bytes(4, "little") + bytes(4) for ratio in (10**6, 10**7))
 
 
@@ -145,16 +112,5 @@ def cases(room):
         yield of_file(room, width)
 
 
-def main():
-    count, failures = 0, []
-    with tempfile.TemporaryDirectory() as scratch:
-        for wrong in cases(Path(scratch)):
-            count, failures = count + 1, failures + list(wrong)[:1]
-    for failure in failures:
-        print("failed:", failure)
-    print(f"{count - len(failures)} passed, {len(failures)} failed")
-    sys.exit(bool(failures))
-
-
 if __name__ == "__main__":
-    main()
+    comparing.judge(cases)

@@ -4,6 +4,8 @@
 #[cfg(test)]
 mod equal;
 #[cfg(test)]
+mod failing;
+#[cfg(test)]
 mod filter;
 #[cfg(test)]
 mod filter_bytes;
@@ -21,3 +23,9 @@ mod judge;
 mod judge_faults;
 #[cfg(test)]
 mod running;
+#[cfg(test)]
+mod store;
+#[cfg(test)]
+mod store_bytes;
+#[cfg(test)]
+mod store_faults;
