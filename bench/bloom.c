@@ -4,36 +4,15 @@
 // It writes these lines to standard output. The file REPORT then says how many seconds of processor time the building and the testing
 // took, with the reading of the files, how many bits the filter has, and how many lines it let through. libbloom keeps no filter in a
 // file, so both are measured in one run.
-#define _GNU_SOURCE
+#include "lines.h"
 #include <bloom.h>
 #include <math.h>
-#include <stdio.h>
-#include <stdlib.h>
 #include <time.h>
-
-#define PIECE 65536
 
 static double seconds(void) {
     struct timespec now;
     clock_gettime(CLOCK_PROCESS_CPUTIME_ID, &now);
     return now.tv_sec + now.tv_nsec / 1e9;
-}
-
-static FILE *opened(const char *path, const char *how) {
-    FILE *file = fopen(path, how);
-    if (!file) {
-        perror(path);
-        exit(1);
-    }
-    setvbuf(file, NULL, _IOFBF, PIECE);
-    return file;
-}
-
-// The next line without its end, or -1.
-static ssize_t next_line(FILE *file, char **line, size_t *room) {
-    ssize_t length = getline(line, room, file);
-    if (length > 0 && (*line)[length - 1] == '\n') length--;
-    return length;
 }
 
 static long count_lines(const char *path) {
@@ -49,25 +28,23 @@ static long count_lines(const char *path) {
 
 static void add_lines(struct bloom *filter, const char *path) {
     FILE *file = opened(path, "rb");
-    char *line = NULL;
-    size_t room = 0;
-    for (ssize_t length; (length = next_line(file, &line, &room)) >= 0;) bloom_add(filter, line, (int)length);
-    free(line);
+    struct line line = {0};
+    for (ssize_t length; (length = next_line(file, &line)) >= 0;) bloom_add(filter, line.bytes, (int)length);
+    free(line.bytes);
     fclose(file);
 }
 
 static long test_lines(struct bloom *filter, const char *path) {
     FILE *file = opened(path, "rb");
-    char *line = NULL;
-    size_t room = 0;
+    struct line line = {0};
     long count = 0;
-    for (ssize_t length; (length = next_line(file, &line, &room)) >= 0;)
-        if (bloom_check(filter, line, (int)length)) {
-            fwrite_unlocked(line, 1, length, stdout);
+    for (ssize_t length; (length = next_line(file, &line)) >= 0;)
+        if (bloom_check(filter, line.bytes, (int)length)) {
+            fwrite_unlocked(line.bytes, 1, length, stdout);
             putchar_unlocked('\n');
             count++;
         }
-    free(line);
+    free(line.bytes);
     fclose(file);
     return count;
 }

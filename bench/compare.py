@@ -161,6 +161,19 @@ def plain_rust(algorithm: str) -> Path | None:
     return program
 
 
+@functools.cache
+def c_program(name: str, package: str, *libraries: str) -> Path | None:
+    """The program of bench/NAME.c, if gcc and the libraries are there."""
+    program = TOP / "bench" / "out" / name
+    program.parent.mkdir(exist_ok=True)
+    words = ["gcc", "-O2", "-o", program, TOP / "bench" / f"{name}.c", *(f"-l{library}" for library in libraries)]
+    built = shutil.which("gcc") and subprocess.run(words, stderr=subprocess.DEVNULL)
+    if not built or built.returncode != 0:
+        note(f"{name}: left out, install Debian's {package} and gcc")
+        return None
+    return program
+
+
 # The keys
 
 

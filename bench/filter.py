@@ -15,8 +15,6 @@ It needs bin/cmph and bin/cmph_filter (`make`). What is not installed is left ou
 
 import argparse
 import filecmp
-import functools
-import shutil
 import subprocess
 import sys
 import tempfile
@@ -61,15 +59,8 @@ class Files(NamedTuple):
 # The tools
 
 
-@functools.cache
 def bloom() -> Path | None:
-    source, program = compare.TOP / "bench" / "bloom.c", compare.TOP / "bench" / "out" / "bloom"
-    program.parent.mkdir(exist_ok=True)
-    built = shutil.which("gcc") and subprocess.run(["gcc", "-O2", "-o", program, source, "-lbloom", "-lm"], stderr=subprocess.DEVNULL)
-    if not built or built.returncode != 0:
-        compare.note("libbloom: left out, install Debian's libbloom-dev and gcc")
-        return None
-    return program
+    return compare.c_program("bloom", "libbloom-dev", "bloom", "m")
 
 
 def taken_tools() -> list[str]:
