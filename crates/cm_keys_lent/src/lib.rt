@@ -1,0 +1,8 @@
+//! Keys in one run of bytes, each with its end, as a pass: for keys that a caller has in memory.
+#![tactic(auto)]
+
+mod ends;
+mod keys;
+
+pub use crate::ends::{EndsFault, key_at};
+pub use crate::keys::LentKeys;
