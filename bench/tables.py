@@ -1,5 +1,6 @@
 #!/usr/bin/env python3
-"""Writes the measured tables of README.md and docs/ from the files in bench/results, and those of crates from crates.txt.
+"""Writes the measured tables of README.md and docs/ from the files in bench/results, those of crates from crates.txt, and code from
+its file.
 
     bench/tables.py                            writes every block, and the drawings docs/bench.svg and docs/crates.svg
     bench/tables.py --check                    writes nothing, and fails if a block or a drawing is not what it would write, if
@@ -13,6 +14,7 @@ A block stands in a page between `<!-- begin: WHAT -->` and `<!-- end -->`. WHAT
     choice NAME KEYS    which algorithm to take, with the figures of NAME.csv for that many generated keys
     crates              each crate with what it may use and what it promises, by crates.txt
     families            each family of crates with what it is for and what it promises, by crates.txt
+    source FILE [PART]  a file of the repository as code, or the part of it between its comments `begin: PART` and `end: PART`
 
 The bars in docs/bench.svg are drawn from bench/results/latest.csv, and docs/crates.svg from crates.txt (bench/house.py).
 """
@@ -38,6 +40,7 @@ BARS = TOP / "docs" / "bench.svg"
 CRATES = TOP / "docs" / "crates.svg"
 BLOCK = re.compile(r"^<!-- begin: ([^\n]*) -->\n(.*?)^<!-- end -->$", re.MULTILINE | re.DOTALL)
 MARKER = re.compile(r"^<!-- (begin: .*|end) -->$", re.MULTILINE)
+FENCES = {".rt": "rust", ".antt": "antt"}
 NEEDS = {
     "chm": ("the numbers of the lines, in the order of the keys", "0 to m - 1, in order"),
     "bdz": ("a small function, and no number left out", "0 to m - 1, in no order that means anything"),
@@ -95,6 +98,18 @@ def summary(name: str) -> str:
     return f"\nOver all sets of keys that were measured, {' and '.join(said)} of the C tool's processor time.\n"
 
 
+def source(path: str, part: str | None) -> str:
+    """A file as code, or the part of it between two comments, which stand on lines of their own."""
+    code = (TOP / path).read_text()
+    if part:
+        mark, name = "^ *(?://|--)", re.escape(part)
+        found = re.search(f"{mark} begin: {name}$(.*?){mark} end: {name}$", code, re.MULTILINE | re.DOTALL)
+        if not found:
+            raise Refused(f"{path} has no part '{part}'")
+        code = found[1]
+    return f"```{FENCES.get(Path(path).suffix, '')}\n{code.strip()}\n```\n"
+
+
 def content(what: str) -> str:
     """What stands in a block."""
     match what.split():
@@ -106,6 +121,8 @@ def content(what: str) -> str:
             return house.table_of_crates()
         case ["families"]:
             return house.table_of_families()
+        case ["source", path, *part] if len(part) < 2:
+            return source(path, *part or [None])
     raise Refused(f"there is no block '{what}'")
 
 
@@ -168,7 +185,7 @@ def main() -> int:
     old = {path: text for path, text in wanted().items() if not path.exists() or path.read_text() != text}
     for path, text in old.items():
         if asked == ["--check"]:
-            print(f"{path.relative_to(TOP)} differs from bench/results or crates.txt: run bench/tables.py", file=sys.stderr)
+            print(f"{path.relative_to(TOP)} differs from what its blocks are written from: run bench/tables.py", file=sys.stderr)
         else:
             path.write_text(text)
             print(f"{path.relative_to(TOP)}: written")
