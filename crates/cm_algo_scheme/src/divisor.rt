@@ -1,5 +1,5 @@
 //! Remainders by a fixed number, with multiplications in place of each division.
-ghost use Rattle.std.specs.Prelude.{◌≡◌, ℕ, ◌/◌, ◌%◌, ◌^◌, ◌<◌};
+ghost use Rattle.std.specs.Prelude.{◌≡◌, ◌↔◌, ℕ, ◌/◌, ◌%◌, ◌^◌, ◌<◌, IfSome, IsSome};
 
 use std::marker::Model;
 
@@ -32,6 +32,41 @@ impl Divisor {
         Divisor {
             n,
             scaled: 4_294_967_296 / n as u64,
+        }
+    }
+
+    /// The divisor of `n`, which is not 0, by its reciprocal `2^32 / n`, rounded down, as `scaled` gives it. Nothing is divided.
+    pub fn again(n: u32, scaled: u64) -> Divisor
+        requires some { 0 < n }
+        requires scaled { scaled ≡ 2 ^ 32 / n }
+        ensures value { result ≡ n }
+    {
+        Divisor { n, scaled }
+    }
+
+    /// The reciprocal: `2^32` divided by the number, rounded down, from 1 to `2^32`.
+    pub fn scaled(&self) -> u64
+        ensures scaled { result ≡ 2 ^ 32 / self.now }
+    {
+        self.scaled
+    }
+
+    /// The number `n`, if `scaled` is its reciprocal: `2^32 / n`, rounded down. None if it isn't, and if `n` is 0. It multiplies, and makes
+    /// no division.
+    #[inline]
+    pub fn known(n: u32, scaled: u64) -> Option<Divisor>
+        ensures value { IfSome result (λ d. d ≡ n) }
+        ensures known { IsSome result ↔ ((0 < n) × (scaled ≡ 2 ^ 32 / n)) }
+    {
+        let whole = 4_294_967_296u64;
+        if n == 0 || scaled > whole {
+            return None;
+        }
+        let product = scaled * n as u64;
+        if product <= whole && whole - product < n as u64 {
+            Some(Divisor { n, scaled })
+        } else {
+            None
         }
     }
 

@@ -1,2 +1,2 @@
+pub mod HeldLemmas
 pub mod NumberingLemmas
-mod Ranking

@@ -4,7 +4,7 @@ use Rattle.std.specs.Prelude.{slice_index}
 use Rattle.std.specs.List.{count_by, sum_by}
 use Rattle.std.proofs.lemmas.Bool.{ne_eqb}
 use Rattle.std.proofs.lemmas.List.{length-map, get_or-map}
-use Rattle.cm_bdz.proofs.Ranking.{rank_apart, rank_below}
+use Rattle.cm_bdz.specs.RankingLaws.{rank_apart, rank_below}
 use Rattle.cm_bdz.specs.BdzLaws.{bdz_is_rule, bdz_ph_is_rule}
 use Rattle.cm_bdz.specs.Functions.{bdz_answer, bdz_ph_answer, chosen_end, chosen_of, ranked}
 use Rattle.cm_bdz.specs.Numbering.{AnswersApart, bdz_ph_under, bdz_under}

@@ -84,7 +84,7 @@ triple_is_edge r a b c l k m = (in_triple, distinct) where
   distinct (suc zero) (suc (suc (suc k))) d i j e = absurd (omega arith)
   distinct (suc (suc i)) j d h l e = absurd (omega arith)
 
-bdz_ends : (w : List ℕ) (n : ℕ) → HasThirds n → (length (bdz_edge w n) ≡ 3) × IsEdge n (bdz_edge w n)
+pub bdz_ends : (w : List ℕ) (n : ℕ) → HasThirds n → (length (bdz_edge w n) ≡ 3) × IsEdge n (bdz_edge w n)
 bdz_ends w n t =
     let a : slice_index w 0 % (n / 3) < n / 3 = mod_below _ _ (omega (arith, t.some)) in
     let b : slice_index w 1 % (n / 3) < n / 3 = mod_below _ _ (omega (arith, t.some)) in

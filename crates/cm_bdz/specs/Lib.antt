@@ -1,4 +1,7 @@
 pub mod BdzLaws
 pub mod Functions
+pub mod Lent
+pub mod LentLaws
 pub mod Numbering
 pub mod Places
+pub mod RankingLaws

@@ -9,7 +9,7 @@ use crate::bdz_ph::BdzPh;
 use crate::choice::chosen_among;
 use crate::scheme::{place_in, places_of};
 use cm_algo_scheme::{Answers, Place};
-use cm_bits::Cells;
+use cm_bits::Lookup;
 use cm_lookup2::words;
 
 /// A key that the function was built over gets a number below the number of keys, and no other of these keys the same. Another

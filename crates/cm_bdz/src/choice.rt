@@ -7,11 +7,11 @@ ghost use Rattle.cm_spec.specs.Lookup2 as lookup2;
 
 use crate::scheme::place_in;
 use cm_algo_scheme::{Divisor, Place};
-use cm_bits::Cells;
+use cm_bits::Lookup;
 use cm_lookup2::words;
 
 /// Where a key is looked up. The number of cells is three times a number above 0.
-fn place_of<C: Cells>(cells: &C, key: &[u8], seed: u32) -> Place
+fn place_of<C: Lookup>(cells: &C, key: &[u8], seed: u32) -> Place
     requires size { IsThirds (length (C.cells cells.now)) }
     ensures place { result ≡ bdz_place (lookup2.words key.now seed) (length (C.cells cells.now)) }
 {
@@ -20,7 +20,7 @@ fn place_of<C: Cells>(cells: &C, key: &[u8], seed: u32) -> Place
 
 /// Of the three ends of a place, the one whose position is the sum of their cells, modulo 3. The number of cells is three times a
 /// number above 0, and cells are below 4 or less.
-pub fn chosen_among<C: Cells>(cells: &C, place: &Place) -> u32
+pub fn chosen_among<C: Lookup>(cells: &C, place: &Place) -> u32
     requires size { IsThirds (length (C.cells cells.now)) }
     requires bound { C.bound_of cells.now ≤ 4 }
     requires place { (words : List ℕ) × (place.now ≡ bdz_place words (length (C.cells cells.now))) }
@@ -32,7 +32,7 @@ pub fn chosen_among<C: Cells>(cells: &C, place: &Place) -> u32
 }
 
 /// The vertex of a key. The number of cells is three times a number above 0, and cells are below 4 or less.
-pub fn chosen<C: Cells>(cells: &C, key: &[u8], seed: u32) -> u32
+pub fn chosen<C: Lookup>(cells: &C, key: &[u8], seed: u32) -> u32
     requires size { IsThirds (length (C.cells cells.now)) }
     requires bound { C.bound_of cells.now ≤ 4 }
     ensures chosen { result ≡ chosen_of (C.cells cells.now) key.now seed }

@@ -206,35 +206,34 @@ two_clear x a b =
 -- groups more are below a bound
 groups_more : (w first bound : ℕ) (bytes : List ℕ) → w ≤ 26 → ((k : ℕ) → slice_index bytes k < 256)
     → AreBelow w bound bytes (8 * first)
-    → (count : ℕ) → (first + count) * w + 8 ≤ length bytes
+    → (count : ℕ)
     → ((g : ℕ) → first ≤ g → g < first + count → (j : ℕ) → j < 4 → IsPairBelow bytes (g * w) (2 * j * w) w bound)
     → AreBelow w bound bytes (8 * (first + count))
-groups_more w first bound bytes short fit before zero room pairs k l = before k (omega arith)
-groups_more w first bound bytes short fit before (suc count) room pairs k l =
+groups_more w first bound bytes short fit before zero pairs k l = before k (omega arith)
+groups_more w first bound bytes short fit before (suc count) pairs k l =
     let g : ℕ = first + count in
-    let less : g * w + 8 ≤ length bytes = omega arith in
     let here : (j : ℕ) → j < 4 → IsPairBelow bytes (g * w) (2 * j * w) w bound = pairs g (omega arith) (omega arith) in
     let start : 2 * 0 * w ≡ 0 = omega arith in
-    group_more w g (g * w) bound bytes short fit (omega arith) refl
+    group_more w g (g * w) bound bytes short fit refl
     (rw start at (here 0 (omega arith))) (here 1 (omega arith)) (here 2 (omega arith)) (here 3 (omega arith))
-    (groups_more w first bound bytes short fit before count less (λ h from to. pairs h from (omega arith))) k (omega arith)
+    (groups_more w first bound bytes short fit before count (λ h from to. pairs h from (omega arith))) k (omega arith)
 
 -- no cell of a block carries exactly if all are below the bound, as those before it are
-pub block_clear : (w first count bound : ℕ) (bytes found after : List ℕ) → w ≤ 26 → 0 < bound → bound ≤ 2 ^ w → ((k : ℕ) → slice_index bytes k < 256) → (first + count) * w + 8 ≤ length bytes
+pub block_clear : (w first count bound : ℕ) (bytes found after : List ℕ) → w ≤ 26 → 0 < bound → bound ≤ 2 ^ w → ((k : ℕ) → slice_index bytes k < 256)
     → HasCarries bytes w (2 ^ w - bound) first (first + count) found
     → length after ≡ 4 → ((j : ℕ) → j < 4 → slice_index after j ≡ after_of w * 2 ^ (2 * j * w % 8))
     → AreBelow w bound bytes (8 * first)
     → (fold_l bit_or 0 (zip2 bit_and found after) ≡ 0) ↔ AreBelow w bound bytes (8 * (first + count))
-block_clear w first count bound bytes found after short positive most fit room has long is before =
+block_clear w first count bound bytes found after short positive most fit has long is before =
     let lanes : length (zip2 bit_and found after) ≡ 4 = length-zip2 bit_and found after (has.0 ∙ sym long) ∙ has.0 in
     let lane : (j : ℕ) → j < 4 → slice_index (zip2 bit_and found after) j ≡ bit_and (slice_index found j) (bit_or (2 ^ (2 * j * w % 8 + w)) (2 ^ (2 * j * w % 8 + 2 * w))) =
     λ j l. get_or-zip2 bit_and found after j 0 0 0 (omega (arith, has.0)) (omega arith) ∙ rw (is j l, after_moved w (2 * j * w % 8)) refl in
     let pair = λ (g j : ℕ). pair_clear w (2 * j * w % 8) bound (window_at bytes (g * w + 2 * j * w / 8)) positive most (omega arith) in (
-      λ none. groups_more w first bound bytes short fit before count room (λ g from to j l.
+      λ none. groups_more w first bound bytes short fit before count (λ g from to j l.
           let both = (two_clear (slice_index found j) _ _).0 (sym (lane j l) ∙ lane_zero (zip2 bit_and found after) 0 j none) in
           (pair g j).0 ((has.1 j l _).0 both.0 g from to, (has.1 j l _).0 both.1 g from to)),
       λ all. all_zero (zip2 bit_and found after) (λ j inside.
           let l : j < 4 = omega arith in
-          let both = λ (g : ℕ) (from : first ≤ g) (to : g < first + count). (pair g j).1 (pair_below w g j bound (first + count) bytes short fit room to l all) in
+          let both = λ (g : ℕ) (from : first ≤ g) (to : g < first + count). (pair g j).1 (pair_below w g j bound (first + count) bytes short fit to l all) in
           lane j l ∙ (two_clear (slice_index found j) _ _).1 ((has.1 j l _).1 (λ g from to. (both g from to).0), (has.1 j l _).1 (λ g from to. (both g from to).1))),
     )

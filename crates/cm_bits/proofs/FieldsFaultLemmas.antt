@@ -4,19 +4,19 @@ use Rattle.std.specs.List.{position, position_or_len}
 use Rattle.std.proofs.Common.{arith, ap, sym, ◌∙◌, inl, inr, lit<}
 use Rattle.std.proofs.Math.Nat.{pow-suc, zero-div, div-div-eq-div-mul, mod-eq_of_lt, div-eq_of_lt, one-le-pow, div-add-mod}
 use Rattle.std.proofs.lemmas.Nat.{mod_below, div_below, pow_pos}
-use Rattle.std.proofs.lemmas.Bool.{cases_lt, leb-false, lt-leb, le-leb}
+use Rattle.std.proofs.lemmas.Bool.{cases_lt, leb-false, lt-leb, le-leb, le-ltb}
 use Rattle.std.proofs.lemmas.List.{get_or_past, get_or_append_left, get_or-append_right, length-append, take_at}
 use Rattle.std.proofs.lemmas.List.FromFn.{fill_by_all}
 use Rattle.std.proofs.lemmas.List.Sums.{fails_before_first}
 use Rattle.cm_spec.specs.Image.{digits_sum, fields_len, fields_byte}
 use Rattle.cm_spec.specs.Lists.{list_of}
 use Rattle.cm_bits.specs.Bound.{AllBelow}
-use Rattle.cm_bits.specs.declared.fault.ImageFault.TheVariants.{BadCell, BadPadding}
-use Rattle.cm_bits.specs.Fault.{bytes_number, field_cells, fields_fault}
+use Rattle.cm_bits.specs.declared.fault.ImageFault.TheVariants.{BadCell}
+use Rattle.cm_bits.specs.Fault.{bytes_number, fault_of, field_cells, fields_fault}
 use Rattle.cm_bits.specs.Held.{IsFields}
 use Rattle.cm_bits.specs.DigitsLaws.{digits_sum-same, digits_sum-lt, digit-digits_sum, digits_sum-short, pow_add, pow_pow}
 use Rattle.cm_bits.specs.FieldsLaws.{length-field_cells, field_cells-at}
-use Rattle.cm_bits.specs.FaultLaws.{no_fault, cell_fault, padding_fault, sound_fault}
+use Rattle.cm_bits.specs.FaultLaws.{cell_fault, sound_fault}
 use Rattle.cm_bits.proofs.FaultLemmas.{found, not_found, finds, finds_none}
 use Rattle.cm_bits.proofs.FieldsLemmas.{fields_number-field_cells}
 use Rattle.cm_bits.specs.AppendLaws.{cell_of_zeros}
@@ -61,16 +61,14 @@ fields_fault-at w n bound i bytes e =
     let both = found (λ c. nat_le bound c) (field_cells w n (bytes_number bytes)) i e in
     rw both.0 (cell_fault n i _ _ (omega (arith, both.1, length-field_cells w n (bytes_number bytes))))
 
-all_sound : (w n bound number : ℕ) → position (λ c. nat_le bound c) (field_cells w n number) ≡ None → n ≤ position_or_len (λ c. nat_le bound c) (field_cells w n number)
+-- a search that finds none passes all cells
+pub all_sound : (w n bound number : ℕ) → position (λ c. nat_le bound c) (field_cells w n number) ≡ None → n ≤ position_or_len (λ c. nat_le bound c) (field_cells w n number)
 all_sound w n bound number e = omega (arith, not_found (λ c. nat_le bound c) (field_cells w n number) e, length-field_cells w n number)
 
-pub fields_fault-padding : (w n bound : ℕ) (bytes : List ℕ) → position (λ c. nat_le bound c) (field_cells w n (bytes_number bytes)) ≡ None → 0 < bytes_number bytes / (2 ^ w) ^ n → fields_fault w n bound bytes ≡ Some (BadPadding (length bytes - 1))
+-- with no cell at fault, the padding decides
+pub fields_fault-past : (w n bound : ℕ) (bytes : List ℕ) → position (λ c. nat_le bound c) (field_cells w n (bytes_number bytes)) ≡ None → fields_fault w n bound bytes ≡ fault_of n n (bytes_number bytes / (2 ^ w) ^ n) (length bytes - 1)
 unfolding fields_fault
-fields_fault-padding w n bound bytes e l = padding_fault n _ _ _ (all_sound w n bound (bytes_number bytes) e) l
-
-pub fields_fault-clear : (w n bound : ℕ) (bytes : List ℕ) → position (λ c. nat_le bound c) (field_cells w n (bytes_number bytes)) ≡ None → bytes_number bytes / (2 ^ w) ^ n ≡ 0 → fields_fault w n bound bytes ≡ None
-unfolding fields_fault
-fields_fault-clear w n bound bytes e l = no_fault n _ _ _ (all_sound w n bound (bytes_number bytes) e) l
+fields_fault-past w n bound bytes e = rw (le-ltb _ n (all_sound w n bound (bytes_number bytes) e), le-ltb n n (omega arith)) refl
 
 -- bytes are the image of the cells of their number
 pub image-fields : (w n : ℕ) (bytes : List ℕ) → length bytes ≡ fields_len w n → ((k : ℕ) → slice_index bytes k < 256) → bytes_number bytes < (2 ^ w) ^ n → bytes ≡ list_of (fields_byte w (field_cells w n (bytes_number bytes))) (fields_len w n)
@@ -80,7 +78,7 @@ image-fields w n bytes len h clear =
     sym (ap (λ x. x / 256 ^ q % 256) (fields_number-field_cells w n (bytes_number bytes) clear)
     ∙ digit-digits_sum 256 (slice_index bytes) (length bytes) q (lit< tt) (λ i m. h i) (omega arith)))
 
-sound_cells : (w n bound number : ℕ) → n ≤ position_or_len (λ c. nat_le bound c) (field_cells w n number) → AllBelow bound (field_cells w n number)
+pub sound_cells : (w n bound number : ℕ) → n ≤ position_or_len (λ c. nat_le bound c) (field_cells w n number) → AllBelow bound (field_cells w n number)
 sound_cells w n bound number h k l =
     leb-false bound _ (fails_before_first (λ c. nat_le bound c) (field_cells w n number) k 0 (omega (arith, length-field_cells w n number)))
 
@@ -123,25 +121,31 @@ pub record FieldsRead (w n bound : ℕ) (bytes held : List ℕ) : Type 0 where
   pub in_bound : AllBelow bound (field_cells w n (bytes_number held))
   pub image : bytes ≡ list_of (fields_byte w (field_cells w n (bytes_number held))) (fields_len w n)
 
-pub fields_read : (w n bound : ℕ) (bytes held : List ℕ) → length bytes ≡ fields_len w n → ((k : ℕ) → slice_index bytes k < 256) → held ≡ bytes ++ replicate 8 0 → fields_fault w n bound bytes ≡ None → FieldsRead w n bound bytes held
+-- bytes without a fault have nothing past the cells, which are below the bound
+pub sound_fields : (w n bound : ℕ) (bytes : List ℕ) → fields_fault w n bound bytes ≡ None → (bytes_number bytes < (2 ^ w) ^ n) × AllBelow bound (field_cells w n (bytes_number bytes))
 unfolding fields_fault
-fields_read w n bound bytes held len h is e =
+sound_fields w n bound bytes e =
     let both = sound_fault n (position_or_len (λ c. nat_le bound c) (field_cells w n (bytes_number bytes))) (bytes_number bytes / (2 ^ w) ^ n) (length bytes - 1) e in
-    let number : bytes_number held ≡ bytes_number bytes = ap bytes_number is ∙ spare_number bytes in
     let power : 0 < (2 ^ w) ^ n = one-le-pow n (2 ^ w) (pow_pos w) in
     let clear : bytes_number bytes < (2 ^ w) ^ n =
     let whole = div-add-mod (bytes_number bytes) ((2 ^ w) ^ n) in
     let below = mod_below (bytes_number bytes) ((2 ^ w) ^ n) power in
     let none : (2 ^ w) ^ n * (bytes_number bytes / (2 ^ w) ^ n) ≡ 0 = rw both.1 (omega arith) in
     omega arith in
+    (clear, sound_cells w n bound (bytes_number bytes) both.0)
+
+pub fields_read : (w n bound : ℕ) (bytes held : List ℕ) → length bytes ≡ fields_len w n → ((k : ℕ) → slice_index bytes k < 256) → held ≡ bytes ++ replicate 8 0 → fields_fault w n bound bytes ≡ None → FieldsRead w n bound bytes held
+fields_read w n bound bytes held len h is e =
+    let both = sound_fields w n bound bytes e in
+    let number : bytes_number held ≡ bytes_number bytes = ap bytes_number is ∙ spare_number bytes in
     record {
       fields = record {
         len = ap length is ∙ spare_len bytes ∙ ap (λ l. l + 8) len;
         fit = λ k. rw is (spare_fit bytes h k);
-        clear = rw number clear;
+        clear = rw number both.0;
       };
-      in_bound = rw number (sound_cells w n bound (bytes_number bytes) both.0);
-      image = rw number (image-fields w n bytes len h clear);
+      in_bound = rw number both.1;
+      image = rw number (image-fields w n bytes len h both.0);
     }
 
 -- the same of bytes that are given with zeros after them

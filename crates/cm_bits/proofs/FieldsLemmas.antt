@@ -101,26 +101,26 @@ group_room w n g bytes len l =
     omega (arith, len, e)
 
 -- a cell lies in the eight bytes from that of its lowest bit on
-pub field_read : (w i : ℕ) (bytes : List ℕ) → w ≤ 26 → ((k : ℕ) → slice_index bytes k < 256) → i * w / 8 + 8 ≤ length bytes → bytes_number bytes / (2 ^ w) ^ i % 2 ^ w ≡ window_at bytes (i * w / 8) / 2 ^ (i * w % 8) % 2 ^ w
-field_read w i bytes short fit room =
-    field_at 8 w i (i * w / 8) (i * w % 8) 64 (bytes_number bytes) (window_at bytes (i * w / 8)) (omega arith) (omega arith) (window_is bytes (i * w / 8) fit room)
+pub field_read : (w i : ℕ) (bytes : List ℕ) → w ≤ 26 → ((k : ℕ) → slice_index bytes k < 256) → bytes_number bytes / (2 ^ w) ^ i % 2 ^ w ≡ window_at bytes (i * w / 8) / 2 ^ (i * w % 8) % 2 ^ w
+field_read w i bytes short fit =
+    field_at 8 w i (i * w / 8) (i * w % 8) 64 (bytes_number bytes) (window_at bytes (i * w / 8)) (omega arith) (omega arith) (window_is bytes (i * w / 8) fit)
 
 -- the cell after it lies in the same eight bytes
-second_read : (w i : ℕ) (bytes : List ℕ) → w ≤ 26 → ((k : ℕ) → slice_index bytes k < 256) → i * w / 8 + 8 ≤ length bytes → bytes_number bytes / (2 ^ w) ^ (i + 1) % 2 ^ w ≡ window_at bytes (i * w / 8) / 2 ^ (i * w % 8 + w) % 2 ^ w
-second_read w i bytes short fit room =
+second_read : (w i : ℕ) (bytes : List ℕ) → w ≤ 26 → ((k : ℕ) → slice_index bytes k < 256) → bytes_number bytes / (2 ^ w) ^ (i + 1) % 2 ^ w ≡ window_at bytes (i * w / 8) / 2 ^ (i * w % 8 + w) % 2 ^ w
+second_read w i bytes short fit =
     let place : w * (i + 1) ≡ 8 * (i * w / 8) + (i * w % 8 + w) = omega arith in
-    field_at 8 w (i + 1) (i * w / 8) (i * w % 8 + w) 64 (bytes_number bytes) (window_at bytes (i * w / 8)) place (omega arith) (window_is bytes (i * w / 8) fit room)
+    field_at 8 w (i + 1) (i * w / 8) (i * w % 8 + w) 64 (bytes_number bytes) (window_at bytes (i * w / 8)) place (omega arith) (window_is bytes (i * w / 8) fit)
 
 -- two cells more are below a bound
-pair_more : (w i at bit bound : ℕ) (bytes : List ℕ) → w ≤ 26 → ((k : ℕ) → slice_index bytes k < 256) → i * w / 8 + 8 ≤ length bytes → at + bit / 8 ≡ i * w / 8 → bit % 8 ≡ i * w % 8
+pair_more : (w i at bit bound : ℕ) (bytes : List ℕ) → w ≤ 26 → ((k : ℕ) → slice_index bytes k < 256) → at + bit / 8 ≡ i * w / 8 → bit % 8 ≡ i * w % 8
     → (window_at bytes (at + bit / 8) / 2 ^ (bit % 8) % 2 ^ w < bound) × (window_at bytes (at + bit / 8) / 2 ^ (bit % 8 + w) % 2 ^ w < bound)
     → ((j : ℕ) → j < i → bytes_number bytes / (2 ^ w) ^ j % 2 ^ w < bound)
     → (j : ℕ) → j < i + 2 → bytes_number bytes / (2 ^ w) ^ j % 2 ^ w < bound
-pair_more w i at bit bound bytes short fit room place shift both before j l = elim (cases_lt j i) [
+pair_more w i at bit bound bytes short fit place shift both before j l = elim (cases_lt j i) [
   | inl m ↦ before j m
   | inr m ↦ elim (cases_lt i j) [
-    | inl n ↦ let e : j ≡ i + 1 = omega arith in rw (e, second_read w i bytes short fit room, ← place, ← shift) both.1
-    | inr n ↦ let e : j ≡ i = omega arith in rw (e, field_read w i bytes short fit room, ← place, ← shift) both.0
+    | inl n ↦ let e : j ≡ i + 1 = omega arith in rw (e, second_read w i bytes short fit, ← place, ← shift) both.1
+    | inr n ↦ let e : j ≡ i = omega arith in rw (e, field_read w i bytes short fit, ← place, ← shift) both.0
   ]
 ]
 
@@ -129,25 +129,23 @@ abbrev pub IsPairBelow : List ℕ → ℕ → ℕ → ℕ → ℕ → Type 0
 IsPairBelow bytes at bit w bound = (window_at bytes (at + bit / 8) / 2 ^ (bit % 8) % 2 ^ w < bound) × (window_at bytes (at + bit / 8) / 2 ^ (bit % 8 + w) % 2 ^ w < bound)
 
 -- pair j of a group is below a bound if all cells before some later group are
-pub pair_below : (w g j bound m : ℕ) (bytes : List ℕ) → w ≤ 26 → ((k : ℕ) → slice_index bytes k < 256) → m * w + 8 ≤ length bytes → g < m → j < 4 → AreBelow w bound bytes (8 * m) → IsPairBelow bytes (g * w) (2 * j * w) w bound
-pair_below w g j bound m bytes short fit room h l all =
+pub pair_below : (w g j bound m : ℕ) (bytes : List ℕ) → w ≤ 26 → ((k : ℕ) → slice_index bytes k < 256) → g < m → j < 4 → AreBelow w bound bytes (8 * m) → IsPairBelow bytes (g * w) (2 * j * w) w bound
+pair_below w g j bound m bytes short fit h l all =
     let i : ℕ = 8 * g + 2 * j in
-    let most : w * (i + 1) ≤ w * (8 * m) = mul-le-mul_left w (let e : i + 1 ≤ 8 * m = omega arith in e) in
-    let less : i * w / 8 + 8 ≤ length bytes = omega arith in
     let place : g * w + 2 * j * w / 8 ≡ i * w / 8 = omega arith in
     let shift : 2 * j * w % 8 ≡ i * w % 8 = omega arith in
-    rw (place, shift, ← field_read w i bytes short fit less, ← second_read w i bytes short fit less) (all i (omega arith), all (i + 1) (omega arith))
+    rw (place, shift, ← field_read w i bytes short fit, ← second_read w i bytes short fit) (all i (omega arith), all (i + 1) (omega arith))
 
 -- a group of eight cells more is below a bound
-pub group_more : (w g at bound : ℕ) (bytes : List ℕ) → w ≤ 26 → ((k : ℕ) → slice_index bytes k < 256) → (g + 1) * w + 8 ≤ length bytes → at ≡ g * w
+pub group_more : (w g at bound : ℕ) (bytes : List ℕ) → w ≤ 26 → ((k : ℕ) → slice_index bytes k < 256) → at ≡ g * w
     → IsPairBelow bytes at 0 w bound → IsPairBelow bytes at (2 * w) w bound → IsPairBelow bytes at (4 * w) w bound → IsPairBelow bytes at (6 * w) w bound
     → ((j : ℕ) → j < 8 * g → bytes_number bytes / (2 ^ w) ^ j % 2 ^ w < bound)
     → (j : ℕ) → j < 8 * (g + 1) → bytes_number bytes / (2 ^ w) ^ j % 2 ^ w < bound
-group_more w g at bound bytes short fit room is a b c d before j l =
-    let one = pair_more w (8 * g) at 0 bound bytes short fit (omega arith) (omega (arith, is)) (omega arith) a before in
-    let two = pair_more w (8 * g + 2) at (2 * w) bound bytes short fit (omega arith) (omega (arith, is)) (omega arith) b one in
-    let three = pair_more w (8 * g + 2 + 2) at (4 * w) bound bytes short fit (omega arith) (omega (arith, is)) (omega arith) c two in
-    pair_more w (8 * g + 2 + 2 + 2) at (6 * w) bound bytes short fit (omega arith) (omega (arith, is)) (omega arith) d three j (omega (arith, l))
+group_more w g at bound bytes short fit is a b c d before j l =
+    let one = pair_more w (8 * g) at 0 bound bytes short fit (omega (arith, is)) (omega arith) a before in
+    let two = pair_more w (8 * g + 2) at (2 * w) bound bytes short fit (omega (arith, is)) (omega arith) b one in
+    let three = pair_more w (8 * g + 2 + 2) at (4 * w) bound bytes short fit (omega (arith, is)) (omega arith) c two in
+    pair_more w (8 * g + 2 + 2 + 2) at (6 * w) bound bytes short fit (omega (arith, is)) (omega arith) d three j (omega (arith, l))
 
 -- the cell's place in the number
 field_unit : (w i : ℕ) → (2 ^ w) ^ i ≡ 256 ^ (i * w / 8) * 2 ^ (i * w % 8)
@@ -173,7 +171,7 @@ field_sets b w n i v put old new h e f all short l m d p =
     let window : ℕ = window_at old j in
     let inside : i < n = field_inside w n (bytes_number old) i l in
     let room : j + 8 ≤ length old = field_room w n i old f.len inside in
-    let cell : slice_index xs i ≡ window / 2 ^ s % 2 ^ w = field_cells-at w n (bytes_number old) i inside ∙ field_read w i old at.0 f.fit room in
+    let cell : slice_index xs i ≡ window / 2 ^ s % 2 ^ w = field_cells-at w n (bytes_number old) i inside ∙ field_read w i old at.0 f.fit in
     let whole : fields_number w xs ≡ bytes_number old = fields_number-field_cells w n (bytes_number old) f.clear in
     let wrote : bytes_number new + window * 256 ^ j ≡ bytes_number old + put * 256 ^ j = number_put j put old new room short p in
     let scaled : (put + window / 2 ^ s % 2 ^ w * 2 ^ s) * 256 ^ j ≡ (window + v * 2 ^ s) * 256 ^ j = ap (λ y. y * 256 ^ j) d in

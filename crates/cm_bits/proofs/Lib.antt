@@ -6,6 +6,7 @@ pub mod DigitsLemmas
 pub mod FaultLemmas
 pub mod FieldsFaultLemmas
 pub mod FieldsLemmas
+pub mod LentFieldsLemmas
 pub mod PackedFaultLemmas
 pub mod PackedLemmas
 pub mod PlainLemmas

@@ -114,8 +114,8 @@ IsPacked-zero d p n h q =
 pub cell_inside : (d p n i : ℕ) (bs : List ℕ) → i < length (packed_cells d p n bs) → i < n
 cell_inside d p n i bs h = omega (arith, length-packed_cells d p n bs)
 
-pub byte_there : (d p n i : ℕ) (bs : List ℕ) → 0 < p → IsPacked d p n bs → i < length (packed_cells d p n bs) → i / p < length bs
-byte_there d p n i bs q w h = omega (arith, w.len, place_lt p n i q (cell_inside d p n i bs h))
+pub byte_there : (d p n i : ℕ) (bs : List ℕ) → 0 < p → length bs ≡ packed_len p n → i < length (packed_cells d p n bs) → i / p < length bs
+byte_there d p n i bs q len h = omega (arith, len, place_lt p n i q (cell_inside d p n i bs h))
 
 -- each byte is one that digits can give
 pub byte_whole : (d p n q : ℕ) (bs : List ℕ) → 2 ≤ d → IsPacked d p n bs → q < length bs → slice_index bs q < d ^ p

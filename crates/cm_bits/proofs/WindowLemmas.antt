@@ -5,13 +5,13 @@ use Rattle.std.proofs.Common.{arith, ap, sym, subst, ◌∙◌, inl, inr, lit<}
 use Rattle.std.proofs.Math.Nat.{one-le-pow, pow-zero, div-one}
 use Rattle.std.proofs.lemmas.Nat.{mod_below}
 use Rattle.std.proofs.lemmas.Bool.{cases_lt}
-use Rattle.std.proofs.lemmas.List.{get_or-take, get_or-drop, get_or_append_left, get_or-append_right, length-append, length-take, length-drop}
+use Rattle.std.proofs.lemmas.List.{get_or_past, get_or-take, get_or-drop, get_or_append_left, get_or-append_right, length-append, length-take, length-drop}
 use Rattle.std.specs.Int.{bytes_low_first, byte_at, to_le_bytes, w64}
 use borrow.Rule.Slice.PartMut.{put_mid}
 use Rattle.cm_spec.specs.Image.{digits_sum}
 use Rattle.cm_bits.specs.Fault.{bytes_number}
 use Rattle.cm_bits.specs.Held.{PutsWindow, window_at}
-use Rattle.cm_bits.specs.DigitsLaws.{digits_sum-same, digits_sum-lt, digits_sum-digits, digits_above, digit_lowest, pow_add, digits_sum-append}
+use Rattle.cm_bits.specs.DigitsLaws.{digits_sum-same, digits_sum-lt, digits_sum-digits, digits_above, digit_lowest, digits_sum-short, pow_add, digits_sum-append}
 
 -- the digits below a place, the eight from there on, and those above
 parts : (b : ℕ) (f : ℕ → ℕ) (n at : ℕ) → at + 8 ≤ n → digits_sum b f n ≡ digits_sum b f at + b ^ at * (digits_sum b (λ k. f (at + k)) 8 + b ^ 8 * digits_sum b (λ k. f (at + 8 + k)) (n - (at + 8)))
@@ -21,14 +21,20 @@ parts b f n at l =
     let low : digits_sum b f (at + 8) ≡ digits_sum b f at + digits_sum b (λ k. f (at + k)) 8 * b ^ at = digits_sum-append b f at 8 in
     ap (digits_sum b f) split ∙ high ∙ rw (low, pow_add b at 8) (omega arith)
 
--- a window is part of the number
-pub window_is : (bytes : List ℕ) (at : ℕ) → ((k : ℕ) → slice_index bytes k < 256) → at + 8 ≤ length bytes → window_at bytes at ≡ bytes_number bytes / 256 ^ at % 2 ^ 64
-unfolding window_at bytes_number
-window_is bytes at h l =
+-- bytes past the end are 0, and add nothing
+padded : (bytes : List ℕ) (n : ℕ) → length bytes ≤ n → digits_sum 256 (slice_index bytes) n ≡ bytes_number bytes
+unfolding bytes_number
+padded bytes n l = digits_sum-short 256 (slice_index bytes) n (length bytes) l (λ i m k. get_or_past bytes i 0 m)
+
+-- a window is part of the number, with zeros past the end
+pub window_is : (bytes : List ℕ) (at : ℕ) → ((k : ℕ) → slice_index bytes k < 256) → window_at bytes at ≡ bytes_number bytes / 256 ^ at % 2 ^ 64
+unfolding window_at
+window_is bytes at h =
+    let n : ℕ = length bytes + (at + 8) in
     let low : digits_sum 256 (slice_index bytes) at < 256 ^ at = digits_sum-lt 256 (slice_index bytes) at (λ i m. h i) in
     let window : digits_sum 256 (λ k. slice_index bytes (at + k)) 8 < 256 ^ 8 = digits_sum-lt 256 (λ k. slice_index bytes (at + k)) 8 (λ i m. h (at + i)) in
-    let high : ℕ = digits_sum 256 (λ k. slice_index bytes (at + 8 + k)) (length bytes - (at + 8)) in
-    sym (rw (parts 256 (slice_index bytes) (length bytes) at l, digits_above (256 ^ at) (digits_sum 256 (slice_index bytes) at) (digits_sum 256 (λ k. slice_index bytes (at + k)) 8 + 256 ^ 8 * high) (one-le-pow at 256 (lit< tt)) low)
+    let high : ℕ = digits_sum 256 (λ k. slice_index bytes (at + 8 + k)) (n - (at + 8)) in
+    sym (rw (← padded bytes n (omega arith), parts 256 (slice_index bytes) n at (omega arith), digits_above (256 ^ at) (digits_sum 256 (slice_index bytes) at) (digits_sum 256 (λ k. slice_index bytes (at + k)) 8 + 256 ^ 8 * high) (one-le-pow at 256 (lit< tt)) low)
     (digit_lowest (256 ^ 8) (digits_sum 256 (λ k. slice_index bytes (at + k)) 8) high window))
 
 -- a window written trades its number in that of all

@@ -3,7 +3,7 @@ use Rattle.std.specs.Prelude.{◌≡◌, ℕ, suc, ◌+◌, ◌*◌, ◌/◌, �
 use Rattle.std.specs.List.{position_or_len, range_with_len}
 use Rattle.std.proofs.Common.{arith, ap, sym, ◌∙◌, inl, inr, lit<}
 use Rattle.std.proofs.Math.Nat.{div-eq_of_lt, mul-le-mul_left, pow-le-pow_right}
-use Rattle.std.proofs.lemmas.Nat.{pow_pos}
+use Rattle.std.proofs.lemmas.Nat.{mod_below, pow_pos}
 use Rattle.std.proofs.lemmas.Bool.{cases_lt, leb-true, leb-false, lt-leb}
 use Rattle.std.proofs.lemmas.List.{ext_get_or}
 use Rattle.std.proofs.lemmas.List.FromFn.{length-map-range_with_len, get_or-map-range_with_len, get_or-range_with_len}
@@ -25,6 +25,10 @@ length-field_cells w n number = length-map-range_with_len _ 0 n
 pub field_cells-at : (w n number i : ℕ) → i < n → slice_index (field_cells w n number) i ≡ number / (2 ^ w) ^ i % 2 ^ w
 unfolding field_cells
 field_cells-at w n number i l = get_or-map-range_with_len _ 0 n i i 0 l (omega arith)
+
+-- cells of w bits are below 2 ^ w
+pub AllBelow-field_cells : (w n number : ℕ) → AllBelow (2 ^ w) (field_cells w n number)
+AllBelow-field_cells w n number k l = rw (field_cells-at w n number k (omega (arith, length-field_cells w n number))) (mod_below _ (2 ^ w) (pow_pos w))
 
 -- fields are no more cells than a table may have
 pub field_room_for : (w n number : ℕ) → n ≤ MAX_CELLS → length (field_cells w n number) ≤ MAX_CELLS

@@ -1,7 +1,7 @@
 // Cells of as many bits as the bound needs, one after another.
-ghost use Rattle.std.specs.Prelude.{◌≡◌, ◌+◌, ◌*◌, ◌/◌, ◌%◌, ◌^◌, ◌<◌, ◌≤◌, ◌↔◌, ◌++◌, IsTrue, length, slice_index, replicate, position, nat_le, IfOk, ℕ};
+ghost use Rattle.std.specs.Prelude.{◌≡◌, ◌+◌, ◌*◌, ◌/◌, ◌%◌, ◌^◌, ◌<◌, ◌≤◌, ◌↔◌, ◌++◌, ◌-◌, IsTrue, length, slice_index, replicate, position, nat_le, IfOk, ℕ};
 ghost use Rattle.cm_bits.specs.Bound.{AllBelow};
-ghost use Rattle.cm_bits.specs.Fault.{bytes_number, field_cells, fields_fault};
+ghost use Rattle.cm_bits.specs.Fault.{bytes_number, fault_of, field_cells, fields_fault};
 ghost use Rattle.cm_bits.specs.FieldsLaws.{same_fields_bound, field_room_for, field_byte_lt, fields_fault-image};
 ghost use Rattle.cm_bits.specs.Held.{AreBelow, HoldFields, IsFields, window_at};
 ghost use Rattle.cm_spec.specs.Image.{width_of, fields_byte, fields_len};
@@ -228,8 +228,8 @@ fn groups_below(held: &[u8], first: u32, n: u32, width: u32, bound: u32) -> u32
     n / 8
 }
 
-// The lowest of n cells that is not below the bound.
-fn bad_cell(held: &[u8], n: u32, width: u32, bound: u32) -> Option<u32>
+// The lowest of n cells of `width` bits that is not below the bound. `held` has eight bytes more than the cells.
+pub(crate) fn bad_cell(held: &[u8], n: u32, width: u32, bound: u32) -> Option<u32>
     requires some { 0 < width }
     requires positive { 0 < bound }
     requires held { HoldFields width n bound held.now }
@@ -266,6 +266,16 @@ fn fault_in(held: &[u8], bytes: &[u8], n: u32, width: u32, bound: u32) -> Option
     if let Some(i) = bad_cell(held, n, width, bound) {
         return Some(ImageFault::BadCell { cell: i });
     }
+    padding_fault(bytes, n, width)
+}
+
+// What is wrong with the bits past n cells of `width` bits, which are 0 in an image. It is never `Memory` or a cell.
+pub(crate) fn padding_fault(bytes: &[u8], n: u32, width: u32) -> Option<ImageFault>
+    requires room { n ≤ MAX_CELLS }
+    requires width { width ≤ 26 }
+    requires whole { length bytes.now ≡ fields_len width n }
+    ensures { result ≡ fault_of n n (bytes_number bytes.now / (2 ^ width) ^ n) (length bytes.now - 1) }
+{
     let bit = n as u64 * width as u64;
     if bit % 8 != 0 {
         let last = bytes.len() - 1;
@@ -276,8 +286,8 @@ fn fault_in(held: &[u8], bytes: &[u8], n: u32, width: u32, bound: u32) -> Option
     None
 }
 
-// The least width, from 1 on, whose numbers serve the bound.
-fn width(bound: u32) -> u32
+/// The least width, from 1 on, whose numbers serve the bound.
+pub fn width(bound: u32) -> u32
     requires { bound ≤ MAX_FIELD_BOUND }
     ensures { result ≡ width_of bound }
 {

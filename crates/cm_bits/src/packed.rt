@@ -94,6 +94,8 @@ impl<B: Packing> Packed<B> {
     /// The bytes of the table's image, the first cell in the lowest bits or digit of the first byte.
     pub fn image(&self) -> &[u8]
         ensures image { result.now ≡ list_of (packed_byte B.BASE B.PER_BYTE (⟦<Packed<B> as Cells>⟧.cells self.now)) (packed_len B.PER_BYTE (length (⟦<Packed<B> as Cells>⟧.cells self.now))) }
+        ensures whole { length result.now ≡ packed_len B.PER_BYTE (length (⟦<Packed<B> as Cells>⟧.cells self.now)) }
+        ensures cells { ⟦<Packed<B> as Cells>⟧.cells self.now ≡ packed_cells B.BASE B.PER_BYTE (length (⟦<Packed<B> as Cells>⟧.cells self.now)) result.now }
     {
         &self.bytes
     }
@@ -207,8 +209,8 @@ fn make_room(bytes: &mut Vec<u8>, more: usize, spare: usize) -> Result<(), Alloc
     Ok(())
 }
 
-// Why bytes are no image of n cells.
-fn fault_in<B: Packing>(n: u32, bytes: &[u8]) -> Option<ImageFault>
+/// Why bytes are no image of n cells. It is never `Memory`.
+pub fn fault_in<B: Packing>(n: u32, bytes: &[u8]) -> Option<ImageFault>
     requires room { n ≤ MAX_CELLS }
     requires whole { length bytes.now ≡ packed_len B.PER_BYTE n }
     ensures { result ≡ packed_fault B.BASE B.PER_BYTE n bytes.now }

@@ -1,3 +1,5 @@
 pub mod ChmLaws
+pub mod Functions
 pub mod Numbering
+pub mod Parts
 pub mod Places

@@ -1,14 +1,40 @@
 //! What a CHM function returns.
-ghost use Rattle.std.specs.Prelude.{◌≡◌, ℕ, List, Option, Some};
+ghost use Rattle.std.specs.Prelude.{◌≡◌, ◌+◌, ◌%◌, ◌<◌, ◌≤◌, ◌++◌, ◌∷◌, [], ℕ, List, Option, Some, length, slice_index};
 ghost use Rattle.cm_chm.specs.Places.{chm_place};
-ghost use Rattle.cm_spec.specs.Chm.{chm_answer};
+ghost use Rattle.cm_spec.specs.Chm.{chm_answer, chm_edge, chm_rule};
 ghost use Rattle.cm_spec.specs.Lookup2.{words as words_of};
+ghost use Rattle.cm_spec.specs.Rule.{IsSize};
+ghost use Rattle.cm_spec.specs.declared.limits.TheConstants.{MAX_KEYS};
 
 use crate::chm::Chm;
 use crate::scheme::ChmScheme;
-use cm_algo_scheme::{Answers, Place, Scheme};
-use cm_bits::Cells;
+use cm_algo_scheme::{Answers, Divisor, Place, Scheme};
+use cm_bits::Lookup;
 use cm_lookup2::{words, words_of_four};
+
+/// Where a key of these hash values is looked up, among `n` cells.
+#[inline(always)]
+pub(crate) fn place_of_words(words: [u32; 3], n: u32, by_vertices: &Divisor) -> Place
+    requires size { IsSize chm_rule n }
+    requires vertices { by_vertices.now ≡ n }
+    ensures place { result ≡ chm_edge words n ++ 0 ∷ 0 ∷ [] }
+{
+    let ends = ChmScheme {}.edge(words, n, by_vertices);
+    [ends[0], ends[1], 0, 0]
+}
+
+/// The sum of the two cells of a place, modulo the number of keys, which is the bound of the cells.
+#[inline(always)]
+pub(crate) fn number_of<C: Lookup>(cells: &C, place: &Place, by_keys: &Divisor) -> u32
+    requires first { slice_index place.now 0 < length (C.cells cells.now) }
+    requires second { slice_index place.now 1 < length (C.cells cells.now) }
+    requires bound { C.bound_of cells.now ≤ MAX_KEYS }
+    ensures number { result ≡ (slice_index (C.cells cells.now) (slice_index place.now 0) + slice_index (C.cells cells.now) (slice_index place.now 1)) % by_keys.now }
+    ensures below { result < by_keys.now }
+{
+    let sum = cells.get(place[0]) + cells.get(place[1]);
+    by_keys.rem(sum)
+}
 
 impl Chm {
     /// Where a key of these hash values is looked up.
@@ -16,8 +42,7 @@ impl Chm {
     fn place_in(&self, words: [u32; 3]) -> Place
         ensures place { (key : List ℕ) → words ≡ words_of key self.now.seed → result ≡ chm_place self.now key }
     {
-        let ends = ChmScheme {}.edge(words, self.cells().len(), self.by_vertices());
-        [ends[0], ends[1], 0, 0]
+        place_of_words(words, self.cells().len(), self.by_vertices())
     }
 }
 
@@ -49,8 +74,6 @@ impl Answers for Chm {
     }
 
     fn answer_at(&self, place: &Place) -> Option<u32> {
-        let cells = self.cells();
-        let sum = cells.get(place[0]) + cells.get(place[1]);
-        Some(self.by_keys().rem(sum))
+        Some(number_of(self.cells(), place, self.by_keys()))
     }
 }

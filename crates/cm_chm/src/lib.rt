@@ -4,8 +4,11 @@
 mod answers;
 mod chm;
 mod laws;
+mod lent;
+mod lent_answers;
 mod scheme;
 
 pub use crate::chm::Chm;
 pub use crate::laws::answers_numbers;
+pub use crate::lent::{ChmParts, LentChm};
 pub use crate::scheme::ChmScheme;

@@ -3,4 +3,6 @@ pub mod Dumps
 pub mod Headings
 pub mod Parts
 pub mod Spelling
+pub mod CellLaws
+pub mod RankLaws
 pub mod Examples

@@ -12,6 +12,8 @@ mod rest;
 mod versions;
 mod writer;
 
+pub use crate::front::{Algorithm, Header, Heading, heading_of};
+pub use crate::header::HEADER_LEN;
 pub use crate::reader::{Loaded, load, load_versioned};
 pub use crate::versions::Version;
 pub use crate::writer::{bdz_len, save, save_bdz, saved_len};

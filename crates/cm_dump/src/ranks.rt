@@ -7,8 +7,9 @@ ghost use Rattle.cm_dump_items.specs.declared.fault.LoadFault.{LoadFault};
 ghost use Rattle.cm_io.specs.Causes.{HasCause};
 ghost use Rattle.cm_io.specs.Writing.{Writes};
 ghost use Rattle.cm_dump.specs.Dumps.{ranks_image};
-ghost use Rattle.cm_dump.specs.Parts.{AreRanks, rank_bytes};
+ghost use Rattle.cm_dump.specs.Parts.{AreRanks};
 ghost use Rattle.cm_dump.specs.Spelling.{ranks_at};
+ghost use Rattle.cm_rank.specs.Ranks.{rank_bytes};
 
 use crate::LoadFault;
 use arrayvec::ArrayVec;

@@ -1,5 +1,5 @@
 //! The function that a source's bytes spell.
-ghost use Rattle.std.specs.Prelude.{◌≡◌, ◌+◌, ◌*◌, ◌<◌, ◌≤◌, ℕ, Err, IsOk, Ok, IfOk, count_by, length};
+ghost use Rattle.std.specs.Prelude.{◌≡◌, ◌≢◌, ◌+◌, ◌*◌, ◌<◌, ◌≤◌, ℕ, Err, IsOk, Ok, OnOk, IfOk, count_by, length};
 ghost use Rattle.std.specs.Option.{ForSome};
 ghost use Rattle.cm_dump_items.specs.Reading.{Answers, IsAt, HasLoadCause};
 ghost use Rattle.cm_dump_items.specs.declared.fault.LoadFault.{LoadFault};
@@ -10,11 +10,13 @@ ghost use Rattle.cm_spec.specs.Image.{packed_len};
 ghost use Rattle.cm_spec.specs.Rule.{IsRatio};
 ghost use Rattle.cm_dump.specs.Forms.{form_of, version_2, version_of};
 ghost use Rattle.cm_dump.specs.Headings.{IsParameter, heading_at};
-ghost use Rattle.cm_func.specs.Functions.{IsBdz, IsBdzPh, IsChm, IsFunction};
+ghost use Rattle.cm_chm.specs.Functions.{IsChm};
+ghost use Rattle.cm_bdz.specs.Functions.{IsBdz, IsBdzPh};
+ghost use Rattle.cm_func.specs.Functions.{IsFunction};
 ghost use Rattle.cm_dump.specs.Spelling.{bdz_at, bdz_ph_at, body_at, chm_at, counted, ranked_at, spelling_of};
 ghost use Rattle.cm_dump.specs.declared.header.TheConstants.{HEADER_LEN};
 
-use crate::front::{Algorithm, Header, read_header, read_version};
+use crate::front::{Algorithm, Header, Heading, heading_of};
 use crate::header::HEADER_LEN;
 use crate::ranks::read_ranks;
 use crate::rest::load_brz;
@@ -25,12 +27,12 @@ use cm_bdz::{Bdz, BdzPh, BdzPhScheme, BdzScheme, PartsFault};
 use cm_bits::{Cells, Crumbs, Fields, Trits};
 use cm_chm::{Chm, ChmScheme};
 use cm_dump_images::read_cells;
-use cm_dump_items::end;
-use cm_io::Source;
+use cm_dump_items::{end, fill};
+use cm_io::{Failed, Source};
 use std::alloc::Global;
 
 /// The CHM function of a header, whose dump ends with the source.
-#[tactic(auto, using(cm_dump_images::specs::ImageLaws::fields_near, crate::proofs::CellLemmas::few_cells), unfolding(crate::specs::Spelling::chm_at))]
+#[tactic(auto, using(cm_dump_images::specs::ImageLaws::fields_near, crate::specs::CellLaws::few_cells), unfolding(crate::specs::Spelling::chm_at))]
 fn load_chm<S: Source>(alloc: Global, source: &mut S, header: Header) -> Result<Chm, LoadFault>
     requires keys { (1 ≤ header.keys) × (header.keys ≤ MAX_KEYS) }
     requires ratio { IsRatio header.ratio }
@@ -118,7 +120,7 @@ fn load_ranked<S: Source>(
 }
 
 /// The BDZ function of a header, whose dump ends with the source.
-#[tactic(auto, using(cm_dump_images::specs::ImageLaws::packed_near, crate::proofs::CellLemmas::few_vertices), unfolding(crate::specs::Spelling::bdz_at))]
+#[tactic(auto, using(cm_dump_images::specs::ImageLaws::packed_near, crate::specs::CellLaws::few_vertices), unfolding(crate::specs::Spelling::bdz_at))]
 fn load_bdz<S: Source>(alloc: Global, source: &mut S, header: Header) -> Result<Bdz, LoadFault>
     requires keys { (1 ≤ header.keys) × (header.keys ≤ MAX_KEYS) }
     requires ratio { IsRatio header.ratio }
@@ -137,7 +139,7 @@ fn load_bdz<S: Source>(alloc: Global, source: &mut S, header: Header) -> Result<
 }
 
 /// The BDZ_PH function of a header, whose dump ends with the source.
-#[tactic(auto, using(cm_dump_images::specs::ImageLaws::packed_near, crate::proofs::CellLemmas::few_vertices), unfolding(crate::specs::Spelling::bdz_ph_at))]
+#[tactic(auto, using(cm_dump_images::specs::ImageLaws::packed_near, crate::specs::CellLaws::few_vertices), unfolding(crate::specs::Spelling::bdz_ph_at))]
 fn load_bdz_ph<S: Source>(alloc: Global, source: &mut S, header: Header) -> Result<BdzPh, LoadFault>
     requires keys { (1 ≤ header.keys) × (header.keys ≤ MAX_KEYS) }
     requires ratio { IsRatio header.ratio }
@@ -199,6 +201,27 @@ fn load_body<S: Source>(
     }
 }
 
+/// The version and the header of a source at its start, which is read once.
+fn read_heading<S: Source>(source: &mut S) -> Result<Heading, LoadFault>
+    requires start { ForSome (S.told source.old) (λ _. S.place source.old ≡ 0) }
+    ensures told { S.told source.new ≡ S.told source.old }
+    ensures at { OnOk result (IsAt (S.told source.new) (S.place source.new) HEADER_LEN) }
+    ensures version { IfOk result (λ h. ForSome (S.told source.old) (λ bytes. h.version ≡ version_of bytes)) }
+    ensures parameter { IfOk result (λ h. IsParameter version_2 h.header.algorithm h.header.b) }
+    ensures keys { IfOk result (λ h. (1 ≤ h.header.keys) × (h.header.keys ≤ MAX_KEYS)) }
+    ensures ratio { IfOk result (λ h. IsRatio h.header.ratio) }
+    ensures exact { ForSome (S.told source.old) (λ bytes. Answers (λ h. h.header) result (heading_at (form_of (version_of bytes)) bytes)) }
+    ensures cause { HasLoadCause (S.faults source.old) (S.faults source.new) result }
+    ensures memory { result ≢ Err LoadFault.Memory }
+{
+    let mut buf = [0; HEADER_LEN as usize];
+    let got = match fill(source, 0, &mut buf) {
+        Ok(got) => got,
+        Err(Failed) => return Err(LoadFault::Read),
+    };
+    heading_of(&buf[..got])
+}
+
 /// A function that was loaded, and the version of its dump.
 #[derive(Drop)]
 pub struct Loaded {
@@ -222,8 +245,7 @@ pub fn load_versioned<S: Source>(alloc: Global, source: &mut S) -> Result<Loaded
     ensures cause { HasLoadCause (S.faults source.old) (S.faults source.new) result }
     ensures memory { result ≡ Err LoadFault.Memory → ForSome (S.told source.old) (λ bytes. IsOk (heading_at (form_of (version_of bytes)) bytes)) }
 {
-    let version = read_version(source)?;
-    let header = read_header(source, version)?;
+    let Heading { version, header } = read_heading(source)?;
     match load_body(alloc, source, version, header) {
         Ok(func) => Ok(Loaded { func, version }),
         Err(fault) => Err(fault),

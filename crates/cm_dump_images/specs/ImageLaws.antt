@@ -1,6 +1,6 @@
 -- Lemmas about the cells of an image, and about its faults, which the proofs of readers cite. No contract needs them.
-use Rattle.std.proofs.Common.{◌≡◌, ◌∙◌, ℕ, ◌-◌, ◌*◌, ◌/◌, ◌<◌, ◌≤◌, ◌^◌, List, ◌++◌, length, get_or, sym, ap, arith, refl, Option, Some, None, Ok, Bool, true, false, subst, if◌then◌else◌}
-use Rattle.std.proofs.Math.Nat.{mul-le-mul_left, div-le_self}
+use Rattle.std.proofs.Common.{◌≡◌, ◌∙◌, ℕ, ◌+◌, ◌-◌, ◌*◌, ◌/◌, ◌%◌, ◌<◌, ◌≤◌, ◌^◌, List, ◌++◌, length, get_or, sym, ap, arith, refl, Option, Some, None, Ok, Bool, true, false, subst, if◌then◌else◌}
+use Rattle.std.proofs.Math.Nat.{div-add-mod, mul-le-mul_left, div-le_self}
 use Rattle.std.proofs.lemmas.List.FromFn.{length-map-range_with_len, get_or-map-range_with_len}
 use Rattle.cm_bits.specs.PackedLaws.{held}
 use Rattle.cm_bits.specs.Bound.{AllBelow}
@@ -10,14 +10,14 @@ use Rattle.cm_bits.specs.Held.{packed_cells}
 use Rattle.cm_bits.specs.declared.TheConstants.{MAX_CELLS}
 use Rattle.cm_bits.specs.declared.fault.ImageFault.{ImageFault}
 use Rattle.cm_bits.specs.declared.fault.ImageFault.TheVariants as image
-use Rattle.cm_dump_items.specs.Reading.{item_at}
+use Rattle.cm_dump_items.specs.Reading.{IsByteFault, item_at}
 use Rattle.cm_dump_items.specs.ItemLaws.{item_there, lt_of}
 use Rattle.cm_spec.specs.declared.limits.TheConstants.{MAX_EDGES, MAX_KEYS, MAX_VERTICES}
 use Rattle.cm_spec.specs.Dump.{fields_image}
 use Rattle.cm_spec.specs.Image.{width_of, fields_len, fields_byte, packed_len, packed_byte}
 use Rattle.cm_spec.specs.Lists.{list_of}
 use Rattle.cm_dump_images.specs.Places.{AreNear, IsPlace}
-use Rattle.cm_dump_images.specs.Images.{image_at}
+use Rattle.cm_dump_images.specs.Images.{fault_at, image_at}
 
 -- an image of cells is short enough to be counted
 pub cells_near : (m n : ℕ) → m ≤ MAX_EDGES → n ≤ MAX_VERTICES → fields_len (width_of m) n < 2 ^ 33
@@ -87,9 +87,30 @@ fields_near m n small few bytes f long is =
     let near : (i : ℕ) → i < n → i * width_of m / 8 < 2 ^ 62 = λ i l. let le : i * width_of m ≤ i * 26 = mul-le-mul_left i w.1 in omega (arith, le, few, l) in
     place_or _ _ _ _ (length bytes - 1) f (λ t. (omega (arith, lt_of _ _ t, few), near _ (lt_of _ _ t))) (omega (arith, short, long)) is
 
+-- an image of digits has no more bytes than cells
+pub packed_short : (p n : ℕ) → 0 < p → packed_len p n ≤ n
+packed_short p n some =
+    let parts : p * (n / p) + n % p ≡ n = div-add-mod n p in
+    let more : n / p * 1 ≤ n / p * p = mul-le-mul_left (n / p) some in
+    omega (arith, parts, more)
+
 -- and so are those of cells that are digits
 pub packed_near : (d p n : ℕ) → n ≤ MAX_VERTICES → packed_len p n < 2 ^ 33 → AreNear (packed_len p n) (λ i. i / p) (packed_fault d p n)
 unfolding packed_fault
 packed_near d p n few short bytes f long is =
     let near : (i : ℕ) → i < n → i / p < 2 ^ 62 = λ i l. omega (arith, div-le_self i p, few, l) in
     place_or _ _ _ _ (length bytes - 1) f (λ t. (omega (arith, lt_of _ _ t, few), near _ (lt_of _ _ t))) (omega (arith, short, long)) is
+
+-- a fault of an image is one of its bytes
+refused_or : (t u : Bool) (lowest last at : ℕ) (place : ℕ → ℕ) (f : ImageFault) → (if t then Some (image.BadCell lowest) else if u then Some (image.BadPadding last) else None) ≡ Some f → IsByteFault (fault_at at place f)
+refused_or true u lowest last at place f is = subst (λ (x : ImageFault). IsByteFault (fault_at at place x)) (some_same is) tt
+refused_or false true lowest last at place f is = subst (λ (x : ImageFault). IsByteFault (fault_at at place x)) (some_same is) tt
+refused_or false false lowest last at place f is = absurd (none_some f is)
+
+pub fields_refused : (w n bound at : ℕ) (place : ℕ → ℕ) (bytes : List ℕ) (f : ImageFault) → fields_fault w n bound bytes ≡ Some f → IsByteFault (fault_at at place f)
+unfolding fields_fault
+fields_refused w n bound at place bytes f is = refused_or _ _ _ _ at place f is
+
+pub packed_refused : (d p n at : ℕ) (place : ℕ → ℕ) (bytes : List ℕ) (f : ImageFault) → packed_fault d p n bytes ≡ Some f → IsByteFault (fault_at at place f)
+unfolding packed_fault
+packed_refused d p n at place bytes f is = refused_or _ _ _ _ at place f is

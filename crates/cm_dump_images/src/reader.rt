@@ -13,7 +13,7 @@ use cm_io::Source;
 use std::alloc::Global;
 
 /// The fault of the image that begins at this offset, in bytes from 0.
-fn placed<C: Cells>(at: u64, bound: u32, fault: ImageFault) -> LoadFault
+pub(crate) fn placed<C: Cells>(at: u64, bound: u32, fault: ImageFault) -> LoadFault
     requires at { at < 2 ^ 60 }
     requires fit { C.fits bound }
     requires place { IsPlace (C.cell_place bound) fault }

@@ -83,3 +83,9 @@ abbrev pub IsEndFault : LoadFault → Type 0
 IsEndFault faults.Read = Unit {0}
 IsEndFault faults.Trailing = Unit {0}
 IsEndFault fault = ⊥
+
+-- The fault is one of bytes that are in memory: no memory is taken for them, and nothing is read.
+abbrev pub IsByteFault : LoadFault → Type 0
+IsByteFault faults.Memory = ⊥
+IsByteFault faults.Read = ⊥
+IsByteFault fault = Unit {0}

@@ -1,8 +1,9 @@
 -- Lemmas about what is read after an item, which the proofs of readers cite. No contract needs them.
 use Rattle.std.proofs.Common.{◌≡◌, sym, arith, refl, ℕ, Bool, true, false, Result, Ok, Err, if◌then◌else◌}
+use Rattle.std.specs.Prelude.{IfOk, OnOk}
 use Rattle.cm_dump_items.specs.declared.fault.LoadFault.{LoadFault}
 use Rattle.cm_dump_items.specs.declared.fault.LoadFault.TheVariants as faults
-use Rattle.cm_dump_items.specs.Reading.{◌>>=◌, Fails, HasLoadCause}
+use Rattle.cm_dump_items.specs.Reading.{◌>>=◌, Fails, HasLoadCause, IsByteFault}
 
 pub ok_err : {A B : Type 0} (x : A) (e : B) → (let r : Result A B = Ok x in r) ≡ Err e → ⊥
 ok_err x e is = grind (arith, is)
@@ -40,6 +41,29 @@ fails_then (faults.BadCell a) r next is = rw is refl
 fails_then (faults.BadCount a) r next is = rw is refl
 fails_then (faults.BadRank a) r next is = rw is refl
 fails_then faults.Trailing r next is = rw is refl
+
+-- a fault of bytes in memory is the one that they have
+pub byte_fault : {A : Type 0} (f : LoadFault) (r : Result A LoadFault) → IsByteFault f → Fails f r → r ≡ Err f
+byte_fault faults.Memory r never is = absurd never
+byte_fault faults.Read r never is = absurd never
+byte_fault (faults.Truncated a) r of is = is
+byte_fault faults.BadMagic r of is = is
+byte_fault faults.BadAlgorithm r of is = is
+byte_fault (faults.BadField a) r of is = is
+byte_fault (faults.BadPadding a) r of is = is
+byte_fault (faults.BadCell a) r of is = is
+byte_fault (faults.BadCount a) r of is = is
+byte_fault (faults.BadRank a) r of is = is
+byte_fault faults.Trailing r of is = is
+
+-- what follows from a clause about what a call returned
+pub on_ok : {A B : Type 0} {P Q : Type 0} (r : Result A B) → (P → Q) → OnOk r P → OnOk r Q
+on_ok (Ok x) next is = next is
+on_ok (Err e) next is = tt
+
+pub for_ok : {A B : Type 0} (r : Result A B) (P Q : A → Type 0) → ((x : A) → P x → Q x) → IfOk r P → IfOk r Q
+for_ok (Ok x) P Q next is = next x is
+for_ok (Err e) P Q next is = tt
 
 -- what a fault says of the count of faults is the same for any call
 pub cause_then : (A B : Type 0) (before now : ℕ) (f : LoadFault) → HasLoadCause {T = A} before now (Err f) → HasLoadCause {T = B} before now (Err f)

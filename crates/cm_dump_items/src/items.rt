@@ -1,14 +1,14 @@
 //! The items of a file, each read at its offset and checked. A read from a source that stands there returns the item, or the first fault
 //! of the bytes.
 ghost use Rattle.std.specs.Prelude.{◌≡◌, ◌≢◌, ◌+◌, ◌<◌, ◌≤◌, ◌^◌, Err, OnOk, IfErr, IfOk, length};
-ghost use Rattle.std.specs.Int.{w8, w16, w32};
+ghost use Rattle.std.specs.Int.{w8, w32};
 ghost use Rattle.std.specs.Option.{ForSome};
 ghost use Rattle.cm_io.specs.Causes.{HasCause};
 ghost use Rattle.cm_dump_items.specs.Reading.{Answers, Fills, HasLoadCause, IsAt, IsEndFault, IsItemFault, end_at, field_at, item_at};
 ghost use Rattle.cm_dump_items.specs.declared.fault.LoadFault.{LoadFault};
 
 use crate::LoadFault;
-use crate::part::{byte_of, number_of, short_of};
+use crate::part::{byte_of, number_of};
 use cm_io::{Failed, Source};
 
 /// Fills the buffer from this offset on, in bytes from 0, where the source stands, and returns how many bytes were read: fewer than the
@@ -75,25 +75,6 @@ pub fn byte<S: Source>(source: &mut S, at: u64, low: u8, high: u8) -> Result<u8,
     let mut buf = [0; 1];
     item(source, at, &mut buf)?;
     byte_of(&buf, at, low, high)
-}
-
-/// The number in the two bytes at this offset, in bytes from 0, where the source stands; the lowest byte comes first. Returns `BadField`
-/// if it is not from `low` to `high`, `Truncated` if the bytes end before it does, and `Read` exactly if the source fails.
-#[tactic(auto, unfolding(crate::specs::Reading::field_at))]
-pub fn short<S: Source>(source: &mut S, at: u64, low: u16, high: u16) -> Result<u16, LoadFault>
-    requires room { at + 2 < 2 ^ 63 }
-    requires at { IsAt (S.told source.old) (S.place source.old) at }
-    ensures told { S.told source.new ≡ S.told source.old }
-    ensures at { OnOk result (IsAt (S.told source.new) (S.place source.new) (at + 2)) }
-    ensures range { IfOk result (λ x. (low ≤ x) × (x ≤ high)) }
-    ensures exact { ForSome (S.told source.old) (λ bytes. Answers (λ x. x) result (field_at w16 bytes at low high)) }
-    ensures cause { HasLoadCause (S.faults source.old) (S.faults source.new) result }
-    ensures memory { result ≢ Err LoadFault.Memory }
-    ensures kind { IfErr result IsItemFault }
-{
-    let mut buf = [0; 2];
-    item(source, at, &mut buf)?;
-    short_of(&buf, at, low, high)
 }
 
 /// The number in the four bytes at this offset, in bytes from 0, where the source stands; the lowest byte comes first. Returns `BadField`

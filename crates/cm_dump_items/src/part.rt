@@ -1,7 +1,7 @@
 //! The items of a part of a file that is in memory. Each is read at the start of the bytes that are left, whose offset is known.
-ghost use Rattle.std.specs.Prelude.{◌≡◌, ◌≢◌, ◌+◌, ◌<◌, ◌≤◌, ◌^◌, ℕ, List, Err, OnOk, IfErr, IfOk, length};
+ghost use Rattle.std.specs.Prelude.{◌≡◌, ◌≢◌, ◌+◌, ◌<◌, ◌≤◌, ◌^◌, ℕ, List, Err, OnOk, IfErr, IfOk, length, take};
 ghost use Rattle.std.specs.Int.{w8, w16, w32};
-ghost use Rattle.cm_dump_items.specs.Reading.{Answers, HasLoadCause, IsItemFault, IsPart, field_at, item_at};
+ghost use Rattle.cm_dump_items.specs.Reading.{Answers, HasLoadCause, IsByteFault, IsItemFault, IsPart, field_at, item_at};
 ghost use Rattle.cm_dump_items.specs.declared.fault.LoadFault.{LoadFault};
 
 use crate::LoadFault;
@@ -26,6 +26,7 @@ fn item_of(part: &[u8], at: u64, buf: &mut [u8]) -> Result<(), LoadFault>
     ensures cause { (n : ℕ) → HasLoadCause n n result }
     ensures memory { result ≢ Err LoadFault.Memory }
     ensures kind { IfErr result IsItemFault }
+    ensures bytes { IfErr result IsByteFault }
 {
     let n = buf.len();
     if part.len() < n {
@@ -46,6 +47,7 @@ pub fn byte_of(part: &[u8], at: u64, low: u8, high: u8) -> Result<u8, LoadFault>
     ensures cause { (n : ℕ) → HasLoadCause n n result }
     ensures memory { result ≢ Err LoadFault.Memory }
     ensures kind { IfErr result IsItemFault }
+    ensures bytes { IfErr result IsByteFault }
 {
     let mut buf = [0; 1];
     match item_of(part, at, &mut buf) {
@@ -71,6 +73,7 @@ pub fn short_of(part: &[u8], at: u64, low: u16, high: u16) -> Result<u16, LoadFa
     ensures cause { (n : ℕ) → HasLoadCause n n result }
     ensures memory { result ≢ Err LoadFault.Memory }
     ensures kind { IfErr result IsItemFault }
+    ensures bytes { IfErr result IsByteFault }
 {
     let mut buf = [0; 2];
     match item_of(part, at, &mut buf) {
@@ -96,6 +99,7 @@ pub fn number_of(part: &[u8], at: u64, low: u32, high: u32) -> Result<u32, LoadF
     ensures cause { (n : ℕ) → HasLoadCause n n result }
     ensures memory { result ≢ Err LoadFault.Memory }
     ensures kind { IfErr result IsItemFault }
+    ensures bytes { IfErr result IsByteFault }
 {
     let mut buf = [0; 4];
     match item_of(part, at, &mut buf) {
@@ -107,6 +111,23 @@ pub fn number_of(part: &[u8], at: u64, low: u32, high: u32) -> Result<u32, LoadF
         Ok(x)
     } else {
         Err(LoadFault::BadField { at })
+    }
+}
+
+/// The first `n` bytes of a part that begins at this offset, in bytes from 0, which are not copied. Returns `Truncated` if the part has
+/// fewer bytes.
+pub fn lent_of<'a>(part: &'a [u8], at: u64, n: u64) -> Result<&'a [u8], LoadFault>
+    requires room { at + length part.now < 2 ^ 63 }
+    ensures inside { OnOk result (n ≤ length part.now) }
+    ensures item { IfOk result (λ item. item.now ≡ take n part.now) }
+    ensures size { IfOk result (λ item. length item.now ≡ n) }
+    ensures exact { (bytes : List ℕ) (room : ℕ) → n ≤ room → IsPart bytes at room part.now → Answers (λ item. item.now) result (item_at bytes at n) }
+    ensures kind { IfErr result IsByteFault }
+{
+    if (part.len() as u64) < n {
+        Err(cut(part, at))
+    } else {
+        Ok(&part[..n as usize])
     }
 }
 

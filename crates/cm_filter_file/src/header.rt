@@ -12,18 +12,13 @@ ghost use Rattle.cm_filter_file.specs.declared.header.TheConstants.{HEADER_LEN};
 use cm_dump_items::{LoadFault, byte, item, number};
 use cm_filter::{MAX_FINGERPRINT, MIN_FINGERPRINT};
 use cm_io::{MAX_KEYS, Source};
+use cm_spec::{MAX_RATIO, MIN_RATIO};
 
 /// How many bytes stand before the image of the cells.
 pub const HEADER_LEN: u64 = 24;
 
 /// What every filter file begins with.
 pub(crate) const MAGIC: [u8; 8] = *b"CMPHFLT1";
-
-/// The least ratio of vertices to keys, in millionths.
-const MIN_RATIO: u32 = 1_000_000;
-
-/// The greatest ratio of vertices to keys, in millionths.
-const MAX_RATIO: u32 = 10_000_000;
 
 /// What the header of a filter says.
 #[derive(Clone, Copy, Drop)]

@@ -1,22 +1,22 @@
 -- Ranks of some cells more, and the samples of n blocks.
-use Rattle.std.proofs.Common.{◌≡◌, ◌∙◌, ℕ, zero, suc, cond, take, ◌+◌, ◌*◌, ◌/◌, ◌%◌, ◌^◌, ◌<◌, ◌≤◌, List, [], ◌∷◌, ◌++◌, length, inl, inr, refl, ap, sym, arith}
+use Rattle.std.proofs.Common.{◌≡◌, ◌∙◌, ℕ, zero, suc, cond, take, ◌+◌, ◌-◌, ◌*◌, ◌/◌, ◌%◌, ◌^◌, ◌<◌, ◌≤◌, List, [], ◌∷◌, ◌++◌, length, inl, inr, refl, ap, sym, arith}
 use Rattle.std.specs.Prelude.{min, slice_index, count_by}
 use Rattle.std.specs.Int.{div_ceil}
 use Rattle.std.proofs.Math.Nat.{div-add-mod, le-mul_of_pos_right, mul-le-mul_left}
 use Rattle.std.proofs.Math.Seq.{take-length}
 use Rattle.std.proofs.lemmas.List.{length-take, take_all}
 use Rattle.std.proofs.lemmas.Bool.{cases_lt}
-use Rattle.std.proofs.lemmas.List.FromFn.{get_or-map-range_with_len, length-map-range_with_len, map-range_with_len_more, sum_by-map-range_with_len_more}
-use Rattle.std.proofs.lemmas.List.Sums.{count_by-le-length, sum_by_more}
-use Rattle.std.proofs.lemmas.Nat.{pow_pos}
-use Rattle.cm_bits.specs.PackedLaws.{place_lt}
-use Rattle.cm_rank.specs.Ranks.{Samples, StandsFor, rank_of, sampled}
+use Rattle.std.proofs.lemmas.List.FromFn.{map-range_with_len_more, sum_by-map-range_with_len_more}
+use Rattle.std.proofs.lemmas.List.Sums.{count_by-le-length}
+use Rattle.std.proofs.lemmas.Nat.{one_shl}
+use Rattle.cm_rank.specs.RankLaws.{rank_more}
+use Rattle.cm_rank.specs.Ranks.{Samples, rank_of, sampled, sampled_rank}
 use Rattle.cm_spec.specs.Cells.{is_busy}
 use Rattle.cm_spec.specs.Lists.{list_of}
 
--- past a cell more
-pub rank_more : (idle : ℕ) (cells : List ℕ) (i : ℕ) → i < length cells → rank_of idle cells (i + 1) ≡ rank_of idle cells i + cond (is_busy idle (slice_index cells i)) 1 0
-rank_more idle cells i inside = sum_by_more (λ x. cond {A = ℕ} (is_busy idle x) 1 0) cells i 0 inside
+-- a step that is got by a shift
+pub step_is : (b : ℕ) → b ≤ 10 → 1 * 2 ^ b % 2 ^ 32 ≡ 2 ^ b
+step_is b small = one_shl b 32 (omega arith)
 
 -- past n cells more
 pub rank_run : (idle : ℕ) (cells : List ℕ) (at n : ℕ) → at + n ≤ length cells → rank_of idle cells at + count_by (is_busy idle) (list_of (λ i. slice_index cells (at + i)) n) ≡ rank_of idle cells (at + n)
@@ -78,16 +78,7 @@ pub stands_for : (step idle shift k : ℕ) (cells ranks : List ℕ) → k ≡ di
 unfolding sampled
 stands_for step idle shift k cells ranks all step_is is = rw (is, all, step_is) refl
 
-pub length-samples : (t : Samples) (cells : List ℕ) → StandsFor t cells → length t.ranks ≡ div_ceil (length cells) (2 ^ t.shift)
-unfolding sampled
-length-samples t cells stands = ap length stands ∙ length-map-range_with_len _ 0 _
-
-pub sample_is : (t : Samples) (cells : List ℕ) (k : ℕ) → StandsFor t cells → k < length t.ranks → slice_index t.ranks k ≡ rank_of t.idle cells (k * 2 ^ t.shift)
-unfolding sampled
-sample_is t cells k stands inside =
-    let f = λ (j : ℕ). rank_of t.idle cells (j * 2 ^ t.shift) in
-    ap (λ (ranks : List ℕ). slice_index ranks k) stands ∙ get_or-map-range_with_len f 0 _ k k 0 (omega (arith, inside, length-samples t cells stands)) (omega arith)
-
--- each cell has a sample at it or before it
-pub sample_there : (t : Samples) (cells : List ℕ) (i : ℕ) → StandsFor t cells → i < length cells → i / 2 ^ t.shift < length t.ranks
-sample_there t cells i stands inside = omega (arith, place_lt (2 ^ t.shift) (length cells) i (pow_pos t.shift) inside, length-samples t cells stands)
+-- a sample, and what is counted after it
+pub sampled_rank_is : (t : Samples) (cells : List ℕ) (i sample rank : ℕ) → sample ≡ slice_index t.ranks (i / 2 ^ t.shift) → rank ≡ min 4294967295 (sample + (rank_of t.idle cells i - rank_of t.idle cells (i / 2 ^ t.shift * 2 ^ t.shift))) → rank ≡ min 4294967295 (sampled_rank t cells i)
+unfolding sampled_rank
+sampled_rank_is t cells i sample rank read is = rw read at is

@@ -1,19 +1,19 @@
--- Pairs of bits of a number that are 3, and the words of an image of pairs of bits.
-use Rattle.std.specs.Prelude.{◌≡◌, ℕ, zero, suc, ◌+◌, ◌-◌, ◌*◌, ◌/◌, ◌%◌, ◌^◌, ◌<◌, ◌≤◌, nat_eq, List, length, slice_index, count_by, bit_and, refl}
+-- Pairs of bits of a number that are 3, and words of bytes that hold pairs of bits.
+use Rattle.std.specs.Prelude.{◌≡◌, ℕ, zero, suc, ◌+◌, ◌-◌, ◌*◌, ◌/◌, ◌%◌, ◌^◌, ◌<◌, ◌≤◌, nat_eq, List, length, slice_index, count_by, drop, bit_and, refl}
 use Rattle.std.proofs.Common.{arith, ap, sym, ◌∙◌, ⊎_elim, min, cond, lit<}
 use Rattle.std.proofs.lemmas.Bool.{cases_lt, eqb-true}
 use Rattle.std.proofs.lemmas.Nat.{and_block, and_le_r, and_mask, and_mod, and_shr, mod_below, ones-le, ones_cat, pow_pos, shr-shr, shr_split}
+use Rattle.std.proofs.lemmas.List.{get_or-drop}
 use Rattle.std.proofs.lemmas.List.FromFn.{fill_by_all, get_or-map-range_with_len, length-map-range_with_len, sum_by-map-range_with_len_more}
 use Rattle.std.specs.Int.Count.{ones}
 use Rattle.cm_bits.specs.ByteLaws.{all_below, passes}
-use Rattle.cm_bits.specs.Bound.{AllBelow}
-use Rattle.cm_bits.specs.DigitsLaws.{digit-digits_sum, digits_sum-lt, digits_sum-same, pow_pow, digits_sum-append}
-use Rattle.cm_bits.specs.Held.{window_at}
-use Rattle.cm_bits.specs.PackedLaws.{cell_lt, le-packed_len}
+use Rattle.cm_bits.specs.DigitsLaws.{digit-digits_sum, digits_sum-digits, digits_sum-lt, digits_sum-same, pow_pow, digits_sum-append}
+use Rattle.cm_bits.specs.Held.{packed_cells, window_at}
+use Rattle.cm_bits.specs.PackedLaws.{le-packed_len, length-packed_cells, packed_cells-at}
 use Rattle.cm_rank.proofs.RankLemmas.{rank_run}
 use Rattle.cm_rank.specs.Ranks.{crumbs_of, rank_of}
 use Rattle.cm_spec.specs.Cells.{is_busy}
-use Rattle.cm_spec.specs.Image.{digits_sum, packed_byte, packed_len}
+use Rattle.cm_spec.specs.Image.{digits_sum, packed_len}
 use Rattle.cm_spec.specs.Lists.{list_of}
 
 -- the lower bit of each of the lowest n pairs of bits
@@ -80,61 +80,72 @@ digits_of_digits d p f (suc n) =
     let more : p * suc n ≡ p * n + p = omega arith in
     rw (more, digits_sum-append d f (p * n) p, pow_pow d p n, digits_of_digits d p f n) refl
 
--- eight bytes of an image of pairs of bits are the number of 32 cells
-window_of_cells : (cells : List ℕ) (q : ℕ) → q + 8 ≤ packed_len 4 (length cells) → window_at (list_of (packed_byte 4 4 cells) (packed_len 4 (length cells))) q ≡ digits_sum 4 (λ i. slice_index cells (4 * q + i)) 32
-unfolding window_at packed_byte
-window_of_cells cells q l =
-    let f = λ (i : ℕ). slice_index cells (4 * q + i) in
-    digits_sum-same 256 _ (λ k. digits_sum 4 (λ i. f (4 * k + i)) 4) 8 (λ k m.
-    get_or-map-range_with_len (packed_byte 4 4 cells) 0 (packed_len 4 (length cells)) (q + k) (q + k) 0 (omega arith) (omega arith)
-    ∙ digits_sum-same 4 _ _ 4 (λ i h. ap (slice_index cells) (omega arith)))
+-- eight bytes are the number of their 32 pairs of bits
+window_of_pairs : (bytes : List ℕ) (q : ℕ) → ((k : ℕ) → slice_index bytes k < 256) → window_at bytes q ≡ digits_sum 4 (λ i. slice_index bytes (q + i / 4) / 4 ^ (i % 4) % 4) 32
+unfolding window_at
+window_of_pairs bytes q small =
+    let f = λ (i : ℕ). slice_index bytes (q + i / 4) / 4 ^ (i % 4) % 4 in
+    digits_sum-same 256 (λ k. slice_index bytes (q + k)) (λ k. digits_sum 4 (λ i. f (4 * k + i)) 4) 8 (λ k m.
+    sym (digits_sum-digits 4 4 (slice_index bytes (q + k)) (lit< tt) (small (q + k)))
+    ∙ digits_sum-same 4 (λ i. slice_index bytes (q + k) / 4 ^ i % 4) (λ i. f (4 * k + i)) 4 (λ i h.
+    let byte : (4 * k + i) / 4 ≡ k = omega (arith, h) in
+    let place : (4 * k + i) % 4 ≡ i = omega (arith, h) in
+    rw (byte, place) refl))
     ∙ digits_of_digits 4 4 f 8
 
--- the rank past some of a word's cells
-cells_busy : (cells : List ℕ) (q n : ℕ) → AllBelow 4 cells → q + 8 ≤ packed_len 4 (length cells) → n ≤ 32 → 4 * q + n ≤ length cells → rank_of 3 cells (4 * q) + count_by (is_busy 3) (crumbs_of (window_at (list_of (packed_byte 4 4 cells) (packed_len 4 (length cells))) q) n) ≡ rank_of 3 cells (4 * q + n)
-cells_busy cells q n below there few inside =
-    let f = λ (i : ℕ). slice_index cells (4 * q + i) in
-    let word = digits_sum 4 f 32 in
-    let crumb : (i : ℕ) → i < n → word / 4 ^ i % 4 ≡ f i = λ i l. digit-digits_sum 4 f 32 i (lit< tt) (λ j m. cell_lt 4 cells (lit< tt) below _) (omega arith) in
-    let same : crumbs_of word n ≡ list_of f n =
-    fill_by_all f (crumbs_of word n) n 0 (length-map-range_with_len _ 0 n) (λ k l. get_or-map-range_with_len (λ i. word / 4 ^ i % 4) 0 n k k 0 l (omega arith) ∙ crumb k l) in
-    rw (window_of_cells cells q there, same) (rank_run 3 cells (4 * q) n inside)
+-- so the pairs of bits of a word are those of the bytes
+pub crumbs_of_bytes : (bytes : List ℕ) (q n : ℕ) → ((k : ℕ) → slice_index bytes k < 256) → n ≤ 32 → crumbs_of (window_at bytes q) n ≡ packed_cells 4 4 n (drop q bytes)
+unfolding packed_cells
+crumbs_of_bytes bytes q n small few =
+    let f = λ (i : ℕ). slice_index bytes (q + i / 4) / 4 ^ (i % 4) % 4 in
+    fill_by_all (λ i. slice_index (drop q bytes) (i / 4) / 4 ^ (i % 4) % 4) (crumbs_of (window_at bytes q) n) n 0 (length-map-range_with_len _ 0 n) (λ k l.
+    get_or-map-range_with_len (λ i. window_at bytes q / 4 ^ i % 4) 0 n k k 0 l (omega arith)
+    ∙ ap (λ w. w / 4 ^ k % 4) (window_of_pairs bytes q small)
+    ∙ digit-digits_sum 4 f 32 k (lit< tt) (λ j m. mod_below (slice_index bytes (q + j / 4) / 4 ^ (j % 4)) 4 (lit< tt)) (omega (arith, l, few))
+    ∙ ap (λ b. b / 4 ^ (k % 4) % 4) (sym (get_or-drop q bytes (k / 4) 0)))
 
--- how long an image is
-pub length-image : (cells bytes : List ℕ) → bytes ≡ list_of (packed_byte 4 4 cells) (packed_len 4 (length cells)) → length bytes ≡ packed_len 4 (length cells)
-length-image cells bytes image = ap length image ∙ length-map-range_with_len _ 0 _
+-- the rank past some of the cells from a byte on
+cells_busy : (cells bytes : List ℕ) (q n : ℕ) → cells ≡ packed_cells 4 4 (length cells) bytes → 4 * q + n ≤ length cells → rank_of 3 cells (4 * q) + count_by (is_busy 3) (packed_cells 4 4 n (drop q bytes)) ≡ rank_of 3 cells (4 * q + n)
+cells_busy cells bytes q n held inside =
+    let f = λ (i : ℕ). slice_index cells (4 * q + i) in
+    let same : packed_cells 4 4 n (drop q bytes) ≡ list_of f n =
+    fill_by_all f (packed_cells 4 4 n (drop q bytes)) n 0 (length-packed_cells 4 4 n (drop q bytes)) (λ k l.
+    let byte : (4 * q + k) / 4 ≡ q + k / 4 = omega arith in
+    let place : (4 * q + k) % 4 ≡ k % 4 = omega arith in
+    let cell : slice_index (packed_cells 4 4 (length cells) bytes) (4 * q + k) ≡ slice_index bytes (q + k / 4) / 4 ^ (k % 4) % 4 =
+    packed_cells-at 4 4 (length cells) bytes (4 * q + k) (omega (arith, l, inside)) ∙ rw (byte, place) refl in
+    packed_cells-at 4 4 n (drop q bytes) k l
+    ∙ ap (λ b. b / 4 ^ (k % 4) % 4) (get_or-drop q bytes (k / 4) 0)
+    ∙ sym cell
+    ∙ ap (λ (xs : List ℕ). slice_index xs (4 * q + k)) (sym held)) in
+    rw same (rank_run 3 cells (4 * q) n inside)
 
 -- the same for the cells from a place on that a byte begins with
-pub word_busy : (cells bytes : List ℕ) (from n word count : ℕ) → AllBelow 4 cells → bytes ≡ list_of (packed_byte 4 4 cells) (packed_len 4 (length cells)) → from % 4 ≡ 0 → from / 4 + 8 ≤ length bytes → n ≤ 32 → from + n ≤ length cells → word ≡ window_at bytes (from / 4) → count ≡ count_by (is_busy 3) (crumbs_of word n) → rank_of 3 cells from + count ≡ rank_of 3 cells (from + n)
-word_busy cells bytes from n word count below image whole there few inside read is =
+pub word_busy : (cells bytes : List ℕ) (from n count : ℕ) → cells ≡ packed_cells 4 4 (length cells) bytes → from % 4 ≡ 0 → from + n ≤ length cells → count ≡ count_by (is_busy 3) (packed_cells 4 4 n (drop (from / 4) bytes)) → rank_of 3 cells from + count ≡ rank_of 3 cells (from + n)
+word_busy cells bytes from n count held whole inside is =
     let place : 4 * (from / 4) ≡ from = omega arith in
-    let len = length-image cells bytes image in
-    let busy = cells_busy cells (from / 4) n below (omega (arith, there, len)) few (rw place inside) in
-    rw (is, read, image) (rw place at busy)
+    let busy = cells_busy cells bytes (from / 4) n held (rw place inside) in
+    rw is (rw place at busy)
 
 -- eight bytes are there if all 32 cells of a word are
-pub word_there : (cells bytes : List ℕ) (from : ℕ) → bytes ≡ list_of (packed_byte 4 4 cells) (packed_len 4 (length cells)) → from + 32 ≤ length cells → from / 4 + 8 ≤ length bytes
-word_there cells bytes from image inside =
-    let len = length-image cells bytes image in
-    let room : length cells ≤ packed_len 4 (length cells) * 4 = le-packed_len 4 (length cells) (lit< tt) in
-    omega arith
+pub word_there : (from n len : ℕ) → len ≡ packed_len 4 n → from + 32 ≤ n → from / 4 + 8 ≤ len
+word_there from n len whole inside = omega (arith, le-packed_len 4 n (lit< tt))
 
 -- one word more of a count that reads each word, if this many cells are counted
-pub words_more : (cells bytes : List ℕ) (from left k n word count more : ℕ) → AllBelow 4 cells → bytes ≡ list_of (packed_byte 4 4 cells) (packed_len 4 (length cells))
-    → from % 4 ≡ 0 → from / 4 + 8 * k + 8 ≤ length bytes → from + left ≤ length cells → n ≡ min (left - 32 * k) 32
-    → word ≡ window_at bytes (from / 4 + 8 * k) → more ≡ count_by (is_busy 3) (crumbs_of word n)
+pub words_more : (cells bytes : List ℕ) (from left k n count more : ℕ) → cells ≡ packed_cells 4 4 (length cells) bytes
+    → from % 4 ≡ 0 → from + left ≤ length cells → n ≡ min (left - 32 * k) 32
+    → more ≡ count_by (is_busy 3) (packed_cells 4 4 n (drop (from / 4 + 8 * k) bytes)) → more ≤ n
     → rank_of 3 cells from + count ≡ rank_of 3 cells (from + min left (32 * k))
     → rank_of 3 cells from + (count + more) ≡ rank_of 3 cells (from + min left (32 * (k + 1)))
-words_more cells bytes from left k n word count more below image whole there inside many read is was = ⊎_elim
+words_more cells bytes from left k n count more held whole inside many is most was = ⊎_elim
     (λ some.
     let place : (from + 32 * k) / 4 ≡ from / 4 + 8 * k = omega (arith, whole) in
-    let busy = word_busy cells bytes (from + 32 * k) n word more below image (omega (arith, whole)) (omega (arith, there, place)) (omega (arith, many)) (omega (arith, inside, many, some)) (read ∙ ap (window_at bytes) (sym place)) is in
+    let busy = word_busy cells bytes (from + 32 * k) n more held (omega (arith, whole)) (omega (arith, inside, many, some)) (is ∙ ap (λ (q : ℕ). count_by (is_busy 3) (packed_cells 4 4 n (drop q bytes))) (sym place)) in
     let old : rank_of 3 cells (from + min left (32 * k)) ≡ rank_of 3 cells (from + 32 * k) = ap (λ (i : ℕ). rank_of 3 cells i) (omega (arith, some)) in
     let new : rank_of 3 cells (from + 32 * k + n) ≡ rank_of 3 cells (from + min left (32 * (k + 1))) = ap (λ (i : ℕ). rank_of 3 cells i) (omega (arith, some, many)) in
     omega (arith, was, busy, old, new))
     (λ over.
-    let none : n ≡ 0 = omega (arith, many, over) in
-    let nothing : more ≡ 0 = is ∙ ap (λ (i : ℕ). count_by (is_busy 3) (crumbs_of word i)) none in
+    let none : more ≡ 0 = omega (arith, many, over, most) in
     let same : rank_of 3 cells (from + min left (32 * k)) ≡ rank_of 3 cells (from + min left (32 * (k + 1))) = ap (λ (i : ℕ). rank_of 3 cells i) (omega (arith, over)) in
-    omega (arith, was, nothing, same))
+    omega (arith, was, none, same))
     (cases_lt (32 * k) left)

@@ -4,8 +4,9 @@ ghost use Rattle.std.specs.Int.{div_ceil};
 ghost use Rattle.cm_rank.specs.Ranks.{rank_of, StandsFor};
 ghost use Rattle.cm_spec.specs.Cells.{is_busy};
 
+use crate::after::rank_after;
 use crate::counted::Counted;
-use cm_bits::Cells;
+use cm_bits::Lookup;
 use std::alloc::{AllocError, Global};
 use std::marker::Model;
 
@@ -28,20 +29,6 @@ impl Model for RankTable {
     ghost view = { λ t. record { idle = t.idle; shift = t.b; ranks = t.ranks.items } };
 
     ghost invariant = { λ t. (t.b ≤ 10) × (length t.ranks.items ≤ MAX_CELLS) };
-}
-
-/// How many cells are not idle, from a sampled cell on. Reads at most `2^b` cells.
-#[inline]
-fn count_after<C: Counted>(cells: &C, idle: u32, b: u8, from: u32, until: u32) -> u32
-    requires order { from ≤ until }
-    requires inside { until ≤ length (C.cells cells.now) }
-    ensures busy { rank_of idle (C.cells cells.now) from + result ≡ rank_of idle (C.cells cells.now) until }
-{
-    if b >= 7 && until - from <= 128 {
-        cells.count_near(idle, from, until)
-    } else {
-        cells.count_busy(idle, from, until)
-    }
 }
 
 impl RankTable {
@@ -78,9 +65,8 @@ impl RankTable {
         requires index { i < length (C.cells cells.now) }
         ensures rank { result ≡ rank_of self.now.idle (C.cells cells.now) i }
     {
-        let step = 1 << self.b;
-        let block = i / step;
-        self.ranks[block as usize] + count_after(cells, self.idle, self.b, block * step, i)
+        let block = i / (1 << self.b);
+        rank_after(cells, self.idle, self.b, self.ranks[block as usize], i)
     }
 
     /// How many cells are not idle. Reads at most `2^b` cells.

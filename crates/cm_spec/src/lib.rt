@@ -5,4 +5,6 @@
 pub mod examples;
 pub mod limits;
 
-pub use limits::{MAX_BUCKET, MAX_EDGES, MAX_KEYS, MAX_VERTICES, MAX_WIDTH, MIN_WIDTH};
+pub use limits::{
+    MAX_BUCKET, MAX_EDGES, MAX_KEYS, MAX_RATIO, MAX_VERTICES, MAX_WIDTH, MIN_RATIO, MIN_WIDTH,
+};

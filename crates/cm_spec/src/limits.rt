@@ -14,6 +14,12 @@ pub const MAX_VERTICES: u32 = 671_088_645;
 /// The most keys of a bucket.
 pub const MAX_BUCKET: u32 = 1_023;
 
+/// The least ratio of vertices to keys, in millionths.
+pub const MIN_RATIO: u32 = 1_000_000;
+
+/// The greatest ratio of vertices to keys, in millionths.
+pub const MAX_RATIO: u32 = 10_000_000;
+
 /// The least number of keys that a bucket has on average.
 pub const MIN_WIDTH: u16 = 64;
 

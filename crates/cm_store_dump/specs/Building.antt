@@ -1,7 +1,7 @@
 -- What a build makes of lines, for the driver of builds.
 use Rattle.std.specs.Prelude.{◌≡◌, ℕ, List, [], Option, None, Some, Result, Err}
 use Rattle.cm_algo_names.specs.declared.algorithm.Algorithm.TheVariants.{Bdz}
-use Rattle.cm_func.specs.Functions.{IsBdz}
+use Rattle.cm_bdz.specs.Functions.{IsBdz}
 use Rattle.cm_io.specs.Passes.{Told}
 use Rattle.cm_spec.specs.Bdz.{bdz_rule}
 use Rattle.cm_store.specs.Stores.{IsStore, records_of, store_under}

@@ -1,7 +1,6 @@
 -- The store of records in memory.
 use Rattle.std.specs.Prelude.{◌≡◌, ℕ, List, length, None}
-use Rattle.cm_bdz.specs.Functions.{Bdz}
-use Rattle.cm_func.specs.Functions.{IsBdz}
+use Rattle.cm_bdz.specs.Functions.{Bdz, IsBdz}
 use Rattle.cm_io.specs.Passes.{Told}
 use Rattle.cm_spec.specs.Bdz.{bdz_rule}
 use Rattle.cm_spec.specs.Rule.{IsCount}

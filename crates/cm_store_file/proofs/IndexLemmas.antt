@@ -9,12 +9,11 @@ use Rattle.std.proofs.lemmas.List.{take-append-le}
 use Rattle.std.proofs.lemmas.List.FromFn.{length-map-range_with_len}
 use Rattle.std.proofs.lemmas.Nat.{le-div}
 use Rattle.cm_bdz.specs.BdzLaws as bdz_laws
-use Rattle.cm_bdz.specs.Functions.{Bdz}
+use Rattle.cm_bdz.specs.Functions.{Bdz, IsBdz}
 use Rattle.cm_dump.specs.Dumps.{bdz_dump, dump_by, header, packed_image, ranks_image}
 use Rattle.cm_dump.specs.Forms.{form_of, version_2, version_of}
 use Rattle.cm_dump.specs.declared.versions.Version.{Version}
 use Rattle.cm_dump.specs.declared.versions.Version.TheVariants as version
-use Rattle.cm_func.specs.Functions.{IsBdz}
 use Rattle.cm_func.specs.declared.function.Func.TheVariants as func
 use Rattle.cm_rank.specs.Ranks.{sampled}
 use Rattle.cm_spec.specs.Image.{packed_len}

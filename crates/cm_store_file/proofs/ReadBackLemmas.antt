@@ -2,7 +2,7 @@
 use Rattle.std.proofs.Common.{◌≡◌, ◌∙◌, ℕ, ◌+◌, ◌*◌, ◌≤◌, List, ◌++◌, length, drop, ap, sym, subst, arith, refl, Option, Some, None, Result, Ok, Err, w32}
 use Rattle.std.specs.Cmp.Lexicographic.{bytes_decides}
 use Rattle.std.specs.Int.{to_le_bytes}
-use Rattle.cm_bdz.specs.Functions.{Bdz}
+use Rattle.cm_bdz.specs.Functions.{Bdz, IsBdz}
 use Rattle.cm_bits.specs.Bound.{AllBelow}
 use Rattle.cm_dump.specs.Dumps.{dump_by}
 use Rattle.cm_dump.specs.Forms.{form_of, version_of}
@@ -13,7 +13,7 @@ use Rattle.cm_dump_items.specs.Reading.{end_at, field_at, item_at}
 use Rattle.cm_dump_items.specs.StepLaws as items
 use Rattle.cm_dump_items.specs.WidthLaws.{of_four}
 use Rattle.cm_dump_items.specs.declared.fault.LoadFault.{LoadFault}
-use Rattle.cm_func.specs.Functions.{IsBdz, IsFunction}
+use Rattle.cm_func.specs.Functions.{IsFunction}
 use Rattle.cm_func.specs.declared.function.Func.{Func}
 use Rattle.cm_func.specs.declared.function.Func.TheVariants as func
 use Rattle.cm_store.specs.Stores.{IsStore, Store, bad_record}

@@ -3,7 +3,7 @@ ghost use Rattle.std.specs.Prelude.{◌≡◌, ℕ, List, Err, Ok, drop};
 ghost use Rattle.cm_bits.specs.Bound.{AllBelow};
 ghost use Rattle.cm_dump.specs.Forms.{version_of};
 ghost use Rattle.cm_dump.specs.declared.versions.Version.TheVariants as version;
-ghost use Rattle.cm_func.specs.Functions.{IsBdz};
+ghost use Rattle.cm_bdz.specs.Functions.{IsBdz};
 ghost use Rattle.cm_store.specs.Stores.{IsStore, Store};
 ghost use Rattle.cm_store_file.specs.Loads.{IsFileFault};
 ghost use Rattle.cm_store_file.specs.StoreFiles.{store_bytes, store_in};

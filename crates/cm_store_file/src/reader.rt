@@ -2,7 +2,7 @@
 ghost use Rattle.std.specs.Prelude.{◌≡◌, ◌+◌, ◌*◌, ◌<◌, ◌≤◌, ◌^◌, ℕ, IfOk, OnOk, length};
 ghost use Rattle.std.specs.Option.{ForSome};
 ghost use Rattle.cm_dump_items.specs.Reading.{IsAt};
-ghost use Rattle.cm_func.specs.Functions.{IsBdz};
+ghost use Rattle.cm_bdz.specs.Functions.{IsBdz};
 ghost use Rattle.cm_spec.specs.declared.limits.TheConstants.{MAX_KEYS};
 ghost use Rattle.cm_store.specs.Stores.{IsStore};
 ghost use Rattle.cm_store_file.specs.Loads.{HasStoreCause, IsLoaded, IsRead};

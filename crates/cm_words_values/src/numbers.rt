@@ -3,6 +3,8 @@ ghost use Rattle.std.specs.Prelude.{◌≡◌, ◌-◌, ◌<◌, ◌≤◌, ◌^
 ghost use Rattle.std.specs.List.{position_from};
 ghost use Rattle.cm_words_values.specs.Digits.{decimal_at, millionths_of, number_of, places_of, units_of, whole_of};
 
+use cm_spec::{MAX_RATIO, MIN_RATIO};
+
 /// The number that the digits write, if there are from one to `most` of them.
 fn digits(text: &[u8], most: usize) -> Option<u64>
     requires { most ≤ 10 }
@@ -108,7 +110,7 @@ pub fn millionths(text: &[u8]) -> Option<u32>
     ensures within { IfSome result (λ n. (1000000 ≤ n) × (n ≤ 10000000)) }
 {
     match decimal(text, point_of(text)) {
-        Some(value) if 1_000_000 <= value && value <= 10_000_000 => Some(value as u32),
+        Some(value) if MIN_RATIO as u64 <= value && value <= MAX_RATIO as u64 => Some(value as u32),
         _ => None,
     }
 }

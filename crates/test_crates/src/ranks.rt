@@ -46,7 +46,7 @@ fn table_of<C: Cells>(alloc: Global, values: &[u32], bound: u32) -> Result<C, Al
 }
 
 /// Checks the ranks of a table of these cells, and the number of its entries.
-fn check<C: Counted + Drop>(
+fn check<C: Cells + Counted + Drop>(
     rt: &impl Abort,
     alloc: Global,
     values: &[u32],

@@ -30,7 +30,7 @@ returns c =
     let is = after_is w c.requires.width in
     let end : c.loop-g.g ≡ c.args.first + BLOCK = omega (arith, c.loop-g-test.false, c.loop-g.auto.g-end) in
     let block =
-    block_clear w c.args.first BLOCK c.args.bound c.args.held.now c.loop-g.found c.at_pairs-after.result c.requires.width c.requires.positive c.requires.bound c.requires.fit c.requires.room
+    block_clear w c.args.first BLOCK c.args.bound c.args.held.now c.loop-g.found c.at_pairs-after.result c.requires.width c.requires.positive c.requires.bound c.requires.fit
     (rw end at c.loop-g.invariant)
     c.at_pairs-after.ensures.four (λ j l. c.at_pairs-after.ensures.lanes j l ∙ ap (λ n. n * 2 ^ (2 * j * w % 8)) is.0)
     c.requires.below in

@@ -1,6 +1,6 @@
 use Rattle.std.proofs.Common.{arith, refl, ◌≡◌, ◌+◌, ◌*◌}
 use Rattle.std.proofs.lemmas.Bool.{false≢true}
-use Rattle.cm_bits.proofs.FieldsLemmas.{field_room, group_more, group_room, pair_below}
+use Rattle.cm_bits.proofs.FieldsLemmas.{field_room, group_more, pair_below}
 use Rattle.cm_bits.proofs.fields.groups_below.Goals as goal
 
 pub is_pair_below-requires-clause-room : goal.is_pair_below-requires-clause-room
@@ -21,28 +21,23 @@ is_pair_below-requires-in-loop-g-3-clause-room c =
 
 pub loop-g-preserved : goal.loop-g-preserved
 loop-g-preserved c =
-    let room = group_room c.args.width c.args.n (c.loop-g.g + 1) c.args.held.now c.requires.held.whole (omega (arith, c.loop-g-test.true)) in
-    group_more c.args.width c.loop-g.g (c.loop-g.g * c.args.width) c.args.bound c.args.held.now c.requires.held.width c.requires.held.fit room refl
+    group_more c.args.width c.loop-g.g (c.loop-g.g * c.args.width) c.args.bound c.args.held.now c.requires.held.width c.requires.held.fit refl
     (c.if-not-is_pair_below.ensures.0 refl) (c.if-not-is_pair_below-2.ensures.0 refl) (c.if-not-is_pair_below-3.ensures.0 refl) (c.if-not-is_pair_below-4.ensures.0 refl)
     c.loop-g.invariant
 
 pub returns-then-not-is_pair_below-clause-next : goal.returns-then-not-is_pair_below-clause-next
 returns-then-not-is_pair_below-clause-next c l all =
-    let room = group_room c.args.width c.args.n (c.loop-g.g + 1) c.args.held.now c.requires.held.whole (omega arith) in
     let start : 2 * 0 * c.args.width ≡ 0 = omega arith in
-    false≢true (c.if-not-is_pair_below.ensures.1 (rw start at (pair_below c.args.width c.loop-g.g 0 c.args.bound (c.loop-g.g + 1) c.args.held.now c.requires.held.width c.requires.held.fit room (omega arith) (omega arith) all)))
+    false≢true (c.if-not-is_pair_below.ensures.1 (rw start at (pair_below c.args.width c.loop-g.g 0 c.args.bound (c.loop-g.g + 1) c.args.held.now c.requires.held.width c.requires.held.fit (omega arith) (omega arith) all)))
 
 pub returns-then-not-is_pair_below-2-clause-next : goal.returns-then-not-is_pair_below-2-clause-next
 returns-then-not-is_pair_below-2-clause-next c l all =
-    let room = group_room c.args.width c.args.n (c.loop-g.g + 1) c.args.held.now c.requires.held.whole (omega arith) in
-    false≢true (c.if-not-is_pair_below-2.ensures.1 (pair_below c.args.width c.loop-g.g 1 c.args.bound (c.loop-g.g + 1) c.args.held.now c.requires.held.width c.requires.held.fit room (omega arith) (omega arith) all))
+    false≢true (c.if-not-is_pair_below-2.ensures.1 (pair_below c.args.width c.loop-g.g 1 c.args.bound (c.loop-g.g + 1) c.args.held.now c.requires.held.width c.requires.held.fit (omega arith) (omega arith) all))
 
 pub returns-then-not-is_pair_below-3-clause-next : goal.returns-then-not-is_pair_below-3-clause-next
 returns-then-not-is_pair_below-3-clause-next c l all =
-    let room = group_room c.args.width c.args.n (c.loop-g.g + 1) c.args.held.now c.requires.held.whole (omega arith) in
-    false≢true (c.if-not-is_pair_below-3.ensures.1 (pair_below c.args.width c.loop-g.g 2 c.args.bound (c.loop-g.g + 1) c.args.held.now c.requires.held.width c.requires.held.fit room (omega arith) (omega arith) all))
+    false≢true (c.if-not-is_pair_below-3.ensures.1 (pair_below c.args.width c.loop-g.g 2 c.args.bound (c.loop-g.g + 1) c.args.held.now c.requires.held.width c.requires.held.fit (omega arith) (omega arith) all))
 
 pub returns-then-not-is_pair_below-4-clause-next : goal.returns-then-not-is_pair_below-4-clause-next
 returns-then-not-is_pair_below-4-clause-next c l all =
-    let room = group_room c.args.width c.args.n (c.loop-g.g + 1) c.args.held.now c.requires.held.whole (omega arith) in
-    false≢true (c.if-not-is_pair_below-4.ensures.1 (pair_below c.args.width c.loop-g.g 3 c.args.bound (c.loop-g.g + 1) c.args.held.now c.requires.held.width c.requires.held.fit room (omega arith) (omega arith) all))
+    false≢true (c.if-not-is_pair_below-4.ensures.1 (pair_below c.args.width c.loop-g.g 3 c.args.bound (c.loop-g.g + 1) c.args.held.now c.requires.held.width c.requires.held.fit (omega arith) (omega arith) all))

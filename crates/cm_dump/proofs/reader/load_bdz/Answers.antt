@@ -5,7 +5,7 @@ use Rattle.cm_dump_images.specs.ImageLaws.{packed_near}
 use Rattle.cm_dump_items.specs.StepLaws.{fails_then}
 use Rattle.cm_dump.specs.Spelling.{bdz_at}
 use Rattle.cm_dump.proofs.BodyLemmas.{bdz_known}
-use Rattle.cm_dump.proofs.CellLemmas.{few_vertices}
+use Rattle.cm_dump.specs.CellLaws.{few_vertices}
 use Rattle.cm_dump.proofs.reader.load_bdz.Goals as goal
 use Rattle.cm_spec.specs.declared.limits.TheConstants.{MAX_VERTICES}
 

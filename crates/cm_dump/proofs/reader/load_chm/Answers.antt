@@ -4,7 +4,7 @@ use Rattle.cm_bits.specs.Fault.{bytes_number, field_cells}
 use Rattle.cm_dump_images.specs.ImageLaws.{cells_near}
 use Rattle.cm_dump_items.specs.StepLaws.{fails_then}
 use Rattle.cm_dump.proofs.BodyLemmas.{chm_known}
-use Rattle.cm_dump.proofs.CellLemmas.{few_cells}
+use Rattle.cm_dump.specs.CellLaws.{few_cells}
 use Rattle.cm_dump.specs.Spelling.{chm_at}
 use Rattle.cm_dump.proofs.reader.load_chm.Goals as goal
 

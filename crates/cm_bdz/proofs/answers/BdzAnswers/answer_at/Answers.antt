@@ -1,6 +1,6 @@
 use Rattle.std.proofs.Common.{◌∙◌, ap}
 use Rattle.std.specs.List.{count_by}
-use Rattle.cm_bdz.proofs.Ranking.{rank_below}
+use Rattle.cm_bdz.specs.RankingLaws.{rank_below}
 use Rattle.cm_spec.specs.Cells.{is_busy}
 use Rattle.cm_bdz.proofs.answers.BdzAnswers.answer_at.Goals as goal
 

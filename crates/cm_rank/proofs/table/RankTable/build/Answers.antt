@@ -19,11 +19,11 @@ loop-k-init g c =
 
 pub overflow_add-rank : goal.overflow_add-rank
 overflow_add-rank g c =
-    omega (arith, c.loop-k.invariant.rank, c.count_busy-rank.ensures.busy, rank_le_all c.args.idle (g.C.Cells.cells c.args.cells.now) c.min.result, g.met.C.Cells.in_room c.args.cells.now)
+    omega (arith, c.loop-k.invariant.rank, c.count_busy-rank.ensures.busy, rank_le_all c.args.idle (g.C.Lookup.cells c.args.cells.now) c.min.result, g.met.C.Lookup.in_room c.args.cells.now)
 
 pub loop-k-preserved : goal.loop-k-preserved
 loop-k-preserved g c =
-    let cells : List ℕ = g.C.Cells.cells c.args.cells.now in
+    let cells : List ℕ = g.C.Lookup.cells c.args.cells.now in
     let so_far = c.loop-k.invariant in
     let step : ℕ = 1 * 2 ^ c.args.b % 4294967296 in
     let until : c.min.result ≡ min (length cells) (c.loop-k.k * step + step) = c.min.ensures ∙ ap (λ (n : ℕ). min n (c.loop-k.k * step + step)) so_far.len in
@@ -38,12 +38,12 @@ loop-k-preserved g c =
 
 pub invariant_of-result : goal.invariant_of-result
 invariant_of-result g c =
-    let cells : List ℕ = g.C.Cells.cells c.args.cells.now in
+    let cells : List ℕ = g.C.Lookup.cells c.args.cells.now in
     let step : ℕ = 1 * 2 ^ c.args.b % 4294967296 in
     let some : 0 < step = rw c.loop-k.invariant.step (pow_pos c.args.b) in
     let many : length c.loop-k.ranks.items ≡ c.loop-k.k = ap length c.loop-k.invariant.ranks ∙ length-map-range_with_len _ 0 _ in
-    (c.requires.high, omega (arith, many, c.loop-k.auto.k-end, c.loop-k.invariant.all, few_blocks step (length cells) some, g.met.C.Cells.in_room c.args.cells.now))
+    (c.requires.high, omega (arith, many, c.loop-k.auto.k-end, c.loop-k.invariant.all, few_blocks step (length cells) some, g.met.C.Lookup.in_room c.args.cells.now))
 
 pub returns-clause-stands : goal.returns-clause-stands
 returns-clause-stands g c =
-    stands_for _ c.args.idle c.args.b c.loop-k.k (g.C.Cells.cells c.args.cells.now) c.loop-k.ranks.items (omega (arith, c.loop-k.auto.k-end, c.loop-k-test.false, c.loop-k.invariant.all)) c.loop-k.invariant.step c.loop-k.invariant.ranks
+    stands_for _ c.args.idle c.args.b c.loop-k.k (g.C.Lookup.cells c.args.cells.now) c.loop-k.ranks.items (omega (arith, c.loop-k.auto.k-end, c.loop-k-test.false, c.loop-k.invariant.all)) c.loop-k.invariant.step c.loop-k.invariant.ranks

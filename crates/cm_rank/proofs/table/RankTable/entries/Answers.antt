@@ -1,5 +1,5 @@
 use Rattle.std.proofs.Common.{◌≡◌, ◌∙◌, arith, length}
-use Rattle.cm_rank.proofs.RankLemmas.{length-samples}
+use Rattle.cm_rank.specs.RankLaws.{length-samples}
 use Rattle.cm_rank.proofs.table.RankTable.entries.Goals as goal
 
 pub returns-clause-cells : goal.returns-clause-cells

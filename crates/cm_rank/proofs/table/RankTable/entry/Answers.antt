@@ -1,6 +1,6 @@
 use Rattle.std.proofs.Common.{◌∙◌, ◌<◌, length}
 use Rattle.std.proofs.lemmas.List.{get_or_read}
-use Rattle.cm_rank.proofs.RankLemmas.{sample_is}
+use Rattle.cm_rank.specs.RankLaws.{sample_is}
 use Rattle.cm_rank.proofs.table.RankTable.entry.Goals as goal
 
 pub returns-clause-cells : goal.returns-clause-cells

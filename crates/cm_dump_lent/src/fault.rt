@@ -1,0 +1,16 @@
+//! Why the bytes of a dump are no function in place.
+
+use cm_dump_items::LoadFault;
+use thiserror::Error;
+
+/// Why no function was opened in the bytes of a dump.
+#[derive(Clone, Copy, Debug, PartialEq, Eq, Error)]
+pub enum OpenFault {
+    /// The first fault of the bytes, as loading them gives it. It is neither `Memory` nor `Read`.
+    #[error("{0}")]
+    Dump(LoadFault),
+    /// The header is right and names BRZ: a function by BRZ is loaded from its dump, and not read in it. The bytes after the header are not
+    /// checked.
+    #[error("a function by brz is not read in the bytes of its dump")]
+    Brz,
+}
