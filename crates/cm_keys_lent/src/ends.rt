@@ -16,7 +16,7 @@ pub enum EndsFault {
 
 /// The bytes of key `i`, counted from 0: those from the end of the key before it on, up to its own.
 #[inline]
-pub fn key_at<'a>(bytes: &'a [u8], ends: &[u64], i: usize) -> &'a [u8]
+pub(crate) fn key_at<'a>(bytes: &'a [u8], ends: &[u64], i: usize) -> &'a [u8]
     requires inside { i < length ends.now }
     requires end { IsEnd bytes.now ends.now i }
     ensures key { result.now ≡ key_in bytes.now ends.now i }

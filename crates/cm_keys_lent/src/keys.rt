@@ -1,6 +1,9 @@
 //! The pass over keys that are lent.
-ghost use Rattle.std.specs.Prelude.{◌≡◌, IfErr, IfOk};
+ghost use Rattle.std.specs.Prelude.{◌≡◌, ◌<◌, ◌≤◌, IfErr, IfOk, length};
+ghost use Rattle.cm_io.specs.declared.key_pass.TheConstants.{MAX_KEY_LEN};
+ghost use Rattle.cm_keys_lent.specs.Ends.{key_in};
 ghost use Rattle.cm_keys_lent.specs.Pass.{FailsEnds, IsLentPass};
+ghost use Rattle.cm_spec.specs.declared.limits.TheConstants.{MAX_KEYS};
 
 use crate::ends::{EndsFault, bad_end, key_at};
 use cm_io::{KeyBuf, KeyFault, KeyPass, MAX_KEYS};
@@ -45,6 +48,24 @@ impl<'a> LentKeys<'a> {
                 given: 0,
             }),
         }
+    }
+
+    /// How many keys there are.
+    pub fn count(&self) -> usize
+        ensures count { result ≡ length self.now.ends }
+        ensures few { result ≤ MAX_KEYS }
+    {
+        self.ends.len()
+    }
+
+    /// The bytes of key `i`, counted from 0: those from the end of the key before it on, up to its own.
+    #[inline]
+    pub fn key(&self, i: usize) -> &'a [u8]
+        requires inside { i < length self.now.ends }
+        ensures key { result.now ≡ key_in self.now.bytes self.now.ends i }
+        ensures short { length result.now ≤ MAX_KEY_LEN }
+    {
+        key_at(self.bytes, self.ends, i)
     }
 }
 

@@ -4,5 +4,5 @@
 mod ends;
 mod keys;
 
-pub use crate::ends::{EndsFault, key_at};
+pub use crate::ends::EndsFault;
 pub use crate::keys::LentKeys;

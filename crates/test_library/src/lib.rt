@@ -15,6 +15,8 @@ use cm_lib::{
 use std::alloc::{AllocError, Global};
 
 #[cfg(test)]
+mod lent;
+#[cfg(test)]
 mod tests;
 
 /// The ratio of vertices to keys, in millionths.

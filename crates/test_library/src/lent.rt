@@ -1,0 +1,244 @@
+//! Keys in memory: their function is built into a buffer, read in it without a copy, and read in bytes that were changed.
+ghost use Rattle.std.specs.Prelude.{◌≢◌, ◌≤◌};
+ghost use Rattle.cm_lib.specs.Terms.{Brz};
+
+use cm_lib::{
+    Algorithm, Answers, EndsFault, FuncFault, LentFault, LentKeys, MIN_BYTES, MemSource, NONE,
+    OpenFault, Pair, Plan, Route, answer, answers_into, build_into, load, number_or_none, open,
+};
+use std::alloc::{AllocError, Global};
+use std::process::Abort;
+use std::test::Fail;
+
+/// How many keys are built over.
+const MANY: u32 = 1000;
+
+/// The bytes of `count` keys of 4 to 17 bytes, no two equal, and their ends.
+fn keys_of(alloc: Global, count: u32) -> Result<(Vec<u8>, Vec<u64>), AllocError> {
+    let mut bytes = Vec::new(alloc);
+    let mut ends = Vec::new(alloc);
+    for i in 0..count {
+        for _ in 0..i % 14 {
+            bytes.push(b'k')?;
+        }
+        bytes.extend_from_slice(&i.to_le_bytes())?;
+        ends.push(bytes.len() as u64)?;
+    }
+    Ok((bytes, ends))
+}
+
+/// A build of keys in memory under the seeds from 0 to 15.
+fn built(
+    alloc: Global,
+    algorithm: Algorithm,
+    keys: &mut LentKeys<'_>,
+    room: &mut [u8],
+) -> Result<usize, LentFault>
+    requires unspilled { algorithm ≢ Brz }
+{
+    let plan = Plan {
+        algorithm,
+        c: 2_100_000,
+        b: 7,
+        buffer: MIN_BYTES,
+    };
+    let seeds = [0, 1, 2, 3, 4, 5, 6, 7, 8, 9, 10, 11, 12, 13, 14, 15];
+    build_into(alloc, &plan, &seeds, keys, room)
+}
+
+/// Whether no two of the numbers are the same, and all are below the bound.
+fn are_apart(alloc: Global, numbers: &[u32], bound: u32) -> Result<bool, AllocError> {
+    let mut seen = vec![in alloc; false; bound as usize]?;
+    for number in numbers {
+        match seen.get_mut(*number as usize) {
+            Some(place) => {
+                if *place {
+                    return Ok(false);
+                }
+                *place = true;
+            }
+            None => return Ok(false),
+        }
+    }
+    Ok(true)
+}
+
+/// Compares opening and loading bytes: the same fault, or the same numbers of some keys. By BRZ they are not opened.
+fn compare(rt: &impl Abort, alloc: Global, bytes: &[u8]) -> Result<(), AllocError> {
+    let mut source = MemSource::new(bytes.to_vec(alloc)?, Vec::new(alloc), Vec::new(alloc));
+    let loaded = load(alloc, &mut source);
+    match open(bytes) {
+        Ok(lent) => match loaded {
+            Ok(function) => {
+                let keys = [
+                    b"".as_slice(),
+                    b"a",
+                    b"b",
+                    b"word",
+                    b"a longer key than twelve bytes",
+                ];
+                for key in keys {
+                    assert_eq!(rt; answer(&lent, key), answer(&function, key));
+                }
+            }
+            Err(_) => panic!(rt; "opened, and not loaded"),
+        },
+        Err(OpenFault::Dump(fault)) => match loaded {
+            Ok(_) => panic!(rt; "loaded, and not opened"),
+            Err(other) => assert_eq!(rt; fault, other),
+        },
+        Err(OpenFault::Brz) => assert_eq!(rt; bytes.get(8).copied(), Some(4)),
+    }
+    Ok(())
+}
+
+/// Builds over many keys, and compares the numbers in one batch, one by one, and of the function that is loaded.
+fn check(rt: &impl Abort, alloc: Global, algorithm: Algorithm) -> Result<(), AllocError>
+    requires unspilled { algorithm ≢ Brz }
+{
+    let (bytes, ends) = keys_of(alloc, MANY)?;
+    let Ok(mut keys) = LentKeys::new(&bytes, &ends) else {
+        panic!(rt; "no keys");
+    };
+    let mut room = vec![in alloc; 0xa5u8; 8192]?;
+    let Ok(len) = built(alloc, algorithm, &mut keys, &mut room) else {
+        panic!(rt; "not built");
+    };
+    let Some(dump) = room.get(..len) else {
+        panic!(rt; "too long");
+    };
+    assert!(rt; room.iter().skip(len).all(|b| *b == 0xa5));
+    let Ok(lent) = open(dump) else {
+        panic!(rt; "not opened");
+    };
+    let mut source = MemSource::new(dump.to_vec(alloc)?, Vec::new(alloc), Vec::new(alloc));
+    let Ok(function) = load(alloc, &mut source) else {
+        panic!(rt; "not loaded");
+    };
+    let mut numbers = vec![in alloc; 7u32; 1001]?;
+    assert!(rt; keys.count() < numbers.len());
+    answers_into(&lent, &keys, &mut numbers);
+    assert_eq!(rt; numbers.pop(), Some(7));
+    for i in 0..keys.count() {
+        let number = number_or_none(answer(&function, keys.key(i)));
+        assert_eq!(rt; numbers.get(i).copied(), Some(number));
+        assert_eq!(rt; number_or_none(answer(&lent, keys.key(i))), number);
+    }
+    assert!(rt; are_apart(alloc, &numbers, function.span())?);
+    Ok(())
+}
+
+#[test]
+fn chm_in_a_buffer(rt: HostRuntime) -> Result<(), Fail> {
+    check(&rt, rt.alloc(), Algorithm::Chm)?;
+    Ok(())
+}
+
+#[test]
+fn bdz_in_a_buffer(rt: HostRuntime) -> Result<(), Fail> {
+    check(&rt, rt.alloc(), Algorithm::Bdz)?;
+    Ok(())
+}
+
+#[test]
+fn bdz_ph_in_a_buffer(rt: HostRuntime) -> Result<(), Fail> {
+    check(&rt, rt.alloc(), Algorithm::BdzPh)?;
+    Ok(())
+}
+
+/// The dump of the function of five keys in memory.
+fn dump_of_five(rt: &impl Abort, alloc: Global, algorithm: Algorithm) -> Result<Vec<u8>, AllocError>
+    requires unspilled { algorithm ≢ Brz }
+{
+    let (bytes, ends) = keys_of(alloc, 5)?;
+    let Ok(mut keys) = LentKeys::new(&bytes, &ends) else {
+        panic!(rt; "no keys");
+    };
+    let mut room = vec![in alloc; 0u8; 100]?;
+    let Ok(len) = built(alloc, algorithm, &mut keys, &mut room) else {
+        panic!(rt; "not built");
+    };
+    room.truncate(len);
+    Ok(room)
+}
+
+/// Compares opening and loading each prefix of a dump, a longer one, and the dump with each of its bytes changed to some others.
+fn change(rt: &impl Abort, alloc: Global, algorithm: Algorithm) -> Result<(), AllocError>
+    requires unspilled { algorithm ≢ Brz }
+{
+    let mut dump = dump_of_five(rt, alloc, algorithm)?;
+    for len in 0..dump.len() {
+        if let Some(prefix) = dump.get(..len) {
+            compare(rt, alloc, prefix)?;
+        }
+    }
+    for at in 0..dump.len() {
+        let Some(byte) = dump.get(at).copied() else {
+            panic!(rt; "no byte");
+        };
+        for change in [1, 2, 4, 0x10, 0x80, 0xff] {
+            if let Some(place) = dump.get_mut(at) {
+                *place = byte ^ change;
+            }
+            compare(rt, alloc, &dump)?;
+        }
+        if let Some(place) = dump.get_mut(at) {
+            *place = byte;
+        }
+    }
+    dump.push(0)?;
+    compare(rt, alloc, &dump)
+}
+
+#[test]
+fn changed_bytes(rt: HostRuntime) -> Result<(), Fail> {
+    change(&rt, rt.alloc(), Algorithm::Chm)?;
+    change(&rt, rt.alloc(), Algorithm::Bdz)?;
+    change(&rt, rt.alloc(), Algorithm::BdzPh)?;
+    Ok(())
+}
+
+#[test]
+fn refused_builds(rt: HostRuntime) -> Result<(), Fail> {
+    let alloc = rt.alloc();
+    let ends = [1, 1, 2];
+    let Ok(mut keys) = LentKeys::new(b"aa", &ends) else {
+        panic!(rt; "no keys");
+    };
+    let mut room = vec![in alloc; 9u8; 64]?;
+    match built(alloc, Algorithm::Bdz, &mut keys, &mut room) {
+        Err(LentFault::Build(FuncFault::Cored(shown))) => {
+            assert_eq!(rt;
+                shown.equal.as_slice(),
+                [Pair { first: 1, again: 3 }].as_slice()
+            );
+        }
+        _ => panic!(rt; "equal keys are not refused"),
+    }
+    let Ok(mut none) = LentKeys::new(b"", &[]) else {
+        panic!(rt; "not empty");
+    };
+    let refused = built(alloc, Algorithm::Chm, &mut none, &mut room);
+    assert!(rt; matches!(refused, Err(LentFault::Build(FuncFault::NoKeys))));
+    let Ok(mut one) = LentKeys::new(b"a", &[1]) else {
+        panic!(rt; "no key");
+    };
+    let short = built(alloc, Algorithm::BdzPh, &mut one, &mut []);
+    assert!(rt; matches!(short, Err(LentFault::Room { needed: 26 })));
+    assert!(rt; room.iter().all(|b| *b == 9));
+    let fault = LentKeys::new(b"abc", &[2, 1]);
+    assert!(rt; matches!(fault, Err(EndsFault::BadEnd { key: 1 })));
+    Ok(())
+}
+
+#[test]
+fn shards(rt: HostRuntime) -> Result<(), Fail> {
+    let Ok(keys) = LentKeys::new(b"abc", &[0, 1, 3]) else {
+        panic!(rt; "no keys");
+    };
+    let mut shards = [9; 4];
+    answers_into(&Route::new(0, 1), &keys, &mut shards);
+    assert_eq!(rt; shards, [0, 0, 0, 9]);
+    assert_eq!(rt; number_or_none(None), NONE);
+    Ok(())
+}
