@@ -1,6 +1,9 @@
 # make            proves and builds bin/cmph, bin/cmph_judge, bin/cmph_filter and bin/cmph_store: names each crate with its time, and puts
 #                 all else into out/prove.log
 # make demo       builds a function over a word list, queries it, and tries all algorithms over generated keys
+# make library    proves and builds the C library: lib/libcmph_c.a, lib/libcmph_c.so.1 and lib/cmph_c.pc; its header is library/cmph_c.h
+# make install-library
+#                 installs it and its header below $(PREFIX)
 # make check      the gate: proves everything from nothing, and runs all tests
 # make install    installs the programs, their man pages, and completions for bash and zsh below $(PREFIX)
 # make uninstall  removes them
@@ -38,6 +41,33 @@ bin/%: $(SOURCES)
 	@python3 tools/prove.py $*
 	@mkdir -p bin
 	@cp crates/$*/out/$* $@
+
+# The functions of the C library that take memory are in the kit's archive: with them a program needs nothing else.
+LIBC = $(shell dirname $$(dirname $$(readlink -f $$(command -v rt))))/c/liblibc_c.a
+VERSION := 1
+
+library: lib/libcmph_c.a lib/libcmph_c.so.1 lib/cmph_c.pc
+
+lib/libcmph_c.a: $(SOURCES)
+	@python3 tools/prove.py cmph_c
+	@mkdir -p lib
+	@rm -f $@
+	@printf 'create $@\naddlib crates/cmph_c/out/libcmph_c.a\naddlib $(LIBC)\nsave\nend\n' | ar -M
+
+lib/libcmph_c.so.1: lib/libcmph_c.a library/exports.map
+	$(CC) -shared -o $@ -Wl,--whole-archive lib/libcmph_c.a -Wl,--no-whole-archive -Wl,-z,defs -Wl,-z,text -Wl,-soname,libcmph_c.so.1 \
+	    -Wl,--version-script=library/exports.map
+
+lib/cmph_c.pc: library/cmph_c.pc.in
+	@mkdir -p lib
+	@sed 's|@PREFIX@|$(PREFIX)|; s|@VERSION@|$(VERSION)|' $< > $@
+
+install-library: library
+	install -D -m 644 library/cmph_c.h $(DESTDIR)$(PREFIX)/include/cmph_c.h
+	install -D -m 644 lib/libcmph_c.a $(DESTDIR)$(PREFIX)/lib/libcmph_c.a
+	install -D -m 755 lib/libcmph_c.so.1 $(DESTDIR)$(PREFIX)/lib/libcmph_c.so.1
+	ln -sf libcmph_c.so.1 $(DESTDIR)$(PREFIX)/lib/libcmph_c.so
+	install -D -m 644 lib/cmph_c.pc $(DESTDIR)$(PREFIX)/lib/pkgconfig/cmph_c.pc
 
 demo: bin/cmph
 	@scratch=$$(mktemp -d) && cp examples/words $$scratch/ && cd $$scratch && cmph=$(CURDIR)/bin/cmph && \
@@ -99,6 +129,6 @@ drawings: bin/cmph
 	python3 docs/draw.py
 
 clean:
-	rm -rf bin out crates/*/out
+	rm -rf bin lib out crates/*/out
 
-.PHONY: all demo check install uninstall bench bench-bits bench-peel bench-spill bench-bbhash bench-versions bench-most bench-judge bench-filter bench-store drawings clean
+.PHONY: all library demo check install install-library uninstall bench bench-bits bench-peel bench-spill bench-bbhash bench-versions bench-most bench-judge bench-filter bench-store drawings clean

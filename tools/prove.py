@@ -1,7 +1,7 @@
 #!/usr/bin/env python3
-"""Proves a crate and all that it stands on, side by side, and builds it if it is a program.
+"""Proves a crate and all that it stands on, side by side, and builds it if it is a program or a static library.
 
-    tools/prove.py [--jobs N] CRATE
+    tools/prove.py [--jobs N] [--alone] CRATE
 
 It prints the name of each crate that is done and the seconds that it took, two crates a line, and how many are left. All
 else goes to out/prove.log. N crates are proved at a time, as many as there are processors and memory for if it is left out. A crate is
@@ -9,7 +9,8 @@ not proved again if its files, those of the crates below it and the kit are as t
 resumed by running it again.
 
 Each crate is proved over the statements of those below it, which they leave in their folders, in out/statements: near the
-top, reading all proofs took as long as proving. The gate does the same. The commands of `rt` keep libraries of their own.
+top, reading all proofs took as long as proving. The gate does the same. The commands of `rt` keep libraries of their own:
+with --alone the crate is proved over those that `rt ci` left below it in out/rlib, and nothing else is.
 """
 import argparse
 import contextlib
@@ -91,9 +92,20 @@ def is_program(crate):
     return (folder(crate) / "src" / "main.rt").exists()
 
 
+def is_static(crate):
+    return "staticlib" in listed()[crate].partition(":")[0].split()
+
+
 def made_of(crate):
     """What the proof of a crate makes."""
+    if is_static(crate):
+        return folder(crate) / "out" / f"lib{crate}.a"
     return folder(crate) / "out" / (crate if is_program(crate) else f"statements/{crate}.rlib")
+
+
+def left_of(crate):
+    """What `rt ci` left of a library."""
+    return folder(crate) / "out" / "rlib" / f"{crate}.rlib"
 
 
 def sum_of(crate, crates, kit):
@@ -123,18 +135,20 @@ def room():
     return max(1, min(len(os.sched_getaffinity(0)), memory // MEMORY))
 
 
-def commands_for(crate, crates, jobs, kit):
-    """The commands that prove a crate over the statements of those below it, and make the program or the statements."""
+def commands_for(crate, crates, jobs, kit, library_of=made_of):
+    """The commands that prove a crate over those below it, and make the program, the static library or the statements."""
     made = made_of(crate)
-    libraries = [(name, made_of(name) if name in crates else kit / "rlibs" / f"{name}.rlib") for name in ("std", *named_by(crate))]
-    folders = [kit / "rlibs", *(made_of(name).parent for name in sorted(all_below(crate, crates)))]
+    libraries = [(name, library_of(name) if name in crates else kit / "rlibs" / f"{name}.rlib") for name in ("std", *named_by(crate))]
+    folders = [kit / "rlibs", *(library_of(name).parent for name in sorted(all_below(crate, crates)))]
     build = [kit / "bin" / "rattle", "build", "--crate-name", crate, "src/main.rt" if is_program(crate) else "src/lib.rt"]
     build += [word for name, library in libraries for word in ("--extern", f"{name}={library}")]
     build += [word for it in folders for word in ("-L", f"dependency={it}")]
     build += ["--antt-project", kit / "rattle" / "logic" / "antt-project.json", "--logic-built", kit / "logic_built", "--jobs", str(jobs)]
+    toolchain = ["--toolchain", kit / "toolchain"]
+    if is_static(crate):
+        return [[*build, "--crate-type", "staticlib", *toolchain, "--backend", "llvm", "-o", made]]
     if not is_program(crate):
         return [[*build, "--statements", "-o", made]]
-    toolchain = ["--toolchain", kit / "toolchain"]
     link = [kit / "bin" / "rattle-link", "--target", "x86_64-unknown-linux-gnu", *toolchain, "-o", made, f"{made}.o"]
     return [[*build, *toolchain, "-o", f"{made}.o"], [*link, kit / "c" / "libos_c.a", kit / "c" / "liblibc_c.a"]]
 
@@ -227,6 +241,7 @@ def prove_all(crates, most, proof):
 def main():
     parser = argparse.ArgumentParser(description=__doc__, formatter_class=argparse.RawDescriptionHelpFormatter)
     parser.add_argument("--jobs", type=int, default=room(), help="how many crates are proved at a time")
+    parser.add_argument("--alone", action="store_true", help="take the libraries below it from out/rlib, where `rt ci` left them")
     parser.add_argument("crate", metavar="CRATE")
     asked = parser.parse_args()
     signal.signal(signal.SIGTERM, signal.default_int_handler)
@@ -236,6 +251,10 @@ def main():
     if rt is None:
         sys.exit("there is no rt on the path: it is the command of the Rattle kit")
     kit = Path(rt).resolve().parent.parent
+    if asked.alone:
+        made_of(asked.crate).parent.mkdir(parents=True, exist_ok=True)
+        commands = commands_for(asked.crate, crates, most, kit, left_of)
+        return max(subprocess.run(command, cwd=folder(asked.crate), stdin=subprocess.DEVNULL).returncode for command in commands)
     LOG.parent.mkdir(exist_ok=True)
     print(f"Proving {len(crates)} crates, up to {most} at a time; the first time takes many minutes. Log: {LOG.relative_to(TOP)}", flush=True)
     with open(LOG, "w") as log:

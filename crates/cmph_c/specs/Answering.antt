@@ -1,0 +1,32 @@
+-- The numbers of many keys, and why none is put.
+use Rattle.std.specs.Prelude.{◌≡◌, ◌<◌, ◌⊎◌, ℕ, List, length}
+use Rattle.cm_dump_lent.specs.Opened.{lent_answer}
+use Rattle.cm_dump_lent.specs.declared.lent.Lent.{Lent}
+use Rattle.cm_keys_lent.specs.Ends.{AreEnds}
+use Rattle.cm_keys_lent.specs.Pass.{FailsEnds, LentPass}
+use Rattle.cm_keys_lent.specs.declared.ends.EndsFault.{EndsFault}
+use Rattle.cm_lib_lent.specs.Numbers.{ArePut}
+use Rattle.cmph_c.specs.Codes.{ends_code, ends_place}
+use Rattle.cmph_c.specs.Functions.{Holds, IsHeld}
+use Rattle.cmph_c.specs.declared.codes.TheConstants.{NO_FUNCTION, NO_ROOM}
+use Rattle.cmph_c.specs.declared.function.Function.{Function}
+
+-- the keys of a batch
+abbrev pub pass_of : List ℕ → List ℕ → LentPass
+pass_of bytes ends = record { bytes = bytes; ends = ends; given = 0 }
+
+-- The struct holds a function, the ends are those of keys, and each key's number is put.
+pub record ArePutBy (c : Function) (bytes ends old new : List ℕ) : Type 0 where
+  pub lent : Lent
+  pub holds : Holds c lent
+  pub ends_are : AreEnds bytes ends
+  pub put : ArePut (lent_answer lent) (pass_of bytes ends) 0 (length ends) old new
+
+-- the ends are wrong
+abbrev pub IsBadEnd : List ℕ → List ℕ → ℕ → ℕ → Type 0
+IsBadEnd bytes ends code at = (fault : EndsFault) × FailsEnds bytes ends fault × (code ≡ ends_code fault) × (at ≡ ends_place fault)
+
+-- no number is put: the struct holds no function, or the ends are wrong, or there is no room
+abbrev pub IsUnput : Function → List ℕ → List ℕ → List ℕ → ℕ → ℕ → Type 0
+IsUnput c bytes ends numbers code at =
+    ((IsHeld c → ⊥) × (code ≡ NO_FUNCTION)) ⊎ (IsBadEnd bytes ends code at ⊎ ((length numbers < length ends) × (code ≡ NO_ROOM) × (at ≡ length ends)))

@@ -1,0 +1,102 @@
+-- What a build puts into the caller's room, and why there is no function.
+use Rattle.std.specs.Prelude.{◌≡◌, ◌-◌, ◌≤◌, ◌⊎◌, ◌==◌, ℕ, List, [], ◌∷◌, Option, None, Some, if◌then◌else◌}
+use Rattle.cm_algo_names.specs.declared.algorithm.Algorithm.{Algorithm}
+use Rattle.cm_algo_names.specs.declared.algorithm.Algorithm.TheVariants as algorithm
+use Rattle.cm_keys_lent.specs.Ends.{AreEnds}
+use Rattle.cm_lib_lent.specs.Builds.{FailsLent, IsSaved}
+use Rattle.cm_lib_lent.specs.declared.building.LentFault.{LentFault}
+use Rattle.cm_lib_lent.specs.declared.building.LentFault.TheVariants as lent
+use Rattle.cm_spec.specs.Rule.{IsRatio}
+use Rattle.cm_tool_builds.specs.declared.fault.FuncFault.TheVariants as faults
+use Rattle.cm_tool_builds.specs.declared.plan.Plan as planned
+use Rattle.cm_tool_cells.specs.Seeds.{seeds_of}
+use Rattle.cm_witness_gather.specs.declared.certificate.Pair.{Pair}
+use Rattle.cm_words_values.specs.declared.limits.TheConstants.{MAX_SEEDS}
+use Rattle.cmph_c.specs.Answering.{IsBadEnd, pass_of}
+use Rattle.cmph_c.specs.declared.building.Plan.{Plan}
+use Rattle.cmph_c.specs.declared.codes.Place.{Place}
+use Rattle.cmph_c.specs.declared.codes.TheConstants.{BAD_PLAN, EQUAL_KEYS, MEMORY, NO_KEYS, NO_ROOM, NO_SEED}
+use Rattle.cmph_c.specs.declared.function.TheConstants.{BDZ, BDZ_PH, CHM}
+
+-- the algorithm of a number
+abbrev pub algorithm_by : ℕ → Option Algorithm
+algorithm_by n = if n == CHM then Some algorithm.Chm else if n == BDZ then Some algorithm.Bdz else if n == BDZ_PH then Some algorithm.BdzPh else None
+
+-- the parameter b, which BDZ alone has
+abbrev pub b_by : Plan → ℕ
+b_by p = if p.algorithm == BDZ then p.b else 0
+
+-- there is such an algorithm, and by BDZ the parameter is in its range
+pub record HasAlgorithm (p : Plan) : Type 0 where
+  pub algorithm : Algorithm
+  pub named : algorithm_by p.algorithm ≡ Some algorithm
+  pub b : p.algorithm ≡ BDZ → (3 ≤ p.b) × (p.b ≤ 10)
+
+-- each number of a plan is in its range
+pub record IsGoodPlan (p : Plan) : Type 0 where
+  pub algorithm : HasAlgorithm p
+  pub ratio : IsRatio p.ratio
+  pub tries : (1 ≤ p.tries) × (p.tries ≤ MAX_SEEDS)
+
+-- the plan of a build by these numbers
+pub record IsPlanFor (p : Plan) (q : planned.Plan) : Type 0 where
+  pub algorithm : algorithm_by p.algorithm ≡ Some q.algorithm
+  pub ratio : q.c ≡ p.ratio
+  pub b : q.b ≡ b_by p
+
+-- The room begins with the file of the function of the keys.
+pub record IsBuilt (p : Plan) (bytes ends : List ℕ) (written : ℕ) (old new : List ℕ) : Type 0 where
+  pub good : IsGoodPlan p
+  pub ends_are : AreEnds bytes ends
+  pub plan : planned.Plan
+  pub planned : IsPlanFor p plan
+  pub saved : IsSaved plan (seeds_of p.seed p.tries) (pass_of bytes ends) written old new
+
+-- the code for equal keys, if there are some, or else for seeds that don't work
+abbrev pub core_code : List Pair → ℕ
+core_code [] = NO_SEED
+core_code (pair ∷ pairs) = EQUAL_KEYS
+
+-- the index of the first of them
+abbrev pub first_of : List Pair → ℕ
+first_of [] = 0
+first_of (pair ∷ pairs) = pair.first - 1
+
+-- and of the one that is equal to it
+abbrev pub again_of : List Pair → ℕ
+again_of [] = 0
+again_of (pair ∷ pairs) = pair.again - 1
+
+-- the code of a refusal
+abbrev pub build_code : LentFault → ℕ
+build_code (lent.Room needed) = NO_ROOM
+build_code (lent.Build faults.NoKeys) = NO_KEYS
+build_code (lent.Build (faults.Cored shown)) = core_code shown.equal.items
+build_code fault = MEMORY
+
+-- how many bytes are needed, or the first of two equal keys
+abbrev pub build_place : LentFault → ℕ
+build_place (lent.Room needed) = needed
+build_place (lent.Build (faults.Cored shown)) = first_of shown.equal.items
+build_place fault = 0
+
+-- the second of them
+abbrev pub build_again : LentFault → ℕ
+build_again (lent.Build (faults.Cored shown)) = again_of shown.equal.items
+build_again fault = 0
+
+-- There is no function in the room, for this reason.
+pub record FailsBuild (p : Plan) (bytes ends : List ℕ) (room code : ℕ) (place : Place) : Type 0 where
+  pub good : IsGoodPlan p
+  pub ends_are : AreEnds bytes ends
+  pub plan : planned.Plan
+  pub planned : IsPlanFor p plan
+  pub fault : LentFault
+  pub fails : FailsLent plan (seeds_of p.seed p.tries) (pass_of bytes ends) room fault
+  pub code_is : code ≡ build_code fault
+  pub place_is : (place.at ≡ build_place fault) × (place.again ≡ build_again fault)
+
+-- the plan is refused, or the ends are, or the build is
+abbrev pub IsUnbuilt : Plan → List ℕ → List ℕ → ℕ → ℕ → Place → Type 0
+IsUnbuilt p bytes ends room code place =
+    ((IsGoodPlan p → ⊥) × (code ≡ BAD_PLAN)) ⊎ (IsBadEnd bytes ends code place.at ⊎ FailsBuild p bytes ends room code place)

@@ -1,0 +1,33 @@
+-- The function that a struct of the caller's holds.
+use Rattle.std.specs.Prelude.{◌≡◌, ◌≤◌, ℕ, List}
+use Rattle.cm_bdz.specs.Lent.{FitsBdz, FitsBdzPh, bdz_held, bdz_ph_held}
+use Rattle.cm_bdz.specs.declared.lent.BdzParts.{BdzParts}
+use Rattle.cm_bdz.specs.declared.lent_ph.BdzPhParts.{BdzPhParts}
+use Rattle.cm_chm.specs.Parts.{FitsChm, chm_held}
+use Rattle.cm_chm.specs.declared.lent.ChmParts.{ChmParts}
+use Rattle.cm_dump_lent.specs.declared.lent.Lent.{Lent}
+use Rattle.cm_dump_lent.specs.declared.lent.Lent.TheVariants as lent
+use Rattle.cmph_c.specs.declared.function.Function.{Function}
+use Rattle.cmph_c.specs.declared.function.TheConstants.{BDZ, BDZ_PH, CHM}
+
+-- the parts of a function by CHM
+abbrev pub chm_parts : Function → ChmParts
+chm_parts c = record { cells = c.cells; keys = c.keys; ratio = c.ratio; seed = c.seed; vertices = c.size; width = c.width; keys_scaled = c.keys_scaled; vertices_scaled = c.scaled }
+
+-- of one by BDZ
+abbrev pub bdz_parts : Function → BdzParts
+bdz_parts c = record { cells = c.cells; ranks = c.ranks; keys = c.keys; ratio = c.ratio; seed = c.seed; third = c.size; scaled = c.scaled; b = c.b }
+
+-- and of one by BDZ_PH
+abbrev pub bdz_ph_parts : Function → BdzPhParts
+bdz_ph_parts c = record { cells = c.cells; keys = c.keys; ratio = c.ratio; seed = c.seed; third = c.size; scaled = c.scaled }
+
+-- a struct holds a function: its parts are such a function's, by the algorithm that it names
+abbrev pub Holds : Function → Lent → Type 0
+Holds c (lent.Chm f) = (c.kind ≡ CHM) × FitsChm (chm_parts c) × (f ≡ chm_held (chm_parts c))
+Holds c (lent.Bdz f) = (c.kind ≡ BDZ) × FitsBdz (bdz_parts c) × (f ≡ bdz_held (bdz_parts c))
+Holds c (lent.BdzPh f) = (c.kind ≡ BDZ_PH) × FitsBdzPh (bdz_ph_parts c) × (f ≡ bdz_ph_held (bdz_ph_parts c))
+
+-- a struct holds some function
+abbrev pub IsHeld : Function → Type 0
+IsHeld c = (f : Lent) × Holds c f

@@ -1,0 +1,68 @@
+//! The numbers of keys.
+ghost use Rattle.std.specs.Prelude.{◌≡◌, ◌≢◌};
+ghost use Rattle.cm_dump_lent.specs.Opened.{lent_answer};
+ghost use Rattle.cm_dump_lent.specs.declared.lent.Lent.{Lent};
+ghost use Rattle.cm_lib_lent.specs.Numbers.{number_or_none};
+ghost use Rattle.cm_lib_lent.specs.declared.numbers.TheConstants.{NONE};
+ghost use Rattle.cmph_c.specs.Answering.{ArePutBy, IsUnput};
+ghost use Rattle.cmph_c.specs.Functions.{Holds, IsHeld};
+
+use crate::codes::{NO_FUNCTION, NO_ROOM, OK, Place, ends_code_of};
+use crate::function::{Function, held};
+use cm_algo_scheme::answer;
+use cm_keys_lent::LentKeys;
+use cm_lib_lent::{NONE, answers_into, number_or_none};
+
+/// The number of a key by the function that a struct holds, or `2^32 - 1` if the key has none, or the struct holds no function.
+#[unsafe(no_mangle)]
+pub extern "C" fn cmph_c_answer(function: &Function<'_>, key: &[u8]) -> u32
+    ensures number { (f : Lent) → Holds function.now f → result ≡ number_or_none (lent_answer f key.now) }
+    ensures none { (IsHeld function.now → ⊥) → result ≡ NONE }
+{
+    match held(function) {
+        Some(lent) => number_or_none(answer(&lent, key)),
+        None => NONE,
+    }
+}
+
+/// The numbers of many keys by the function that a struct holds. The keys stand one after another in `keys`, each up to its end. Number `i` is that of
+/// key `i`, or `2^32 - 1`; those past the last key's stay as they were. Returns `OK`, or `NO_FUNCTION`, `BAD_END` with the first key whose end is wrong,
+/// `TOO_MANY_KEYS`, or `NO_ROOM` with the number of keys, and then no number is put.
+#[unsafe(no_mangle)]
+pub extern "C" fn cmph_c_answers(
+    function: &Function<'_>,
+    keys: &[u8],
+    ends: &[u64],
+    numbers: &mut [u32],
+    place: &mut Place,
+) -> u32
+    ensures put { result ≡ OK → ArePutBy function.now keys.now ends.now numbers.old numbers.new }
+    ensures refused { result ≢ OK → IsUnput function.now keys.now ends.now numbers.old result place.new.at }
+    ensures kept { result ≢ OK → numbers.new ≡ numbers.old }
+    ensures unplaced { result ≡ OK → place.new ≡ place.old }
+{
+    let lent = match held(function) {
+        Some(lent) => lent,
+        None => {
+            *place = Place { at: 0, again: 0 };
+            return NO_FUNCTION;
+        }
+    };
+    let pass = match LentKeys::new(keys, ends) {
+        Ok(pass) => pass,
+        Err(fault) => {
+            let (code, at) = ends_code_of(fault);
+            *place = Place { at, again: 0 };
+            return code;
+        }
+    };
+    if numbers.len() < pass.count() {
+        *place = Place {
+            at: pass.count() as u64,
+            again: 0,
+        };
+        return NO_ROOM;
+    }
+    answers_into(&lent, &pass, numbers);
+    OK
+}
