@@ -5,7 +5,6 @@ pub mod RankLemmas
 pub mod BodyLemmas
 pub mod DumpLemmas
 pub mod BucketLemmas
-pub mod RestLemmas
 pub mod SizeLemmas
 pub mod SpellingLemmas
 pub mod ReadBackItems

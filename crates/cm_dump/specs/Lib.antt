@@ -5,4 +5,5 @@ pub mod Parts
 pub mod Spelling
 pub mod CellLaws
 pub mod RankLaws
+pub mod RestLaws
 pub mod Examples

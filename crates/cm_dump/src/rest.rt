@@ -14,15 +14,15 @@ ghost use Rattle.cm_dump.specs.declared.header.TheConstants.{HEADER_LEN};
 ghost use Rattle.cm_dump_items.specs.declared.piece.TheConstants.{ENOUGH};
 
 use crate::LoadFault;
+use crate::bucket::{cells_of, greatest_seed, is_off, size_in};
 use crate::front::Header;
 use crate::header::HEADER_LEN;
 use crate::versions::{Version, front_len, size_len};
-use cm_algo_scheme::Scheme;
-use cm_bdz::{BdzScheme, PartsFault};
+use cm_bdz::PartsFault;
 use cm_bits::{Cells, Crumbs};
-use cm_brz_func::{Brz, BrzParts, MAX_BUCKET};
+use cm_brz_func::{Brz, BrzParts};
 use cm_dump_images::cells_from;
-use cm_dump_items::{ENOUGH, Piece, byte_of, bytes_of, number_of, short_of};
+use cm_dump_items::{ENOUGH, Piece, bytes_of, number_of};
 use cm_io::{Failed, Source};
 use cm_rank::Counted;
 use std::alloc::Global;
@@ -33,32 +33,6 @@ struct Bucket {
     size: u16,
     seed: u32,
     cells: Crumbs,
-}
-
-/// Whether `held` keys in the buckets that were read are too many for a function of `keys` keys, or too few if `left`, the number of
-/// further buckets, is 0.
-fn is_off(keys: u32, held: u32, left: u32) -> bool
-    ensures { result ≡ is_off keys held left }
-{
-    held > keys || left == 0 && held < keys
-}
-
-/// The number of keys of a bucket, at this offset and the start of the part: one byte in version 1, two bytes up to `MAX_BUCKET` in
-/// version 2.
-fn read_count(part: &[u8], at: u64, version: Version) -> Result<u16, LoadFault>
-    requires room { at + length part.now < 2 ^ 62 }
-    ensures inside { OnOk result (byte_len (form_of version).size ≤ length part.now) }
-    ensures few { IfOk result (λ size. size ≤ MAX_BUCKET) }
-    ensures exact { (bytes : List ℕ) (room : ℕ) → byte_len (form_of version).size ≤ room → IsPart bytes at room part.now → Answers (λ x. x) result (field_at (form_of version).size bytes at 0 (form_of version).most_size) }
-    ensures cause { (n : ℕ) → HasLoadCause n n result }
-{
-    match version {
-        Version::One => match byte_of(part, at, 0, u8::MAX) {
-            Ok(size) => Ok(size as u16),
-            Err(fault) => Err(fault),
-        },
-        Version::Two => short_of(part, at, 0, MAX_BUCKET as u16),
-    }
 }
 
 /// The number of keys of the next bucket, at this offset and the start of the part, after which `left` buckets follow.
@@ -77,7 +51,7 @@ fn read_size(
     ensures exact { (bytes : List ℕ) (room : ℕ) → byte_len (form_of version).size ≤ room → IsPart bytes at room part.now → Answers (λ x. x) result (size_at (form_of version) bytes at parts.now left) }
     ensures cause { (n : ℕ) → HasLoadCause n n result }
 {
-    let size = match read_count(part, at, version) {
+    let size = match size_in(part, at, version) {
         Ok(size) => size,
         Err(fault) => return Err(fault),
     };
@@ -85,25 +59,6 @@ fn read_size(
         Err(LoadFault::BadCount { at })
     } else {
         Ok(size)
-    }
-}
-
-/// The greatest seed of a bucket of `size` keys.
-fn greatest_seed(size: u16) -> u32
-    ensures { result ≡ most_seed size }
-{
-    if size == 0 { 0 } else { u32::MAX }
-}
-
-/// How many cells a bucket of `size` keys has.
-fn cells_of(size: u16, c: u32) -> u32
-    requires ratio { IsRatio c }
-    ensures { result ≡ bucket_cells size c }
-{
-    if size == 0 {
-        0
-    } else {
-        BdzScheme {}.size(size as u32, c)
     }
 }
 

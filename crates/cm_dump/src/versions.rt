@@ -26,7 +26,7 @@ pub(crate) fn most_keys(version: Version) -> u32
 }
 
 /// How many bytes the number of keys of a bucket has in a version.
-pub(crate) fn size_len(version: Version) -> u64
+pub fn size_len(version: Version) -> u64
     ensures { result ≡ byte_len (form_of version).size }
 {
     match version {
@@ -36,7 +36,7 @@ pub(crate) fn size_len(version: Version) -> u64
 }
 
 /// How many bytes a bucket has before its cells in a version: its number of keys, and its seed.
-pub(crate) fn front_len(version: Version) -> u64
+pub fn front_len(version: Version) -> u64
     ensures { result ≡ byte_len (form_of version).size + 4 }
 {
     size_len(version) + 4

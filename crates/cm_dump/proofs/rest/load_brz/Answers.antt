@@ -7,7 +7,7 @@ use Rattle.cm_dump_items.specs.PieceLaws.{next_after, next_none, next_part}
 use Rattle.cm_dump_items.specs.StepLaws.{cause_then}
 use Rattle.cm_dump.specs.Forms.{form_of}
 use Rattle.cm_dump.specs.Spelling.{left_of}
-use Rattle.cm_dump.proofs.RestLemmas.{brz_begun, rest_ended, rest_trails}
+use Rattle.cm_dump.specs.RestLaws.{brz_begun, rest_ended, rest_trails}
 use Rattle.cm_dump.proofs.rest.load_brz.Goals as goal
 
 pub buckets-init : goal.buckets-init

@@ -4,7 +4,7 @@ use Rattle.cm_spec.specs.Image.{packed_len}
 use Rattle.cm_dump.specs.Forms.{form_of}
 use Rattle.cm_dump.proofs.FormLemmas.{form_facts}
 use Rattle.cm_dump.proofs.SizeLemmas.{bucket_short}
-use Rattle.cm_dump.proofs.RestLemmas.{rest_fault, rest_next}
+use Rattle.cm_dump.specs.RestLaws.{rest_fault, rest_next}
 use Rattle.cm_dump.proofs.rest.next_bucket.Goals as goal
 
 pub returns-in-Err-clause-fault : goal.returns-in-Err-clause-fault

@@ -6,7 +6,7 @@ use Rattle.cm_spec.specs.Image.{packed_len}
 use Rattle.cm_dump.specs.Forms.{form_of}
 use Rattle.cm_dump.proofs.FormLemmas.{form_facts}
 use Rattle.cm_dump.proofs.SizeLemmas.{bucket_short}
-use Rattle.cm_dump.proofs.RestLemmas.{bucket_known, bucket_uncelled, bucket_unseeded, bucket_unsized}
+use Rattle.cm_dump.specs.RestLaws.{bucket_known, bucket_uncelled, bucket_unseeded, bucket_unsized}
 use Rattle.cm_dump.proofs.rest.read_bucket.Goals as goal
 
 pub returns-in-Err-clause-exact : goal.returns-in-Err-clause-exact

@@ -10,7 +10,7 @@ use Rattle.cm_rank.specs.Ranks.{rank_of}
 use Rattle.cm_spec.specs.Cells.{is_busy}
 use Rattle.cm_spec.specs.Image.{packed_len}
 use Rattle.cm_dump.specs.Spelling.{crumbs_at}
-use Rattle.cm_dump.proofs.RestLemmas.{crumbs_known, crumbs_other}
+use Rattle.cm_dump.specs.RestLaws.{crumbs_known, crumbs_other}
 use Rattle.cm_dump.proofs.rest.read_crumbs.Goals as goal
 
 pub returns-in-Err-clause-exact : goal.returns-in-Err-clause-exact

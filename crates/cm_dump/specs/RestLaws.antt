@@ -1,4 +1,4 @@
--- A function's buckets, one after another.
+-- Lemmas about buckets that are read one after another, which the proofs of readers cite. No contract needs them.
 use Rattle.std.specs.Int.{byte_len, w32}
 use Rattle.std.proofs.Common.{◌≡◌, ◌∙◌, ℕ, suc, ◌+◌, length, ap, sym, subst, arith, refl, inl, inr, count_by, nat_lt, List, [], ◌∷◌, length-append, lit<, eq-eqb, true, false, Ok, Err}
 use Rattle.std.proofs.lemmas.Bool.{false≢true, ne_eqb}
