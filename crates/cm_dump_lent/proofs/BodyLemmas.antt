@@ -1,23 +1,16 @@
 -- A function by BDZ and the end of its dump.
-use Rattle.std.proofs.Common.{◌≡◌, ◌≢◌, ◌∙◌, ℕ, ◌+◌, ◌*◌, ◌^◌, List, length, ap, subst, arith, refl, Ok, Err, count_by}
+use Rattle.std.proofs.Common.{◌≡◌, ◌≢◌, ◌∙◌, ℕ, ◌+◌, ◌*◌, ◌^◌, List, length, refl, Ok, Err, count_by}
 use Rattle.std.specs.Int.{div_ceil}
 use Rattle.std.proofs.lemmas.Bool.{eq-eqb, ne_eqb}
-use Rattle.std.proofs.lemmas.List.{take_all}
 use Rattle.cm_bdz.specs.Functions.{Bdz}
 use Rattle.cm_dump.specs.declared.front.Header.{Header}
 use Rattle.cm_dump.specs.Spelling.{counted, ranked_at, ranks_at}
 use Rattle.cm_dump_items.specs.Reading.{◌>>=◌, end_at}
 use Rattle.cm_dump_items.specs.declared.fault.LoadFault.TheVariants as faults
-use Rattle.cm_rank.specs.Ranks.{rank_of, sampled}
+use Rattle.cm_rank.specs.Ranks.{sampled}
 use Rattle.cm_spec.specs.Cells.{is_busy}
 use Rattle.cm_spec.specs.Image.{packed_len}
 use Rattle.cm_dump_lent.proofs.RankLemmas.{length-sampled}
-
--- all cells of a table are counted
-pub count_is : (held cells : List ℕ) (n count : ℕ) → held ≡ cells → length cells ≡ n → rank_of 3 held 0 + count ≡ rank_of 3 held n → count ≡ count_by (is_busy 3) cells
-count_is held cells n count same long all =
-    let is : rank_of 3 cells 0 + count ≡ rank_of 3 cells n = subst (λ (l : List ℕ). rank_of 3 l 0 + count ≡ rank_of 3 l n) same all in
-    omega (arith, is) ∙ ap (λ (l : List ℕ). count_by (is_busy 3) l) (take_all n cells (omega (arith, long)))
 
 -- the function of a header and cells
 abbrev pub bdz_of : Header → List ℕ → Bdz

@@ -1,6 +1,6 @@
 //! What a function in the bytes of its dump answers.
-ghost use Rattle.cm_dump_lent.specs.Opened.{func_by, lent_answer};
-ghost use Rattle.cm_func.specs.Functions.{place_by, span_by};
+ghost use Rattle.cm_dump_lent.specs.Opened.{func_by, lent_answer, lent_place};
+ghost use Rattle.cm_func.specs.Functions.{span_by};
 
 use crate::Lent;
 use cm_algo_scheme::{Answers, Place};
@@ -10,7 +10,7 @@ use cm_algo_scheme::{Answers, Place};
 impl<'a> Answers for Lent<'a> {
     ghost span_of = { λ f. span_by (func_by f) };
 
-    ghost place_of = { λ f key. place_by (func_by f) key };
+    ghost place_of = { λ f key. lent_place f key };
 
     ghost answer_of = { λ f key. lent_answer f key };
 
@@ -19,6 +19,7 @@ impl<'a> Answers for Lent<'a> {
             Lent::Chm(chm) => chm.span(),
             Lent::Bdz(bdz) => bdz.span(),
             Lent::BdzPh(bdz_ph) => bdz_ph.span(),
+            Lent::Brz(brz) => brz.span(),
         }
     }
 
@@ -27,6 +28,7 @@ impl<'a> Answers for Lent<'a> {
             Lent::Chm(chm) => chm.place(key),
             Lent::Bdz(bdz) => bdz.place(key),
             Lent::BdzPh(bdz_ph) => bdz_ph.place(key),
+            Lent::Brz(brz) => brz.place(key),
         }
     }
 
@@ -35,6 +37,7 @@ impl<'a> Answers for Lent<'a> {
             Lent::Chm(chm) => chm.places_of_four(p, q, r, t),
             Lent::Bdz(bdz) => bdz.places_of_four(p, q, r, t),
             Lent::BdzPh(bdz_ph) => bdz_ph.places_of_four(p, q, r, t),
+            Lent::Brz(brz) => brz.places_of_four(p, q, r, t),
         }
     }
 
@@ -43,6 +46,7 @@ impl<'a> Answers for Lent<'a> {
             Lent::Chm(chm) => chm.answer_at(place),
             Lent::Bdz(bdz) => bdz.answer_at(place),
             Lent::BdzPh(bdz_ph) => bdz_ph.answer_at(place),
+            Lent::Brz(brz) => brz.answer_at(place),
         }
     }
 }

@@ -2,8 +2,9 @@
 
 use cm_bdz::{LentBdz, LentBdzPh};
 use cm_chm::LentChm;
+use cm_dump_brz::LentBrz;
 
-/// A function from keys to numbers by CHM, BDZ or BDZ_PH, whose cells and ranks are read in the bytes of its dump. What it answers to a
+/// A function from keys to numbers, whose cells and ranks are read in the bytes of its dump. What it answers to a
 /// key is said by `Answers`: the same as the function that is loaded from the dump, as long as the bytes are not changed. If they are, a
 /// key gets any number below the span, or none, and nothing outside the bytes is read.
 #[derive(Drop)]
@@ -14,4 +15,6 @@ pub enum Lent<'a> {
     Bdz(LentBdz<'a>),
     /// By BDZ_PH: the keys that it was built over get distinct numbers below its number of cells.
     BdzPh(LentBdzPh<'a>),
+    /// By BRZ: the n keys that it was built over get all numbers below n.
+    Brz(LentBrz<'a>),
 }

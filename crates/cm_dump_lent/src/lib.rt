@@ -3,11 +3,10 @@
 
 mod answers;
 mod bodies;
-mod fault;
 mod lent;
 mod opening;
 mod ranks;
 
-pub use crate::fault::OpenFault;
 pub use crate::lent::Lent;
 pub use crate::opening::open;
+pub use cm_dump_brz::OpenFault;

@@ -1,5 +1,5 @@
 //! The ranks of a function by BDZ in the bytes of its dump.
-ghost use Rattle.std.specs.Prelude.{◌≡◌, ◌+◌, ◌*◌, ◌<◌, ◌≤◌, ◌^◌, IfErr, IfOk, drop, length, take};
+ghost use Rattle.std.specs.Prelude.{◌≡◌, ◌+◌, ◌*◌, ◌<◌, ◌≤◌, ◌^◌, IfErr, IfOk, length};
 ghost use Rattle.std.specs.Int.{div_ceil};
 ghost use Rattle.cm_dump.specs.Spelling.{ranks_at};
 ghost use Rattle.cm_dump_items.specs.Reading.{Answers, IsByteFault};
@@ -7,21 +7,9 @@ ghost use Rattle.cm_rank.specs.Ranks.{StandsFor, ranks_in, sampled};
 ghost use Rattle.cm_spec.specs.declared.limits.TheConstants.{MAX_VERTICES};
 
 use cm_bits::{LentCrumbs, Lookup};
+use cm_dump_brz::bytes_from;
 use cm_dump_items::LoadFault;
 use cm_rank::first_bad_rank;
-
-/// The bytes from this offset of a dump on: as many as are there, and at most `most`.
-fn bytes_from<'a>(dump: &'a [u8], at: u64, most: u64) -> &'a [u8]
-    requires inside { at ≤ length dump.now }
-    ensures bytes { result.now ≡ take (length result.now) (drop at dump.now) }
-    ensures inside { at + length result.now ≤ length dump.now }
-    ensures few { length result.now ≤ most }
-    ensures all { length result.now < most → length dump.now ≡ at + length result.now }
-{
-    let rest = &dump[at as usize..];
-    let len = (rest.len() as u64).min(most);
-    &rest[..len as usize]
-}
 
 /// How many bytes the ranks of n cells have: four for every `2^b`-th cell.
 pub(crate) fn ranks_len(n: u32, b: u8) -> u64

@@ -7,7 +7,8 @@ use Rattle.cm_dump.specs.CellLaws.{few_vertices}
 use Rattle.cm_dump_items.specs.StepLaws.{fails_then}
 use Rattle.cm_dump_items.specs.declared.fault.LoadFault.{LoadFault}
 use Rattle.cm_spec.specs.Cells.{is_busy}
-use Rattle.cm_dump_lent.proofs.BodyLemmas.{bdz_of, count_is, ranked_counted, ranked_to_end, ranked_uncounted}
+use Rattle.cm_dump_brz.specs.CountLaws.{count_is}
+use Rattle.cm_dump_lent.proofs.BodyLemmas.{bdz_of, ranked_counted, ranked_to_end, ranked_uncounted}
 use Rattle.cm_dump_lent.proofs.bodies.open_ranked.Goals as goal
 
 pub count_busy-requires-clause-inside : goal.count_busy-requires-clause-inside

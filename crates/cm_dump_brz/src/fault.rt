@@ -9,8 +9,8 @@ pub enum OpenFault {
     /// The first fault of the bytes, as loading them gives it. It is neither `Memory` nor `Read`.
     #[error("{0}")]
     Dump(LoadFault),
-    /// The header is right and names BRZ: a function by BRZ is loaded from its dump, and not read in it. The bytes after the header are not
-    /// checked.
-    #[error("a function by brz is not read in the bytes of its dump")]
-    Brz,
+    /// The header is right and names BRZ, and the index has too little room: it needs this many numbers, one for each bucket. The bytes after
+    /// the header are not read.
+    #[error("the index needs {needed} numbers")]
+    Room { needed: u32 },
 }

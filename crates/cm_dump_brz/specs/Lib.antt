@@ -1,0 +1,4 @@
+pub mod Indexed
+pub mod IndexedLaws
+pub mod CountLaws
+pub mod Opened
