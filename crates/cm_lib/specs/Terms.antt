@@ -22,10 +22,11 @@ pub use Rattle.cm_query_batch.specs.Waiting.{AreAnswers, Refills, RefillsBy, Wai
 pub use Rattle.cm_dump.specs.Dumps.{dump_of}
 pub use Rattle.cm_dump.specs.Spelling.{spelling_of}
 pub use Rattle.cm_dump_items.specs.Reading.{Fails}
--- lent memory: the function that bytes are and why they are none, builds into a buffer, and the numbers and shards of many keys
-pub use Rattle.cm_dump_lent.specs.Opened.{IsByBrz, IsOpenFault, func_by, lent_answer}
+-- lent memory: the function that bytes are and why they are none, builds into a buffer, how many bytes that takes, and the numbers and shards of many keys
+pub use Rattle.cm_dump_lent.specs.Opened.{IsOpenFault, LacksIndex, func_by, lent_answer}
 pub use Rattle.cm_lib_lent.specs.Builds.{FailsLent, IsLentFunc, IsLentKind, IsSaved, told_of}
 pub use Rattle.cm_lib_lent.specs.Numbers.{ArePut, number_or_none}
+pub use Rattle.cm_lib_lent.specs.Rooms.{dump_len_by}
 pub use Rattle.cm_lib_lent.specs.Routes.{shard_of}
 -- what a pass, a source or a sink of a caller's own has to keep
 pub use Rattle.cm_spec.specs.declared.limits.TheConstants.{MAX_KEYS}

@@ -1,10 +1,11 @@
 //! Keys in memory: their function is built into a buffer, read in it without a copy, and read in bytes that were changed.
-ghost use Rattle.std.specs.Prelude.{◌≢◌, ◌≤◌};
-ghost use Rattle.cm_lib.specs.Terms.{Brz};
+ghost use Rattle.std.specs.Prelude.{◌≡◌, ◌≢◌, ◌≤◌};
+ghost use Rattle.cm_lib.specs.Terms.{Brz, IsPlan, MAX_KEYS};
 
 use cm_lib::{
-    Algorithm, Answers, EndsFault, FuncFault, LentFault, LentKeys, MIN_BYTES, MemSource, NONE,
-    OpenFault, Pair, Plan, Route, answer, answers_into, build_into, load, number_or_none, open,
+    Algorithm, Answers, EndsFault, FuncFault, Lent, LentFault, LentKeys, MIN_BYTES, MIN_WIDTH,
+    MemDisk, MemSink, MemSource, NONE, OpenFault, Pair, Plan, Route, answer, answers_into,
+    build_into, dump_len, func_of, load, number_or_none, open, save,
 };
 use std::alloc::{AllocError, Global};
 use std::process::Abort;
@@ -27,7 +28,24 @@ fn keys_of(alloc: Global, count: u32) -> Result<(Vec<u8>, Vec<u64>), AllocError>
     Ok((bytes, ends))
 }
 
-/// A build of keys in memory under the seeds from 0 to 15.
+/// A plan by an algorithm.
+fn plan_by(algorithm: Algorithm) -> Plan
+    requires unspilled { algorithm ≢ Brz }
+    ensures algorithm { result.algorithm ≡ algorithm }
+    ensures valid { IsPlan result }
+{
+    Plan {
+        algorithm,
+        c: 2_100_000,
+        b: 7,
+        buffer: MIN_BYTES,
+    }
+}
+
+/// The seeds that are tried.
+const SEEDS: [u32; 16] = [0, 1, 2, 3, 4, 5, 6, 7, 8, 9, 10, 11, 12, 13, 14, 15];
+
+/// A build of keys in memory.
 fn built(
     alloc: Global,
     algorithm: Algorithm,
@@ -36,14 +54,8 @@ fn built(
 ) -> Result<usize, LentFault>
     requires unspilled { algorithm ≢ Brz }
 {
-    let plan = Plan {
-        algorithm,
-        c: 2_100_000,
-        b: 7,
-        buffer: MIN_BYTES,
-    };
-    let seeds = [0, 1, 2, 3, 4, 5, 6, 7, 8, 9, 10, 11, 12, 13, 14, 15];
-    build_into(alloc, &plan, &seeds, keys, room)
+    let plan = plan_by(algorithm);
+    build_into(alloc, &plan, &SEEDS, keys, room)
 }
 
 /// Whether no two of the numbers are the same, and all are below the bound.
@@ -63,11 +75,12 @@ fn are_apart(alloc: Global, numbers: &[u32], bound: u32) -> Result<bool, AllocEr
     Ok(true)
 }
 
-/// Compares opening and loading bytes: the same fault, or the same numbers of some keys. By BRZ they are not opened.
+/// Compares opening and loading bytes: the same fault, or the same numbers of some keys. The index has room for one bucket.
 fn compare(rt: &impl Abort, alloc: Global, bytes: &[u8]) -> Result<(), AllocError> {
     let mut source = MemSource::new(bytes.to_vec(alloc)?, Vec::new(alloc), Vec::new(alloc));
     let loaded = load(alloc, &mut source);
-    match open(bytes) {
+    let mut index = [0u64];
+    match open(bytes, &mut index) {
         Ok(lent) => match loaded {
             Ok(function) => {
                 let keys = [
@@ -87,8 +100,36 @@ fn compare(rt: &impl Abort, alloc: Global, bytes: &[u8]) -> Result<(), AllocErro
             Ok(_) => panic!(rt; "loaded, and not opened"),
             Err(other) => assert_eq!(rt; fault, other),
         },
-        Err(OpenFault::Brz) => assert_eq!(rt; bytes.get(8).copied(), Some(4)),
+        Err(OpenFault::Room { needed }) => {
+            assert_eq!(rt; bytes.get(8).copied(), Some(4));
+            assert!(rt; needed > 1);
+        }
     }
+    Ok(())
+}
+
+/// Compares the numbers of keys in one batch, one by one, and of the function that is loaded.
+fn compare_numbers(
+    rt: &impl Abort,
+    alloc: Global,
+    lent: &Lent<'_>,
+    dump: &[u8],
+    keys: &LentKeys<'_>,
+) -> Result<(), AllocError> {
+    let mut source = MemSource::new(dump.to_vec(alloc)?, Vec::new(alloc), Vec::new(alloc));
+    let Ok(function) = load(alloc, &mut source) else {
+        panic!(rt; "not loaded");
+    };
+    let mut numbers = vec![in alloc; 7u32; 1001]?;
+    assert!(rt; keys.count() < numbers.len());
+    answers_into(lent, keys, &mut numbers);
+    assert_eq!(rt; numbers.pop(), Some(7));
+    for i in 0..keys.count() {
+        let number = number_or_none(answer(&function, keys.key(i)));
+        assert_eq!(rt; numbers.get(i).copied(), Some(number));
+        assert_eq!(rt; number_or_none(answer(lent, keys.key(i))), number);
+    }
+    assert!(rt; are_apart(alloc, &numbers, function.span())?);
     Ok(())
 }
 
@@ -108,24 +149,10 @@ fn check(rt: &impl Abort, alloc: Global, algorithm: Algorithm) -> Result<(), All
         panic!(rt; "too long");
     };
     assert!(rt; room.iter().skip(len).all(|b| *b == 0xa5));
-    let Ok(lent) = open(dump) else {
+    let Ok(lent) = open(dump, &mut []) else {
         panic!(rt; "not opened");
     };
-    let mut source = MemSource::new(dump.to_vec(alloc)?, Vec::new(alloc), Vec::new(alloc));
-    let Ok(function) = load(alloc, &mut source) else {
-        panic!(rt; "not loaded");
-    };
-    let mut numbers = vec![in alloc; 7u32; 1001]?;
-    assert!(rt; keys.count() < numbers.len());
-    answers_into(&lent, &keys, &mut numbers);
-    assert_eq!(rt; numbers.pop(), Some(7));
-    for i in 0..keys.count() {
-        let number = number_or_none(answer(&function, keys.key(i)));
-        assert_eq!(rt; numbers.get(i).copied(), Some(number));
-        assert_eq!(rt; number_or_none(answer(&lent, keys.key(i))), number);
-    }
-    assert!(rt; are_apart(alloc, &numbers, function.span())?);
-    Ok(())
+    compare_numbers(rt, alloc, &lent, dump, &keys)
 }
 
 #[test]
@@ -146,6 +173,52 @@ fn bdz_ph_in_a_buffer(rt: HostRuntime) -> Result<(), Fail> {
     Ok(())
 }
 
+/// Builds over some keys into a buffer of as many bytes as `dump_len` returns, and into one of a byte less.
+fn measure(
+    rt: &impl Abort,
+    alloc: Global,
+    algorithm: Algorithm,
+    count: u32,
+) -> Result<(), AllocError>
+    requires unspilled { algorithm ≢ Brz }
+    requires keys { (1 ≤ count) × (count ≤ MAX_KEYS) }
+{
+    let len = dump_len(&plan_by(algorithm), count);
+    let (bytes, ends) = keys_of(alloc, count)?;
+    let Ok(mut keys) = LentKeys::new(&bytes, &ends) else {
+        panic!(rt; "no keys");
+    };
+    let mut room = vec![in alloc; 0u8; len as usize]?;
+    match built(alloc, algorithm, &mut keys, &mut room) {
+        Ok(written) => assert_eq!(rt; written as u64, len),
+        Err(_) => panic!(rt; "not built"),
+    }
+    room.pop();
+    match built(alloc, algorithm, &mut keys, &mut room) {
+        Err(LentFault::Room { needed }) => assert_eq!(rt; needed, len),
+        _ => panic!(rt; "a byte less is not refused"),
+    }
+    Ok(())
+}
+
+/// The same for several numbers of keys.
+fn measure_some(rt: &impl Abort, alloc: Global, algorithm: Algorithm) -> Result<(), AllocError>
+    requires unspilled { algorithm ≢ Brz }
+{
+    measure(rt, alloc, algorithm, 1)?;
+    measure(rt, alloc, algorithm, 2)?;
+    measure(rt, alloc, algorithm, 65)?;
+    measure(rt, alloc, algorithm, 1001)
+}
+
+#[test]
+fn lengths_before_builds(rt: HostRuntime) -> Result<(), Fail> {
+    measure_some(&rt, rt.alloc(), Algorithm::Chm)?;
+    measure_some(&rt, rt.alloc(), Algorithm::Bdz)?;
+    measure_some(&rt, rt.alloc(), Algorithm::BdzPh)?;
+    Ok(())
+}
+
 /// The dump of the function of five keys in memory.
 fn dump_of_five(rt: &impl Abort, alloc: Global, algorithm: Algorithm) -> Result<Vec<u8>, AllocError>
     requires unspilled { algorithm ≢ Brz }
@@ -163,10 +236,7 @@ fn dump_of_five(rt: &impl Abort, alloc: Global, algorithm: Algorithm) -> Result<
 }
 
 /// Compares opening and loading each prefix of a dump, a longer one, and the dump with each of its bytes changed to some others.
-fn change(rt: &impl Abort, alloc: Global, algorithm: Algorithm) -> Result<(), AllocError>
-    requires unspilled { algorithm ≢ Brz }
-{
-    let mut dump = dump_of_five(rt, alloc, algorithm)?;
+fn change(rt: &impl Abort, alloc: Global, mut dump: Vec<u8>) -> Result<(), AllocError> {
     for len in 0..dump.len() {
         if let Some(prefix) = dump.get(..len) {
             compare(rt, alloc, prefix)?;
@@ -192,9 +262,59 @@ fn change(rt: &impl Abort, alloc: Global, algorithm: Algorithm) -> Result<(), Al
 
 #[test]
 fn changed_bytes(rt: HostRuntime) -> Result<(), Fail> {
-    change(&rt, rt.alloc(), Algorithm::Chm)?;
-    change(&rt, rt.alloc(), Algorithm::Bdz)?;
-    change(&rt, rt.alloc(), Algorithm::BdzPh)?;
+    let alloc = rt.alloc();
+    change(&rt, alloc, dump_of_five(&rt, alloc, Algorithm::Chm)?)?;
+    change(&rt, alloc, dump_of_five(&rt, alloc, Algorithm::Bdz)?)?;
+    change(&rt, alloc, dump_of_five(&rt, alloc, Algorithm::BdzPh)?)?;
+    Ok(())
+}
+
+/// The dump of the function by BRZ of some keys, in buckets of 64 keys on average.
+fn dump_by_brz(
+    rt: &impl Abort,
+    alloc: Global,
+    keys: &mut LentKeys<'_>,
+) -> Result<Vec<u8>, AllocError> {
+    let plan = Plan {
+        algorithm: Algorithm::Brz,
+        c: 2_100_000,
+        b: MIN_WIDTH,
+        buffer: MIN_BYTES,
+    };
+    let mut disk = MemDisk::new(alloc, 1_000_000);
+    let Ok(function) = func_of(alloc, &plan, &SEEDS, "spill", keys, &mut disk) else {
+        panic!(rt; "not built");
+    };
+    let mut sink = MemSink::new(alloc, 100_000, Vec::new(alloc))?;
+    if save(&function, &mut sink).is_err() {
+        panic!(rt; "not saved");
+    }
+    Ok(sink.into_bytes())
+}
+
+/// By BRZ: 1,000 keys in 16 buckets, opened with too small an index, and with one that is longer than it needs; and one bucket with changed bytes.
+#[test]
+fn brz_in_its_dump(rt: HostRuntime) -> Result<(), Fail> {
+    let alloc = rt.alloc();
+    let (bytes, ends) = keys_of(alloc, MANY)?;
+    let Ok(mut keys) = LentKeys::new(&bytes, &ends) else {
+        panic!(rt; "no keys");
+    };
+    let dump = dump_by_brz(&rt, alloc, &mut keys)?;
+    let mut short = [0; 15];
+    let refused = open(&dump, &mut short);
+    assert!(rt; matches!(refused, Err(OpenFault::Room { needed: 16 })));
+    let mut index = [7; 17];
+    let Ok(lent) = open(&dump, &mut index) else {
+        panic!(rt; "not opened");
+    };
+    compare_numbers(&rt, alloc, &lent, &dump, &keys)?;
+    let (bytes, ends) = keys_of(alloc, 5)?;
+    let Ok(mut few) = LentKeys::new(&bytes, &ends) else {
+        panic!(rt; "no keys");
+    };
+    let dump = dump_by_brz(&rt, alloc, &mut few)?;
+    change(&rt, alloc, dump)?;
     Ok(())
 }
 
