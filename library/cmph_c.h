@@ -6,7 +6,7 @@
  * run at the same time, over the same bytes too, as long as nobody writes to what a call reads.
  *
  * Each call returns a code: CMPH_C_OK, or why not. If it is another code, what the call would have written is as it was, and only the
- * cmph_c_place is set. A pointer may be to anything if its length is 0, but not null.
+ * cmph_c_place is set, and what cmph_c_open put into its index. A pointer may be to anything if its length is 0, but not null.
  */
 #ifndef CMPH_C_H
 #define CMPH_C_H
@@ -33,21 +33,21 @@ extern "C" {
 #define CMPH_C_BAD_COUNT 8      /* the cells from offset `at` on are those of another number of keys */
 #define CMPH_C_BAD_RANK 9       /* the rank at offset `at` is not that of its cell */
 #define CMPH_C_TRAILING 10      /* bytes follow the function */
-#define CMPH_C_BY_BRZ 11        /* a function by BRZ: it is not read in the bytes of its file */
-#define CMPH_C_NO_FUNCTION 12   /* the struct holds no function */
-#define CMPH_C_BAD_END 13       /* the end of key `at` is before the one before it, or past the bytes, or the key is too long */
-#define CMPH_C_TOO_MANY_KEYS 14 /* more than 67,108,864 keys */
-#define CMPH_C_NO_ROOM 15       /* the room is too small: `at` bytes, or numbers, are needed */
-#define CMPH_C_BAD_PLAN 16      /* a number of the plan is not in its range */
-#define CMPH_C_NO_KEYS 17       /* there are no keys */
-#define CMPH_C_EQUAL_KEYS 18    /* key `again` is equal to key `at` */
-#define CMPH_C_NO_SEED 19       /* no seed works */
-#define CMPH_C_BAD_SHARDS 20    /* there are no shards, or too many */
+#define CMPH_C_NO_FUNCTION 11   /* the struct holds no function */
+#define CMPH_C_BAD_END 12       /* the end of key `at` is before the one before it, or past the bytes, or the key is too long */
+#define CMPH_C_TOO_MANY_KEYS 13 /* more than 67,108,864 keys */
+#define CMPH_C_NO_ROOM 14       /* the room is too small: `at` bytes, or numbers, are needed */
+#define CMPH_C_BAD_PLAN 15      /* a number of the plan is not in its range */
+#define CMPH_C_NO_KEYS 16       /* there are no keys */
+#define CMPH_C_EQUAL_KEYS 17    /* key `again` is equal to key `at` */
+#define CMPH_C_NO_SEED 18       /* no seed works */
+#define CMPH_C_BAD_SHARDS 19    /* there are no shards, or too many */
 
 /* The algorithms. */
 #define CMPH_C_CHM 1    /* numbers in the order of the keys */
 #define CMPH_C_BDZ 2    /* all numbers below the number of keys */
 #define CMPH_C_BDZ_PH 3 /* numbers with gaps, in the least room */
+#define CMPH_C_BRZ 4    /* all numbers below the number of keys, for many keys: it is opened and asked, and built by the program cmph alone */
 
 /* Where a fault is: an offset in bytes, how many bytes or numbers are needed, or the index of a key, from 0, as the code says. */
 typedef struct cmph_c_place {
@@ -57,42 +57,46 @@ typedef struct cmph_c_place {
 
 /*
  * A function, in memory of the caller's. cmph_c_open fills it; begin with CMPH_C_FUNCTION_INIT. It points into the bytes of the function file,
- * which the caller keeps as long as it is used. A struct with other contents is safe: it holds another function, or none, and no call reads
- * outside `cells` and `ranks`.
+ * and by BRZ into the index, which the caller keeps as long as it is used. A struct with other contents is safe: it holds another function, or none, and no
+ * call reads outside `cells`, `ranks` and `index`.
  */
 typedef struct cmph_c_function {
-    const uint8_t *cells; /* the image of the cells */
+    const uint8_t *cells;  /* the image of the cells; by BRZ all bytes of the file */
     size_t cells_len;
-    const uint8_t *ranks; /* the ranks, by BDZ alone */
+    const uint8_t *ranks;  /* the ranks, by BDZ alone */
     size_t ranks_len;
-    uint64_t scaled;      /* 2^32 / size */
-    uint64_t keys_scaled; /* 2^32 / keys, by CHM alone */
-    uint32_t kind;        /* CMPH_C_CHM, CMPH_C_BDZ, CMPH_C_BDZ_PH, or 0 for none */
-    uint32_t keys;        /* how many keys the function was built over */
-    uint32_t span;        /* all numbers are below it */
-    uint32_t ratio;       /* vertices a key, in millionths */
-    uint32_t seed;        /* of the hash */
-    uint32_t size;        /* vertices by CHM, and a third of them by the others */
-    uint32_t width;       /* bits a cell, by CHM alone */
-    uint32_t b;           /* a rank for every 2^b cells, by BDZ alone */
+    const uint64_t *index; /* where the buckets are, by BRZ alone */
+    size_t index_len;
+    uint64_t scaled;       /* 2^32 / size */
+    uint64_t keys_scaled;  /* 2^32 / keys, by CHM alone */
+    uint32_t kind;         /* CMPH_C_CHM, CMPH_C_BDZ, CMPH_C_BDZ_PH, CMPH_C_BRZ, or 0 for none */
+    uint32_t keys;         /* how many keys the function was built over */
+    uint32_t span;         /* all numbers are below it */
+    uint32_t ratio;        /* vertices a key, in millionths */
+    uint32_t seed;         /* of the hash, or by BRZ of the split into buckets */
+    uint32_t size;         /* vertices by CHM, a third of them by BDZ and BDZ_PH, buckets by BRZ */
+    uint32_t width;        /* bits a cell, by CHM alone; by BRZ the version of the file */
+    uint32_t b;            /* by BDZ a rank for every 2^b cells, by BRZ keys a bucket on average */
 } cmph_c_function;
 
-#define CMPH_C_FUNCTION_INIT { (const uint8_t *)"", 0, (const uint8_t *)"", 0, 0, 0, 0, 0, 0, 0, 0, 0, 0, 0 }
+#define CMPH_C_FUNCTION_INIT { (const uint8_t *)"", 0, (const uint8_t *)"", 0, (const uint64_t *)8, 0, 0, 0, 0, 0, 0, 0, 0, 0, 0, 0 }
 
 /* How a function is built. */
 typedef struct cmph_c_plan {
     uint32_t algorithm; /* CMPH_C_CHM, CMPH_C_BDZ or CMPH_C_BDZ_PH */
-    uint32_t ratio;     /* vertices a key, from 1000000 to 10000000 millionths: 1230000 for BDZ and BDZ_PH, 2080000 for CHM */
+    uint32_t ratio;     /* vertices a key, from 1000000 to 10000000 millionths: 1230000 for BDZ and BDZ_PH, 2090000 for CHM */
     uint32_t b;         /* by BDZ: a rank for every 2^b cells, from 3 to 10 */
     uint32_t seed;      /* the first seed */
     uint32_t tries;     /* how many seeds are tried, from 1 to 1000 */
 } cmph_c_plan;
 
 /*
- * Opens the function in the bytes of its file: `dump_len` bytes at `dump`. CMPH_C_OK if they are a function by CHM, BDZ or BDZ_PH, which `out`
- * then holds; else the code of the first fault, with its offset in place->at. Reads each byte once or twice.
+ * Opens the function in the bytes of its file: `dump_len` bytes at `dump`. CMPH_C_OK if they are a function, which `out` then holds; else the code of the
+ * first fault, with its offset in place->at. A function by BRZ needs a number of the index for each of its buckets, of which there are keys / b, rounded up:
+ * CMPH_C_NO_ROOM says in place->at how many, before the bytes after the header are read. The others need none (`index_len` may be 0). After another code
+ * than CMPH_C_OK the index has any numbers. Reads each byte once or twice, and takes no memory.
  */
-uint32_t cmph_c_open(const uint8_t *dump, size_t dump_len, cmph_c_function *out, cmph_c_place *place);
+uint32_t cmph_c_open(const uint8_t *dump, size_t dump_len, uint64_t *index, size_t index_len, cmph_c_function *out, cmph_c_place *place);
 
 /*
  * The number of a key, of `key_len` bytes at `key`: below function->span, or CMPH_C_NONE. Each key that the function was built over has a number
@@ -109,11 +113,30 @@ uint32_t cmph_c_answers(const cmph_c_function *function, const uint8_t *keys, si
                         uint32_t *numbers, size_t numbers_len, cmph_c_place *place);
 
 /*
+ * How many bytes the file of a function of `keys` keys has that is built by this plan: what cmph_c_build needs. 0 if a number of the plan is not in its
+ * range, or there are no keys, or more than 67,108,864.
+ */
+uint64_t cmph_c_room(const cmph_c_plan *plan, uint32_t keys);
+
+/*
  * Builds the function of keys, which stand one after another as in cmph_c_answers, and puts its file into the first bytes of `room`. *written is how
  * many. CMPH_C_NO_ROOM says in place->at how many bytes are needed, CMPH_C_EQUAL_KEYS which two keys are equal. Memory is taken by malloc, and freed.
  */
 uint32_t cmph_c_build(const uint8_t *keys, size_t keys_len, const uint64_t *ends, size_t ends_len, const cmph_c_plan *plan, uint8_t *room,
                       size_t room_len, uint64_t *written, cmph_c_place *place);
+
+/*
+ * Builds the function of keys, which stand one after another as in cmph_c_answers, and puts its file into the first bytes of `room`. *written is how
+ * many. CMPH_C_NO_ROOM says in place->at how many bytes are needed, CMPH_C_EQUAL_KEYS which two keys are equal. Memory is taken by malloc, and freed.
+ */
+uint32_t cmph_c_build(const uint8_t *keys, size_t keys_len, const uint64_t *ends, size_t ends_len, const cmph_c_plan *plan, uint8_t *room,
+                      size_t room_len, uint64_t *written, cmph_c_place *place);
+
+/*
+ * How many bytes the file of a function of `keys` keys has that is built by this plan: as many as cmph_c_build writes, whichever keys they are. 0 if
+ * a number of the plan is not in its range, or there are no keys, or more than 67,108,864. Nothing is built, and no memory is taken.
+ */
+uint64_t cmph_c_room(const cmph_c_plan *plan, uint32_t keys);
 
 /*
  * Which of `shards` shards each key is in: the third hash value of lookup2 under a seed, modulo their number. `out_len` is at least `ends_len`.

@@ -1,10 +1,11 @@
 #!/usr/bin/env python3
 """Calls the C library from C and from C++ (tests/library/caller.c), over functions that cmph builds: numbers of a million keys, files that are cut and
-changed, builds, shards, and structs and bytes of any values. The names that the header declares are those that the library exports.
+changed, damaged dumps, builds, shards, ends that are wrong, and structs and bytes of any values. The names that the header declares are those that the library exports.
 
-    tests/library.py [CMPH]        the program below crates/ if it is left out
+    tests/library.py [CMPH [ARCHIVE]]        the program below crates/ if it is left out
 
-It builds the library first, over what `rt ci` left below crates/. The last line is 'N passed, M failed'. A compiler or a tool that is not there is named, and its cases are left out.
+It builds the library first, over what `rt ci` left below crates/, unless an archive is given. The last line is 'N passed, M failed'. A compiler or a tool that is not there is named,
+and its cases are left out.
 """
 import random
 import re
@@ -14,17 +15,23 @@ import sys
 import tempfile
 from pathlib import Path
 
+import dumps
 import judge
 
 TOP = Path(__file__).resolve().parent.parent
 CMPH = Path(sys.argv[1] if len(sys.argv) > 1 else TOP / "crates" / "cmph" / "out" / "cmph").resolve()
-ARCHIVE = TOP / "crates" / "cmph_c" / "out" / "libcmph_c.a"
+ARCHIVE = Path(sys.argv[2] if len(sys.argv) > 2 else TOP / "crates" / "cmph_c" / "out" / "libcmph_c.a").resolve()
 LIBC = Path(shutil.which("rt")).resolve().parent.parent / "c" / "liblibc_c.a"  # memory of the C library, for the archive
 HEADER = TOP / "library" / "cmph_c.h"
 CALLER = TOP / "tests" / "library" / "caller.c"
-ALGORITHMS = {"chm": ("1", "2090000"), "bdz": ("2", "1230000"), "bdz_ph": ("3", "1230000")}
+ALGORITHMS = ["chm", "bdz", "bdz_ph", "brz"]
+PLANS = {"chm": (1, 2_090_000), "bdz": (2, 1_230_000), "bdz_ph": (3, 1_230_000)}  # of the algorithms that the library builds by
+LONGEST = {"chm": 455_836_984, "bdz": 23_215_501, "bdz_ph": 16_508_805}  # bytes of the file of MOST_KEYS keys (docs/formats.md)
+MOST_KEYS = 67_108_864
 FAULTS = ["", "", "truncated at", "bad magic", "bad algorithm", "bad field at", "bad padding at", "bad cell at", "bad count at", "bad rank at", "trailing bytes"]
+CODES = {"chm": {0, 2, 3, 4, 5, 6, 7, 10}, "bdz": {0, 2, 3, 4, 5, 6, 8, 9, 10}, "bdz_ph": {0, 2, 3, 4, 5, 6, 7, 10}, "brz": {0, 2, 3, 4, 5, 6, 8, 10}}  # of damaged dumps
 MANY = 1_000_000
+DAMAGED, COMPARED, SEED = 5000, 300, 1  # damaged dumps of each algorithm, those of them that cmph is asked of, and of which numbers they are made
 WATCH = ["valgrind", "-q", "--error-exitcode=9", "--leak-check=no"]
 
 passed, failed = 0, 0
@@ -88,92 +95,170 @@ def numbers(room, caller, function, keys):
     case(f"{caller.name}: numbers of {function}", found.stderr or (not same and "other numbers than cmph's"))
 
 
-def changes(room, caller, algorithm):
+def compared(room, paths, lines):
+    """What is wrong with the codes of these files, beside what cmph says of them."""
+    for path, line in zip(paths, lines):
+        message, other = told(room, path), said(line)
+        if not message.endswith(other) or bool(message) != bool(other):
+            return f"{path.read_bytes().hex()}: {line}, and cmph says {message or 'nothing'}"
+    return len(paths) != len(lines) and f"{len(lines)} lines of {len(paths)} files"
+
+
+def changes(room, caller, algorithm, watch):
     """A small function file, each prefix of it, each byte changed, and one byte more."""
     whole = (room / f"few_{algorithm}").read_bytes()
     files = [whole[:len_] for len_ in range(len(whole))] + [whole + b"\0"]
     files += [whole[:at] + bytes([whole[at] ^ change]) + whole[at + 1:] for at in range(len(whole)) for change in (1, 2, 0x10, 0x80, 0xff)]
-    paths = []
-    for number, file in enumerate(files):
-        paths.append(room / f"changed{number}")
-        paths[-1].write_bytes(file)
-    left = run(caller, "open", *paths, cwd=room)
-    wrong = left.stderr
-    for path, line in zip(paths, left.stdout.splitlines()):
-        message = told(room, path)
-        other = said(line)
-        # of a function by brz, whose bytes are not read after the header
-        if not (line.split()[0] == "11" or message.endswith(other) and bool(message) == bool(other)):
-            wrong = f"{path.read_bytes().hex()}: {line}, and cmph says {message or 'nothing'}"
-    case(f"{algorithm}: files that are cut and changed", wrong or len(left.stdout.splitlines()) != len(paths))
+    paths = [room / f"changed{number}" for number in range(len(files))]
+    for path, file in zip(paths, files):
+        path.write_bytes(file)
+    left = run(*watch, caller, "open", *paths, cwd=room)
+    case(f"{algorithm}: files that are cut and changed {watch[:1]}", left.stderr or compared(room, paths, left.stdout.splitlines()))
+
+
+def sample(lines):
+    """The numbers of some damaged dumps, among them some of each code."""
+    by_code = {}
+    for number, line in enumerate(lines):
+        by_code.setdefault(line.split()[0], []).append(number)
+    chosen = [number for numbers in by_code.values() for number in numbers[:20]]
+    return list(dict.fromkeys(chosen + random.sample(range(len(lines)), min(COMPARED, len(lines)))))[:COMPARED]
+
+
+def damaged(room, caller, algorithm, watch):
+    """Dumps that are damaged in many ways: the library opens those that cmph takes, and names the same fault of the others."""
+    files = (f"words_{algorithm}", f"other_{algorithm}")
+    left = run(*watch, caller, "damaged", *files, "few", DAMAGED, SEED, cwd=room)
+    lines = left.stdout.splitlines()
+    codes = {int(line.split()[0]) for line in lines}
+    case(f"{algorithm}: damaged dumps {watch[:1]}", left.returncode and (left.returncode, left.stderr) or len(lines) != DAMAGED and f"{len(lines)} lines")
+    case(f"{algorithm}: faults of damaged dumps", not CODES[algorithm] <= codes <= set(range(11)) and f"the codes {codes}")
+    numbers = sample(lines)
+    left = run(caller, "damage", *files, SEED, *numbers, cwd=room)
+    case(f"{algorithm}: damaged dumps beside cmph", left.stderr or compared(room, [room / f"damaged{number}" for number in numbers], [lines[number] for number in numbers]))
+
+
+def built(room, caller, keys, plan, seed=0, tries=5):
+    """The code and the place of a build."""
+    algorithm, ratio, b = plan
+    left = run(caller, "build", algorithm, ratio, b, seed, tries, keys, "built", cwd=room)
+    return left.stderr or left.stdout.strip()
 
 
 def builds(room, caller, algorithm):
-    number, ratio = ALGORITHMS[algorithm]
-    left = run(caller, "build", number, ratio, 7, 5, 50, "words", "built", cwd=room)
+    number, ratio = PLANS[algorithm]
+    plan = (number, ratio, 7)
+    said_of = built(room, caller, "words", plan, 5, 50)
     run(CMPH, "-g", "-a", algorithm, "-s", 5, "-r", 50, "-m", "wanted", "words", cwd=room)
     same = (room / "built").read_bytes() == (room / "wanted").read_bytes()
-    case(f"{algorithm}: a build in memory", left.stderr or left.stdout != "0 0 0\n" or not same)
-    (room / "equal").write_text("a\nb\nc\nb\na\n")
-    case(f"{algorithm}: equal keys", (left := run(caller, "build", number, ratio, 7, 0, 5, "equal", "none.mph", cwd=room)).stdout != "18 1 3\n" and left)
-    for plan in ((0, ratio, 7, 5), (number, 999_999, 7, 5), (number, ratio, 7, 0), (number, ratio, 7, 1001), (2, ratio, 11, 5)):
-        left = run(caller, "build", *plan[:3], 0, plan[3], "equal", "none.mph", cwd=room)
-        case(f"{algorithm}: a bad plan {plan}", left.stdout != "16 0 0\n" and left)
-    case(f"{algorithm}: no keys", (left := run(caller, "build", number, ratio, 7, 0, 5, "none", "none.mph", cwd=room)).stdout != "17 0 0\n" and left)
+    case(f"{algorithm}: a build in memory", said_of != "0 0 0" and said_of or not same)
+    for text, wanted in (("a\nb\nc\nb\na\n", "17 1 3"), ("b\na\na\nb\n", "17 1 2"), ("\n\nx\n", "17 0 1"), ("x\nx\nx\n", "17 0 1")):
+        (room / "equal").write_text(text)
+        case(f"{algorithm}: equal keys {text!r}", (said_of := built(room, caller, "equal", plan)) != wanted and said_of)
+    for bad in ((0, ratio, 7), (4, 1_230_000, 128), (5, ratio, 7), (number, 999_999, 7), (number, 10_000_001, 7), (2, ratio, 2), (2, ratio, 11)):
+        case(f"{algorithm}: a bad plan {bad}", (said_of := built(room, caller, "words", bad)) != "15 0 0" and said_of)
+        case(f"{algorithm}: the room of a bad plan {bad}", (left := run(caller, "room", *bad, 5)).stdout != "0\n" and left)
+    for tries in (0, 1001):
+        case(f"{algorithm}: {tries} seeds", (said_of := built(room, caller, "words", plan, tries=tries)) != "15 0 0" and said_of)
+    case(f"{algorithm}: no keys", (said_of := built(room, caller, "none", plan)) != "16 0 0" and said_of)
+
+
+def rooms(room, caller, algorithm):
+    """The bytes of files that cmph builds, of the longest one, and of no keys and too many."""
+    plan, wanted = PLANS[algorithm], {MOST_KEYS: LONGEST[algorithm], 0: 0, MOST_KEYS + 1: 0, 2**32 - 1: 0}
+    for many in (1, 2, 3, 4, 5, 16, 17, 100, 229, 230):
+        run(CMPH, "-g", "-a", algorithm, "-k", many, "-m", "counted", "words", cwd=room)
+        wanted[many] = (room / "counted").stat().st_size
+    wanted[MANY] = (room / f"many_{algorithm}").stat().st_size
+    left = run(caller, "room", *plan, 7, *wanted)
+    case(f"{algorithm}: the room of a function", left.stderr or (found := list(map(int, left.stdout.split()))) != list(wanted.values()) and (found, wanted))
+    run(CMPH, "-g", "-a", algorithm, "-b", 3, "-c", 3, "-m", "counted", "words", cwd=room)
+    found = run(caller, "room", plan[0], 3_000_000, 3, 230).stdout
+    case(f"{algorithm}: the room by another plan", found != f"{(room / 'counted').stat().st_size}\n" and found)
+
+
+def ends(room, caller, algorithm, watch):
+    """Ends that are wrong, keys that are too long, no keys, and too little room for the numbers."""
+    left = run(*watch, caller, "ends", f"few_{algorithm}", cwd=room)
+    case(f"{algorithm}: wrong ends {watch[:1]}", left.returncode and (left.returncode, left.stderr))
+    if not watch:
+        left = run(caller, "most", f"few_{algorithm}", cwd=room)
+        case(f"{algorithm}: too many keys", left.returncode and (left.returncode, left.stderr))
 
 
 def hostile(room, caller, algorithm, watch):
-    left = run(*watch, caller, "hostile", f"few_{algorithm}", "some", 400 if watch else 200_000, cwd=room)
-    case(f"{algorithm}: structs and bytes of any values {watch[:1]}", left.returncode and (left.returncode, left.stderr))
+    for function, keys, rounds in ((f"few_{algorithm}", "some", 200 if watch else 20_000), (f"words_{algorithm}", "few", 2000 if watch else 200_000)):
+        left = run(*watch, caller, "hostile", function, keys, rounds, cwd=room)
+        case(f"{function}: structs and bytes of any values {watch[:1]}", left.returncode and (left.returncode, left.stderr))
+    left = run(*watch, caller, "changed", f"words_{algorithm}", "few", 2000 if watch else 200_000, cwd=room)
+    case(f"{algorithm}: bytes changed after the function was opened {watch[:1]}", left.returncode and (left.returncode, left.stderr))
 
 
 def example(room):
     """The program of the documents."""
     made = run("gcc", "-Wall", "-Wextra", "-Werror", f"-I{HEADER.parent}", CALLER.with_name("example.c"), ARCHIVE, LIBC, "-o", room / "example")
     case("gcc compiles the example", made.stderr)
-    left = run(room / "example", "few_chm", "word", "a", cwd=room)
-    case("the example", left.stdout != "word 3\na 0\n" and left)
+    for algorithm in ("chm", "brz"):
+        wanted = "".join(f"{key} {number}\n" for key, number in zip(("a", "b"), answers(room, f"few_{algorithm}", "two")))
+        left = run(room / "example", f"few_{algorithm}", "a", "b", cwd=room)
+        case(f"the example by {algorithm}", (not wanted or left.stdout != wanted) and left)
     left = run(room / "example", "few", "word", cwd=room)
     case("the example with another file", (left.returncode, left.stderr) != (1, "few is no function: code 3 at 0\n") and left)
 
 
+def put_files(room):
+    """Keys, and functions over them by each algorithm, one in version 1. By brz the words are in four buckets."""
+    (room / "none").write_bytes(b"")
+    shutil.copy(TOP / "examples" / "words", room / "words")
+    lines = (room / "words").read_text().split("\n")
+    (room / "some").write_text("\n".join(lines[:40]) + "\n\nk" + "k" * 65534)
+    (room / "few").write_text("a\nb\n\nword\nlonger than twelve bytes\n")
+    (room / "two").write_text("a\nb\n")
+    random.seed(1)
+    (room / "many").write_text("".join(f"{random.getrandbits(64):x}{'-' * (i % 7)}\n" for i in range(MANY)))
+    for algorithm in ALGORITHMS:
+        for keys in ("words", "many", "some", "few"):
+            run(CMPH, "-g", "-a", algorithm, *(["-b", 64] if (algorithm, keys) == ("brz", "words") else []), "-m", f"{keys}_{algorithm}", keys, cwd=room)
+        (room / f"other_{algorithm}").write_bytes(dumps.in_version_1((room / f"some_{algorithm}").read_bytes()))
+
+
+def cases(room, callers):
+    for algorithm in ALGORITHMS:
+        for caller in callers:
+            for function in ("words", "some", "other"):
+                numbers(room, caller, f"{function}_{algorithm}", "words")
+        for caller in callers[:1]:
+            numbers(room, caller, f"many_{algorithm}", "many")
+            watch = WATCH if shutil.which(WATCH[0]) else []
+            changes(room, caller, algorithm, watch)
+            for watching in [[], watch] if watch else [[]]:
+                ends(room, caller, algorithm, watching)
+                hostile(room, caller, algorithm, watching)
+            damaged(room, caller, algorithm, watch)
+            if algorithm in PLANS:
+                builds(room, caller, algorithm)
+                rooms(room, caller, algorithm)
+    for caller in callers[:1]:
+        shards = run(caller, "route", 3, 7, "words", cwd=room).stdout.split()
+        wanted = [str(judge.hashes(line.encode(), 3)[2] % 7) for line in (room / "words").read_text().split("\n") if line]
+        case("shards", shards != wanted)
+
+
 def main():
-    left = run(sys.executable, TOP / "tools" / "prove.py", "--alone", "cmph_c")
-    case("the library is proved and built", left.returncode and (left.stdout[-500:], left.stderr))
+    if len(sys.argv) < 3:
+        left = run(sys.executable, TOP / "tools" / "prove.py", "--alone", "cmph_c")
+        case("the library is proved and built", left.returncode and (left.stdout[-500:], left.stderr))
     names()
+    if shutil.which(WATCH[0]) is None:
+        print("valgrind is not there: its cases are left out")
     with tempfile.TemporaryDirectory() as scratch:
         room = Path(scratch)
         callers = [compiled(room, "gcc", "in_c", "-std=c99"), compiled(room, "g++", "in_cpp", "-x", "c++")]
         callers = [caller for caller in callers if caller]
-        (room / "none").write_bytes(b"")
-        shutil.copy(TOP / "examples" / "words", room / "words")
-        lines = (room / "words").read_text().split("\n")
-        (room / "some").write_text("\n".join(lines[:40]) + "\n\nk" + "k" * 65534)
-        random.seed(1)
-        (room / "many").write_text("".join(f"{random.getrandbits(64):x}{'-' * (i % 7)}\n" for i in range(MANY)))
-        for algorithm in ALGORITHMS:
-            for keys in ("words", "many", "some"):
-                run(CMPH, "-g", "-a", algorithm, "-m", f"{keys}_{algorithm}", keys, cwd=room)
-            (room / "few").write_text("a\nb\n\nword\nlonger than twelve bytes\n")
-            run(CMPH, "-g", "-a", algorithm, "-m", f"few_{algorithm}", "few", cwd=room)
-            for caller in callers:
-                numbers(room, caller, f"words_{algorithm}", "words")
-                numbers(room, caller, f"some_{algorithm}", "words")
-            for caller in callers[:1]:
-                numbers(room, caller, f"many_{algorithm}", "many")
-                changes(room, caller, algorithm)
-                builds(room, caller, algorithm)
-                hostile(room, caller, algorithm, [])
-                if shutil.which(WATCH[0]):
-                    hostile(room, caller, algorithm, WATCH)
-                else:
-                    print("valgrind is not there: its cases are left out")
+        put_files(room)
+        cases(room, callers)
         if shutil.which("gcc"):
             example(room)
-        for caller in callers[:1]:
-            shards = run(caller, "route", 3, 7, "words", cwd=room).stdout.split()
-            wanted = [str(judge.hashes(line.encode(), 3)[2] % 7) for line in lines if line]
-            case("shards", shards != wanted)
     print(f"{passed} passed, {failed} failed")
     return 1 if failed or not passed else 0
 

@@ -3,6 +3,7 @@
 
 #include <fcntl.h>
 #include <stdio.h>
+#include <stdlib.h>
 #include <string.h>
 #include <sys/mman.h>
 #include <sys/stat.h>
@@ -16,7 +17,10 @@ int main(int many, char **words) {
 
     cmph_c_function function = CMPH_C_FUNCTION_INIT;
     cmph_c_place place;
-    uint32_t code = cmph_c_open(dump, (size_t)found.st_size, &function, &place);
+    uint64_t none, *index = &none;
+    uint32_t code = cmph_c_open(dump, (size_t)found.st_size, index, 0, &function, &place);
+    if (code == CMPH_C_NO_ROOM && (index = malloc(place.at * sizeof *index))) /* a function by BRZ */
+        code = cmph_c_open(dump, (size_t)found.st_size, index, place.at, &function, &place);
     if (code != CMPH_C_OK) {
         fprintf(stderr, "%s is no function: code %u at %llu\n", words[1], code, (unsigned long long)place.at);
         return 1;

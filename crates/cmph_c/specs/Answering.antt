@@ -6,8 +6,9 @@ use Rattle.cm_keys_lent.specs.Ends.{AreEnds}
 use Rattle.cm_keys_lent.specs.Pass.{FailsEnds, LentPass}
 use Rattle.cm_keys_lent.specs.declared.ends.EndsFault.{EndsFault}
 use Rattle.cm_lib_lent.specs.Numbers.{ArePut}
-use Rattle.cmph_c.specs.Codes.{ends_code, ends_place}
+use Rattle.cmph_c.specs.Codes.{at_only, ends_code, ends_place}
 use Rattle.cmph_c.specs.Functions.{Holds, IsHeld}
+use Rattle.cmph_c.specs.declared.codes.Place.{Place}
 use Rattle.cmph_c.specs.declared.codes.TheConstants.{NO_FUNCTION, NO_ROOM}
 use Rattle.cmph_c.specs.declared.function.Function.{Function}
 
@@ -23,10 +24,14 @@ pub record ArePutBy (c : Function) (bytes ends old new : List ℕ) : Type 0 wher
   pub put : ArePut (lent_answer lent) (pass_of bytes ends) 0 (length ends) old new
 
 -- the ends are wrong
-abbrev pub IsBadEnd : List ℕ → List ℕ → ℕ → ℕ → Type 0
-IsBadEnd bytes ends code at = (fault : EndsFault) × FailsEnds bytes ends fault × (code ≡ ends_code fault) × (at ≡ ends_place fault)
+abbrev pub IsBadEnd : List ℕ → List ℕ → ℕ → Place → Type 0
+IsBadEnd bytes ends code place = (fault : EndsFault) × FailsEnds bytes ends fault × (code ≡ ends_code fault) × (place ≡ at_only (ends_place fault))
+
+-- there are fewer places than keys
+abbrev pub IsShort : List ℕ → List ℕ → ℕ → Place → Type 0
+IsShort ends numbers code place = (length numbers < length ends) × (code ≡ NO_ROOM) × (place ≡ at_only (length ends))
 
 -- no number is put: the struct holds no function, or the ends are wrong, or there is no room
-abbrev pub IsUnput : Function → List ℕ → List ℕ → List ℕ → ℕ → ℕ → Type 0
-IsUnput c bytes ends numbers code at =
-    ((IsHeld c → ⊥) × (code ≡ NO_FUNCTION)) ⊎ (IsBadEnd bytes ends code at ⊎ ((length numbers < length ends) × (code ≡ NO_ROOM) × (at ≡ length ends)))
+abbrev pub IsUnput : Function → List ℕ → List ℕ → List ℕ → ℕ → Place → Type 0
+IsUnput c bytes ends numbers code place =
+    ((IsHeld c → ⊥) × (code ≡ NO_FUNCTION) × (place ≡ at_only 0)) ⊎ (IsBadEnd bytes ends code place ⊎ IsShort ends numbers code place)

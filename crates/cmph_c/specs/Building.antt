@@ -4,15 +4,18 @@ use Rattle.cm_algo_names.specs.declared.algorithm.Algorithm.{Algorithm}
 use Rattle.cm_algo_names.specs.declared.algorithm.Algorithm.TheVariants as algorithm
 use Rattle.cm_keys_lent.specs.Ends.{AreEnds}
 use Rattle.cm_lib_lent.specs.Builds.{FailsLent, IsSaved}
+use Rattle.cm_lib_lent.specs.Rooms.{dump_len_by}
 use Rattle.cm_lib_lent.specs.declared.building.LentFault.{LentFault}
 use Rattle.cm_lib_lent.specs.declared.building.LentFault.TheVariants as lent
 use Rattle.cm_spec.specs.Rule.{IsRatio}
+use Rattle.cm_spec.specs.declared.limits.TheConstants.{MAX_KEYS}
 use Rattle.cm_tool_builds.specs.declared.fault.FuncFault.TheVariants as faults
 use Rattle.cm_tool_builds.specs.declared.plan.Plan as planned
 use Rattle.cm_tool_cells.specs.Seeds.{seeds_of}
 use Rattle.cm_witness_gather.specs.declared.certificate.Pair.{Pair}
 use Rattle.cm_words_values.specs.declared.limits.TheConstants.{MAX_SEEDS}
 use Rattle.cmph_c.specs.Answering.{IsBadEnd, pass_of}
+use Rattle.cmph_c.specs.Codes.{at_only}
 use Rattle.cmph_c.specs.declared.building.Plan.{Plan}
 use Rattle.cmph_c.specs.declared.codes.Place.{Place}
 use Rattle.cmph_c.specs.declared.codes.TheConstants.{BAD_PLAN, EQUAL_KEYS, MEMORY, NO_KEYS, NO_ROOM, NO_SEED}
@@ -43,6 +46,16 @@ pub record IsPlanFor (p : Plan) (q : planned.Plan) : Type 0 where
   pub algorithm : algorithm_by p.algorithm ≡ Some q.algorithm
   pub ratio : q.c ≡ p.ratio
   pub b : q.b ≡ b_by p
+
+-- The plan is good, and there are keys, and not too many.
+pub record IsBuildable (p : Plan) (keys : ℕ) : Type 0 where
+  pub good : IsGoodPlan p
+  pub some : 1 ≤ keys
+  pub few : keys ≤ MAX_KEYS
+
+-- the file of a function of so many keys has n bytes, if it is built by these numbers
+abbrev pub IsRoomFor : Plan → ℕ → ℕ → Type 0
+IsRoomFor p keys n = (plan : planned.Plan) → IsPlanFor p plan → n ≡ dump_len_by plan keys
 
 -- The room begins with the file of the function of the keys.
 pub record IsBuilt (p : Plan) (bytes ends : List ℕ) (written : ℕ) (old new : List ℕ) : Type 0 where
@@ -99,4 +112,4 @@ pub record FailsBuild (p : Plan) (bytes ends : List ℕ) (room code : ℕ) (plac
 -- the plan is refused, or the ends are, or the build is
 abbrev pub IsUnbuilt : Plan → List ℕ → List ℕ → ℕ → ℕ → Place → Type 0
 IsUnbuilt p bytes ends room code place =
-    ((IsGoodPlan p → ⊥) × (code ≡ BAD_PLAN)) ⊎ (IsBadEnd bytes ends code place.at ⊎ FailsBuild p bytes ends room code place)
+    ((IsGoodPlan p → ⊥) × (code ≡ BAD_PLAN) × (place ≡ at_only 0)) ⊎ (IsBadEnd bytes ends code place ⊎ FailsBuild p bytes ends room code place)

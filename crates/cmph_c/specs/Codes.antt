@@ -4,7 +4,12 @@ use Rattle.cm_dump_items.specs.declared.fault.LoadFault.{LoadFault}
 use Rattle.cm_dump_items.specs.declared.fault.LoadFault.TheVariants as faults
 use Rattle.cm_keys_lent.specs.declared.ends.EndsFault.{EndsFault}
 use Rattle.cm_keys_lent.specs.declared.ends.EndsFault.TheVariants as ends
+use Rattle.cmph_c.specs.declared.codes.Place.{Place}
 use Rattle.cmph_c.specs.declared.codes.TheConstants.{MEMORY, TRUNCATED, BAD_MAGIC, BAD_ALGORITHM, BAD_FIELD, BAD_PADDING, BAD_CELL, BAD_COUNT, BAD_RANK, TRAILING, TOO_MANY_KEYS, BAD_END}
+
+-- a place with nothing more to say than a number
+abbrev pub at_only : ℕ → Place
+at_only at = record { at = at; again = 0 }
 
 -- the code of a fault of the bytes of a function
 abbrev pub code_by : LoadFault → ℕ

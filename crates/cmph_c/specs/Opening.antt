@@ -1,24 +1,45 @@
 -- What opening the bytes of a function does.
-use Rattle.std.specs.Prelude.{◌≡◌, ℕ, List, Ok, Err}
+use Rattle.std.specs.Prelude.{◌≡◌, ℕ, List, Ok}
 use Rattle.cm_dump.specs.Spelling.{spelling_of}
-use Rattle.cm_dump_items.specs.declared.fault.LoadFault.{LoadFault}
-use Rattle.cm_dump_lent.specs.Opened.{IsByBrz, func_by, lent_answer}
+use Rattle.cm_dump_brz.specs.declared.fault.OpenFault.{OpenFault}
+use Rattle.cm_dump_brz.specs.declared.fault.OpenFault.TheVariants as fault
+use Rattle.cm_dump_items.specs.Reading.{IsByteFault}
+use Rattle.cm_dump_lent.specs.Opened.{IsOpenFault, LacksIndex, func_by, lent_answer}
 use Rattle.cm_dump_lent.specs.declared.lent.Lent.{Lent}
 use Rattle.cm_func.specs.Functions.{answer_by, span_by}
-use Rattle.std.specs.Prelude.{◌⊎◌}
-use Rattle.cmph_c.specs.Codes.{code_by, place_by}
+use Rattle.cmph_c.specs.Codes.{at_only, code_by, place_by}
 use Rattle.cmph_c.specs.Functions.{Holds}
-use Rattle.cmph_c.specs.declared.codes.TheConstants.{BY_BRZ}
+use Rattle.cmph_c.specs.declared.codes.Place.{Place}
+use Rattle.cmph_c.specs.declared.codes.TheConstants.{NO_ROOM}
 use Rattle.cmph_c.specs.declared.function.Function.{Function}
 
--- The struct holds the function that the bytes spell, and so answers each key as that one does.
-pub record IsOpened (bytes : List ℕ) (c : Function) : Type 0 where
+-- The struct holds the function that the bytes spell, and so answers each key as that one does. There was room for the index.
+pub record IsOpened (bytes : List ℕ) (room : ℕ) (c : Function) : Type 0 where
   pub lent : Lent
   pub holds : Holds c lent
   pub spelled : spelling_of bytes ≡ Ok (func_by lent)
   pub answers : (key : List ℕ) → lent_answer lent key ≡ answer_by (func_by lent) key
-  pub keys : (c.span ≡ span_by (func_by lent))
+  pub span : c.span ≡ span_by (func_by lent)
+  pub indexed : LacksIndex bytes room → ⊥
 
--- The bytes are refused with a code and an offset: those of their first fault, or that they are a function by BRZ.
-abbrev pub IsRefused : List ℕ → ℕ → ℕ → Type 0
-IsRefused bytes code at = ((fault : LoadFault) × (spelling_of bytes ≡ Err fault) × (code ≡ code_by fault) × (at ≡ place_by fault)) ⊎ (IsByBrz bytes × (code ≡ BY_BRZ) × (at ≡ 0))
+-- the code of a refusal
+abbrev pub open_code : OpenFault → ℕ
+open_code (fault.Dump e) = code_by e
+open_code (fault.Room needed) = NO_ROOM
+
+-- its offset, or the room that is needed
+abbrev pub open_place : OpenFault → ℕ
+open_place (fault.Dump e) = place_by e
+open_place (fault.Room needed) = needed
+
+-- the fault is one of bytes that are in memory, or of room
+abbrev pub IsOpenKind : OpenFault → Type 0
+IsOpenKind (fault.Dump e) = IsByteFault e
+IsOpenKind (fault.Room needed) = Unit {0}
+
+-- The bytes are refused with a code and a place: those of their first fault, or of too little room for the index.
+pub record IsRefused (bytes : List ℕ) (room code : ℕ) (place : Place) : Type 0 where
+  pub fault : OpenFault
+  pub why : IsOpenFault bytes room fault
+  pub code_is : code ≡ open_code fault
+  pub place_is : place ≡ at_only (open_place fault)

@@ -4,8 +4,10 @@ use Rattle.cm_keys_lent.specs.Ends.{AreEnds}
 use Rattle.cm_lib_lent.specs.Numbers.{ArePut}
 use Rattle.cm_lib_lent.specs.Routes.{shard_of}
 use Rattle.cm_spec.specs.declared.limits.TheConstants.{MAX_VERTICES}
-use Rattle.cmph_c.specs.Answering.{IsBadEnd, pass_of}
-use Rattle.cmph_c.specs.declared.codes.TheConstants.{BAD_SHARDS, NO_ROOM}
+use Rattle.cmph_c.specs.Answering.{IsBadEnd, IsShort, pass_of}
+use Rattle.cmph_c.specs.Codes.{at_only}
+use Rattle.cmph_c.specs.declared.codes.Place.{Place}
+use Rattle.cmph_c.specs.declared.codes.TheConstants.{BAD_SHARDS}
 
 -- The number of shards is in its range, the ends are those of keys, and each key's shard is put.
 pub record AreRouted (bytes ends : List ℕ) (seed shards : ℕ) (old new : List ℕ) : Type 0 where
@@ -14,6 +16,6 @@ pub record AreRouted (bytes ends : List ℕ) (seed shards : ℕ) (old new : List
   pub put : ArePut (λ key. Some (shard_of (record { seed = seed; shards = shards }) key)) (pass_of bytes ends) 0 (length ends) old new
 
 -- no shard is put: there are none or too many, or the ends are wrong, or there is no room
-abbrev pub IsUnrouted : List ℕ → List ℕ → ℕ → List ℕ → ℕ → ℕ → Type 0
-IsUnrouted bytes ends shards out code at =
-    ((((shards ≡ 0) ⊎ (MAX_VERTICES < shards)) × (code ≡ BAD_SHARDS))) ⊎ (IsBadEnd bytes ends code at ⊎ ((length out < length ends) × (code ≡ NO_ROOM) × (at ≡ length ends)))
+abbrev pub IsUnrouted : List ℕ → List ℕ → ℕ → List ℕ → ℕ → Place → Type 0
+IsUnrouted bytes ends shards out code place =
+    (((shards ≡ 0) ⊎ (MAX_VERTICES < shards)) × (code ≡ BAD_SHARDS) × (place ≡ at_only 0)) ⊎ (IsBadEnd bytes ends code place ⊎ IsShort ends out code place)

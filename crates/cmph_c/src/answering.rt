@@ -7,7 +7,7 @@ ghost use Rattle.cm_lib_lent.specs.declared.numbers.TheConstants.{NONE};
 ghost use Rattle.cmph_c.specs.Answering.{ArePutBy, IsUnput};
 ghost use Rattle.cmph_c.specs.Functions.{Holds, IsHeld};
 
-use crate::codes::{NO_FUNCTION, NO_ROOM, OK, Place, ends_code_of};
+use crate::codes::{NO_FUNCTION, NO_ROOM, OK, Place, at_only, ends_code_of};
 use crate::function::{Function, held};
 use cm_algo_scheme::answer;
 use cm_keys_lent::LentKeys;
@@ -37,14 +37,14 @@ pub extern "C" fn cmph_c_answers(
     place: &mut Place,
 ) -> u32
     ensures put { result ≡ OK → ArePutBy function.now keys.now ends.now numbers.old numbers.new }
-    ensures refused { result ≢ OK → IsUnput function.now keys.now ends.now numbers.old result place.new.at }
+    ensures refused { result ≢ OK → IsUnput function.now keys.now ends.now numbers.old result place.new }
     ensures kept { result ≢ OK → numbers.new ≡ numbers.old }
     ensures unplaced { result ≡ OK → place.new ≡ place.old }
 {
     let lent = match held(function) {
         Some(lent) => lent,
         None => {
-            *place = Place { at: 0, again: 0 };
+            *place = at_only(0);
             return NO_FUNCTION;
         }
     };
@@ -52,15 +52,12 @@ pub extern "C" fn cmph_c_answers(
         Ok(pass) => pass,
         Err(fault) => {
             let (code, at) = ends_code_of(fault);
-            *place = Place { at, again: 0 };
+            *place = at_only(at);
             return code;
         }
     };
     if numbers.len() < pass.count() {
-        *place = Place {
-            at: pass.count() as u64,
-            again: 0,
-        };
+        *place = at_only(pass.count() as u64);
         return NO_ROOM;
     }
     answers_into(&lent, &pass, numbers);

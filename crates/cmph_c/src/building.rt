@@ -1,19 +1,19 @@
 //! A function is built in memory of the caller's.
-ghost use Rattle.std.specs.Prelude.{◌≡◌, ◌≢◌, ◌↔◌, IfSome, IsSome, Some, length};
+ghost use Rattle.std.specs.Prelude.{◌≡◌, ◌≢◌, ◌↔◌, ℕ, List, IfSome, IsSome, Some, length};
 ghost use Rattle.cm_algo_names.specs.declared.algorithm.Algorithm.TheVariants.{Brz};
 ghost use Rattle.cm_lib_lent.specs.Builds.{IsLentKind};
 ghost use Rattle.cm_tool_builds.specs.Plans.{IsPlan};
-ghost use Rattle.cmph_c.specs.Building.{HasAlgorithm, IsBuilt, IsGoodPlan, IsPlanFor, IsUnbuilt, algorithm_by, b_by, build_again, build_code, build_place};
+ghost use Rattle.cmph_c.specs.Building.{HasAlgorithm, IsBuildable, IsBuilt, IsGoodPlan, IsPlanFor, IsRoomFor, IsUnbuilt, algorithm_by, b_by, build_again, build_code, build_place};
 
 use crate::codes::{
-    BAD_PLAN, EQUAL_KEYS, MEMORY, NO_KEYS, NO_ROOM, NO_SEED, OK, Place, ends_code_of,
+    BAD_PLAN, EQUAL_KEYS, MEMORY, NO_KEYS, NO_ROOM, NO_SEED, OK, Place, at_only, ends_code_of,
 };
 use crate::function::{BDZ, BDZ_PH, CHM};
 use cm_algo_names::Algorithm;
 use cm_brz::MIN_BYTES;
 use cm_keys_lent::LentKeys;
-use cm_lib_lent::{LentFault, build_into};
-use cm_spec::{MAX_RATIO, MIN_RATIO};
+use cm_lib_lent::{LentFault, build_into, dump_len, dumps_fit};
+use cm_spec::{MAX_KEYS, MAX_RATIO, MIN_RATIO};
 use cm_tool_builds::{FuncFault, Plan as Planned};
 use cm_tool_cells::seeds;
 use cm_words_values::MAX_SEEDS;
@@ -78,21 +78,43 @@ fn planned(plan: &Plan) -> Option<Planned>
     }
 }
 
+/// How many bytes the file of a function of `keys` keys has that is built by this plan, or 0 if it can't be.
+fn room_of(plan: &Plan, keys: u32) -> u64
+    ensures room { IsBuildable plan.now keys → IsRoomFor plan.now keys result }
+    ensures none { (IsBuildable plan.now keys → ⊥) → result ≡ 0 }
+{
+    if keys == 0 || keys > MAX_KEYS {
+        return 0;
+    }
+    match planned(plan) {
+        Some(planned) => dump_len(&planned, keys),
+        None => 0,
+    }
+}
+
+/// How many bytes the file of a function of `keys` keys has that is built by this plan: as many as `cmph_c_build` writes, whichever keys they are,
+/// so it needs no greater room. 0 if a number of the plan is not in its range, or there are no keys, or more than 67,108,864. Nothing is built, and
+/// no memory is taken.
+#[unsafe(no_mangle)]
+pub extern "C" fn cmph_c_room(plan: &Plan, keys: u32) -> u64
+    ensures room { IsBuildable plan.now keys → IsRoomFor plan.now keys result }
+    ensures none { (IsBuildable plan.now keys → ⊥) → result ≡ 0 }
+    ensures written { (bytes ends old new : List ℕ) (written : ℕ) → length ends ≡ keys → IsBuilt plan.now bytes ends written old new → written ≡ result }
+{
+    // A law, for the proof alone.
+    dumps_fit();
+    room_of(plan, keys)
+}
+
 /// The code of a refused build, and its place.
 fn why(fault: LentFault) -> (u32, Place)
     requires kind { IsLentKind fault }
     ensures code { result.0 ≡ build_code fault }
     ensures place { (result.1.at ≡ build_place fault) × (result.1.again ≡ build_again fault) }
 {
-    let none = Place { at: 0, again: 0 };
+    let none = at_only(0);
     match fault {
-        LentFault::Room { needed } => (
-            NO_ROOM,
-            Place {
-                at: needed,
-                again: 0,
-            },
-        ),
+        LentFault::Room { needed } => (NO_ROOM, at_only(needed)),
         LentFault::Build(FuncFault::Memory) => (MEMORY, none),
         LentFault::Build(FuncFault::NoKeys) => (NO_KEYS, none),
         LentFault::Build(FuncFault::Cored(shown)) => match shown.equal.first() {
@@ -132,7 +154,7 @@ pub extern "C" fn cmph_c_build(
     let planned = match planned(plan) {
         Some(planned) => planned,
         None => {
-            *place = Place { at: 0, again: 0 };
+            *place = at_only(0);
             return BAD_PLAN;
         }
     };
@@ -140,7 +162,7 @@ pub extern "C" fn cmph_c_build(
         Ok(pass) => pass,
         Err(fault) => {
             let (code, at) = ends_code_of(fault);
-            *place = Place { at, again: 0 };
+            *place = at_only(at);
             return code;
         }
     };

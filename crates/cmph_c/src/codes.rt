@@ -2,7 +2,7 @@
 ghost use Rattle.std.specs.Prelude.{◌≡◌};
 ghost use Rattle.cm_dump_items.specs.Reading.{IsByteFault};
 ghost use Rattle.cm_keys_lent.specs.declared.ends.EndsFault.{EndsFault};
-ghost use Rattle.cmph_c.specs.Codes.{code_by, ends_code, ends_place, place_by};
+ghost use Rattle.cmph_c.specs.Codes.{at_only, code_by, ends_code, ends_place, place_by};
 
 use cm_dump_items::LoadFault;
 use cm_keys_lent::EndsFault;
@@ -40,35 +40,32 @@ pub const BAD_RANK: u32 = 9;
 /// Bytes follow the function.
 pub const TRAILING: u32 = 10;
 
-/// The function is one by BRZ, which is not read in the bytes of its file.
-pub const BY_BRZ: u32 = 11;
-
 /// The struct holds no function.
-pub const NO_FUNCTION: u32 = 12;
+pub const NO_FUNCTION: u32 = 11;
 
 /// The end of the key of this index, from 0, is before the end of the key before it or past the bytes, or its key is too long.
-pub const BAD_END: u32 = 13;
+pub const BAD_END: u32 = 12;
 
 /// There are more keys than a pass may have.
-pub const TOO_MANY_KEYS: u32 = 14;
+pub const TOO_MANY_KEYS: u32 = 13;
 
 /// The room is too small: this many bytes, or numbers, are needed.
-pub const NO_ROOM: u32 = 15;
+pub const NO_ROOM: u32 = 14;
 
 /// A number of the plan is not in its range.
-pub const BAD_PLAN: u32 = 16;
+pub const BAD_PLAN: u32 = 15;
 
 /// There are no keys.
-pub const NO_KEYS: u32 = 17;
+pub const NO_KEYS: u32 = 16;
 
 /// Two keys are equal: those of these indices, from 0.
-pub const EQUAL_KEYS: u32 = 18;
+pub const EQUAL_KEYS: u32 = 17;
 
 /// No seed works, and no two keys are equal among those that stand in the way under the first.
-pub const NO_SEED: u32 = 19;
+pub const NO_SEED: u32 = 18;
 
 /// There are no shards, or too many.
-pub const BAD_SHARDS: u32 = 20;
+pub const BAD_SHARDS: u32 = 19;
 
 /// Where a fault is: an offset in bytes, a number of them, or the index of a key, from 0, as the code says, and the index of the second key of
 /// two that are equal.
@@ -77,6 +74,13 @@ pub const BAD_SHARDS: u32 = 20;
 pub struct Place {
     pub at: u64,
     pub again: u64,
+}
+
+/// A place with nothing more to say than a number.
+pub(crate) fn at_only(at: u64) -> Place
+    ensures place { result ≡ at_only at }
+{
+    Place { at, again: 0 }
 }
 
 /// The code of a fault of bytes, and its offset.

@@ -1,14 +1,18 @@
 //! A function in memory of the caller's.
-ghost use Rattle.std.specs.Prelude.{◌≡◌, ◌<◌, IfNone, IfSome};
+ghost use Rattle.std.specs.Prelude.{◌≡◌, ◌<◌, ℕ, IfNone, IfSome};
 ghost use Rattle.cm_bdz.specs.Lent.{FitsBdz, FitsBdzPh};
 ghost use Rattle.cm_chm.specs.Parts.{FitsChm};
+ghost use Rattle.cm_dump_brz.specs.Indexed.{FitsBrz, IndexedBrz};
+ghost use Rattle.cm_dump_brz.specs.Indexed as indexed;
 ghost use Rattle.cm_dump_lent.specs.Opened.{func_by};
 ghost use Rattle.cm_func.specs.Functions.{span_by};
-ghost use Rattle.cmph_c.specs.Functions.{Holds, IsHeld, bdz_parts, bdz_ph_parts, chm_parts};
+ghost use Rattle.cmph_c.specs.Functions.{Holds, HoldsBrz, IsHeld, bdz_parts, bdz_ph_parts, brz_parts, chm_parts, number_of};
 
 use cm_algo_scheme::Answers;
 use cm_bdz::{BdzParts, BdzPhParts, LentBdz, LentBdzPh};
 use cm_chm::{ChmParts, LentChm};
+use cm_dump::Version;
+use cm_dump_brz::{LentBrz, LentBrzParts};
 use cm_dump_lent::Lent;
 
 /// The kind of a struct that holds no function.
@@ -23,20 +27,25 @@ pub const BDZ: u32 = 2;
 /// By BDZ_PH.
 pub const BDZ_PH: u32 = 3;
 
-/// A function in memory of the caller's: where its cells and ranks are in the bytes of its file, and its numbers. `cmph_c_open` fills it. A
-/// struct with other numbers holds another function, or none, and no call reads outside `cells` and `ranks`.
+/// By BRZ.
+pub const BRZ: u32 = 4;
+
+/// A function in memory of the caller's: where its cells, ranks and buckets are in the bytes of its file, and its numbers. `cmph_c_open` fills
+/// it. A struct with other numbers holds another function, or none, and no call reads outside `cells`, `ranks` and `index`.
 #[repr(C)]
 #[derive(Clone, Copy, Drop)]
 pub struct Function<'a> {
-    /// The image of the cells.
+    /// The image of the cells. By BRZ all bytes of the file.
     pub cells: &'a [u8],
     /// The ranks, by BDZ alone.
     pub ranks: &'a [u8],
+    /// By BRZ alone, for each bucket its offset in the file, times `2^32`, plus how many keys lie in the buckets before it.
+    pub index: &'a [u64],
     /// `2^32` by `size`, rounded down.
     pub scaled: u64,
     /// `2^32` by the number of keys, rounded down, by CHM alone.
     pub keys_scaled: u64,
-    /// The algorithm: `CHM`, `BDZ` or `BDZ_PH`, and another number for no function.
+    /// The algorithm: `CHM`, `BDZ`, `BDZ_PH` or `BRZ`, and another number for no function.
     pub kind: u32,
     /// How many keys the function was built over.
     pub keys: u32,
@@ -44,13 +53,13 @@ pub struct Function<'a> {
     pub span: u32,
     /// The ratio of vertices to keys, in millionths.
     pub ratio: u32,
-    /// The seed of its hash.
+    /// The seed of its hash. By BRZ that of the split into buckets.
     pub seed: u32,
-    /// The number of vertices by CHM, and a third of it by the others.
+    /// The number of vertices by CHM, a third of it by BDZ and BDZ_PH, and the number of buckets by BRZ.
     pub size: u32,
-    /// How many bits a cell has, by CHM alone.
+    /// How many bits a cell has, by CHM. By BRZ the version of the file.
     pub width: u32,
-    /// The rank of every `2^b`-th cell is kept, by BDZ alone.
+    /// The rank of every `2^b`-th cell is kept, by BDZ. By BRZ how many keys a bucket has on average.
     pub b: u32,
 }
 
@@ -78,6 +87,26 @@ pub(crate) fn held<'a>(function: &Function<'a>) -> Option<Lent<'a>>
             Some(bdz_ph) => Some(Lent::BdzPh(bdz_ph)),
             None => None,
         },
+        BRZ => match brz_held(function) {
+            Some(brz) => Some(Lent::Brz(brz)),
+            None => None,
+        },
+        _ => None,
+    }
+}
+
+/// The function by BRZ that a struct holds, or none.
+#[inline(always)]
+fn brz_held<'a>(function: &Function<'a>) -> Option<LentBrz<'a>>
+    ensures held { IfSome result (λ f. HoldsBrz function.now f) }
+    ensures none { IfNone result ((f : IndexedBrz) → HoldsBrz function.now f → ⊥) }
+{
+    if function.b > 65_535 {
+        return None;
+    }
+    match function.width {
+        1 => LentBrz::of(brz_parts_of(function, Version::One)),
+        2 => LentBrz::of(brz_parts_of(function, Version::Two)),
         _ => None,
     }
 }
@@ -132,6 +161,24 @@ fn bdz_ph_parts_of<'a>(function: &Function<'a>) -> BdzPhParts<'a>
     }
 }
 
+/// The parts of a function by BRZ.
+#[inline(always)]
+fn brz_parts_of<'a>(function: &Function<'a>, version: Version) -> LentBrzParts<'a>
+    requires small { function.now.b < 65536 }
+    ensures parts { result ≡ brz_parts function.now version }
+{
+    LentBrzParts {
+        dump: function.cells,
+        index: function.index,
+        version,
+        keys: function.keys,
+        ratio: function.ratio,
+        split: function.seed,
+        b: function.b as u16,
+        scaled: function.scaled,
+    }
+}
+
 /// Puts a function into the caller's struct.
 pub(crate) fn put<'a>(lent: &Lent<'a>, out: &mut Function<'a>)
     ensures holds { Holds out.new lent.now }
@@ -142,6 +189,7 @@ pub(crate) fn put<'a>(lent: &Lent<'a>, out: &mut Function<'a>)
         Lent::Chm(chm) => of_chm(chm.parts(), span),
         Lent::Bdz(bdz) => of_bdz(bdz.parts(), span),
         Lent::BdzPh(bdz_ph) => of_bdz_ph(bdz_ph.parts(), span),
+        Lent::Brz(brz) => of_brz(brz.parts(), span),
     };
 }
 
@@ -154,6 +202,7 @@ fn of_chm<'a>(parts: ChmParts<'a>, span: u32) -> Function<'a>
     Function {
         cells: parts.cells,
         ranks: &[],
+        index: &[],
         scaled: parts.vertices_scaled,
         keys_scaled: parts.keys_scaled,
         kind: CHM,
@@ -176,6 +225,7 @@ fn of_bdz<'a>(parts: BdzParts<'a>, span: u32) -> Function<'a>
     Function {
         cells: parts.cells,
         ranks: parts.ranks,
+        index: &[],
         scaled: parts.scaled,
         keys_scaled: 0,
         kind: BDZ,
@@ -198,6 +248,7 @@ fn of_bdz_ph<'a>(parts: BdzPhParts<'a>, span: u32) -> Function<'a>
     Function {
         cells: parts.cells,
         ranks: &[],
+        index: &[],
         scaled: parts.scaled,
         keys_scaled: 0,
         kind: BDZ_PH,
@@ -208,5 +259,39 @@ fn of_bdz_ph<'a>(parts: BdzPhParts<'a>, span: u32) -> Function<'a>
         size: parts.third,
         width: 0,
         b: 0,
+    }
+}
+
+/// The number of a version.
+fn number_of(version: Version) -> u32
+    ensures number { result ≡ number_of version }
+{
+    match version {
+        Version::One => 1,
+        Version::Two => 2,
+    }
+}
+
+/// The struct of a function by BRZ.
+fn of_brz<'a>(parts: LentBrzParts<'a>, span: u32) -> Function<'a>
+    requires fits { FitsBrz parts }
+    ensures holds { HoldsBrz result (indexed.brz_held parts.entry) }
+    ensures kind { result.kind ≡ BRZ }
+    ensures span { result.span ≡ span }
+{
+    Function {
+        cells: parts.dump,
+        ranks: &[],
+        index: parts.index,
+        scaled: parts.scaled,
+        keys_scaled: 0,
+        kind: BRZ,
+        keys: parts.keys,
+        span,
+        ratio: parts.ratio,
+        seed: parts.split,
+        size: parts.index.len() as u32,
+        width: number_of(parts.version),
+        b: parts.b as u32,
     }
 }

@@ -13,7 +13,7 @@ mod opening;
 mod routing;
 
 pub use crate::answering::{cmph_c_answer, cmph_c_answers};
-pub use crate::building::{Plan, cmph_c_build};
+pub use crate::building::{Plan, cmph_c_build, cmph_c_room};
 pub use crate::codes::Place;
 pub use crate::function::Function;
 pub use crate::opening::cmph_c_open;

@@ -2,7 +2,7 @@
 ghost use Rattle.std.specs.Prelude.{◌≡◌, ◌≢◌};
 ghost use Rattle.cmph_c.specs.Routing.{AreRouted, IsUnrouted};
 
-use crate::codes::{BAD_SHARDS, NO_ROOM, OK, Place, ends_code_of};
+use crate::codes::{BAD_SHARDS, NO_ROOM, OK, Place, at_only, ends_code_of};
 use cm_keys_lent::LentKeys;
 use cm_lib_lent::{Route, answers_into};
 use cm_spec::MAX_VERTICES;
@@ -21,27 +21,24 @@ pub extern "C" fn cmph_c_route(
     place: &mut Place,
 ) -> u32
     ensures routed { result ≡ OK → AreRouted keys.now ends.now seed shards out.old out.new }
-    ensures refused { result ≢ OK → IsUnrouted keys.now ends.now shards out.old result place.new.at }
+    ensures refused { result ≢ OK → IsUnrouted keys.now ends.now shards out.old result place.new }
     ensures kept { result ≢ OK → out.new ≡ out.old }
     ensures unplaced { result ≡ OK → place.new ≡ place.old }
 {
     if shards == 0 || shards > MAX_VERTICES {
-        *place = Place { at: 0, again: 0 };
+        *place = at_only(0);
         return BAD_SHARDS;
     }
     let pass = match LentKeys::new(keys, ends) {
         Ok(pass) => pass,
         Err(fault) => {
             let (code, at) = ends_code_of(fault);
-            *place = Place { at, again: 0 };
+            *place = at_only(at);
             return code;
         }
     };
     if out.len() < pass.count() {
-        *place = Place {
-            at: pass.count() as u64,
-            again: 0,
-        };
+        *place = at_only(pass.count() as u64);
         return NO_ROOM;
     }
     answers_into(&Route::new(seed, shards), &pass, out);
