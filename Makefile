@@ -5,7 +5,7 @@
 # make install-library
 #                 installs it and its header below $(PREFIX)
 # make check      the gate: proves everything from nothing, and runs all tests
-# make install    installs the programs, their man pages, and completions for bash and zsh below $(PREFIX)
+# make install    installs the programs, their man pages, and completions for bash and zsh below $(PREFIX); and the library, if `make library` made it
 # make uninstall  removes them
 # make bench      measures it beside the C tool and plain Rust, leaves the results in bench/results, and writes the measured tables of
 #                 README.md and docs/: make bench SETS="100000 words" for fewer sets of keys, ROUNDS=3 for fewer runs, NAME=here for
@@ -21,6 +21,8 @@
 #                 membership filters beside builds and queries, libbloom and plain Rust
 # make bench-store
 #                 record stores beside builds and queries, tinycdb and LMDB
+# make bench-library
+#                 calls of the C library beside those of libcmph, in one process
 # make drawings   draws docs/chm.svg from a real run
 PREFIX ?= /usr/local
 SETS ?=
@@ -87,12 +89,15 @@ install: all
 	    install -D -m 644 completions/$$program.bash $(DESTDIR)$(PREFIX)/share/bash-completion/completions/$$program && \
 	    install -D -m 644 completions/_$$program $(DESTDIR)$(PREFIX)/share/zsh/site-functions/_$$program || exit; \
 	done
+	@test ! -e lib/libcmph_c.a || $(MAKE) install-library
 
 uninstall:
 	for program in $(PROGRAMS); do \
 	    rm -f $(DESTDIR)$(PREFIX)/bin/$$program $(DESTDIR)$(PREFIX)/share/man/man1/$$program.1 \
 	        $(DESTDIR)$(PREFIX)/share/bash-completion/completions/$$program $(DESTDIR)$(PREFIX)/share/zsh/site-functions/_$$program; \
 	done
+	rm -f $(DESTDIR)$(PREFIX)/include/cmph_c.h $(DESTDIR)$(PREFIX)/lib/libcmph_c.a $(DESTDIR)$(PREFIX)/lib/libcmph_c.so.1 \
+	    $(DESTDIR)$(PREFIX)/lib/libcmph_c.so $(DESTDIR)$(PREFIX)/lib/pkgconfig/cmph_c.pc
 
 bench: bin/cmph
 	python3 bench/compare.py --name $(NAME) --rounds $(ROUNDS) $(SETS)
@@ -125,10 +130,13 @@ bench-filter: all
 bench-store: all
 	python3 bench/tables.py --record store python3 bench/store.py
 
+bench-library: bin/cmph library
+	python3 bench/tables.py --record library python3 bench/library.py
+
 drawings: bin/cmph
 	python3 docs/draw.py
 
 clean:
 	rm -rf bin lib out crates/*/out
 
-.PHONY: all library demo check install install-library uninstall bench bench-bits bench-peel bench-spill bench-bbhash bench-versions bench-most bench-judge bench-filter bench-store drawings clean
+.PHONY: all library demo check install install-library uninstall bench bench-bits bench-peel bench-spill bench-bbhash bench-versions bench-most bench-judge bench-filter bench-store bench-library drawings clean

@@ -40,7 +40,7 @@ BARS = TOP / "docs" / "bench.svg"
 CRATES = TOP / "docs" / "crates.svg"
 BLOCK = re.compile(r"^<!-- begin: ([^\n]*) -->\n(.*?)^<!-- end -->$", re.MULTILINE | re.DOTALL)
 MARKER = re.compile(r"^<!-- (begin: .*|end) -->$", re.MULTILINE)
-FENCES = {".rt": "rust", ".antt": "antt"}
+FENCES = {".rt": "rust", ".rs": "rust", ".antt": "antt"}
 NEEDS = {
     "chm": ("the numbers of the lines, in the order of the keys", "0 to m - 1, in order"),
     "bdz": ("a small function, and no number left out", "0 to m - 1, in no order that means anything"),
