@@ -1,2 +1,4 @@
+pub mod Answering
+pub mod AnsweringLaws
 pub mod Kinds
 pub mod Solvable

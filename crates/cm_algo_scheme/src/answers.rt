@@ -1,14 +1,20 @@
 //! What a function from keys to numbers is.
-ghost use Rattle.std.specs.Prelude.{◌≡◌, ◌<◌, ◌≤◌, ◌∷◌, [], ℕ, List, Option, IfSome};
+ghost use Rattle.std.specs.Prelude.{◌≡◌, ◌<◌, ◌≤◌, ◌∷◌, [], ℕ, List, Option, IfSome, length};
+ghost use Rattle.cm_algo_scheme.specs.Answering.{ArePlaces, AnswersAll};
 ghost use Rattle.cm_spec.specs.declared.limits.TheConstants.{MAX_VERTICES};
 
 /// Where a function looks up the number of a key: the two or three vertices of the key's edge, counted from 0, and 0 in each further
 /// number.
 pub type Place = [u32; 4];
 
+/// How many places are answered together at most.
+pub const MOST_PLACES: usize = 32;
+
 /// A function from keys to numbers below its span, in two steps: from a key to its place, and from the place to the number. If the
 /// places of many keys are computed first, the cache misses of their cells overlap. No call takes memory.
 pub trait Answers {
+    ghost use Rattle.cm_algo_scheme.specs.declared.answers.TheConstants.{MOST_PLACES};
+
     /// The span: all numbers are below it.
     ghost span_of: { Self → ℕ };
 
@@ -39,6 +45,19 @@ pub trait Answers {
         requires place { (key : List ℕ) × (place.now ≡ place_of self.now key) }
         ensures answer { (key : List ℕ) → place.now ≡ place_of self.now key → result ≡ answer_of self.now key }
         ensures inside { IfSome result (λ number. number < span_of self.now) };
+
+    /// The numbers of the keys of these places, each where its place stands: what `answer_at` returns. There are at most `MOST_PLACES` places,
+    /// and as many numbers. A function that reads one part of its memory for all keys, and then the next, is faster than by `answer_at`.
+    fn answer_all(&self, places: &[Place], answers: &mut [Option<u32>])
+        requires few { length places.now ≤ MOST_PLACES }
+        requires room { length answers.old ≡ length places.now }
+        requires places { ArePlaces (place_of self.now) places.now }
+        ensures answers { AnswersAll (place_of self.now) (answer_of self.now) (span_of self.now) places.now answers.new }
+    {
+        for i in 0..places.len() {
+            answers[i] = self.answer_at(&places[i]);
+        }
+    }
 }
 
 /// The number of a key. None only for keys that the function was not built over.

@@ -6,7 +6,7 @@ mod built;
 mod divisor;
 mod scheme;
 
-pub use crate::answers::{Answers, Place, answer};
+pub use crate::answers::{Answers, MOST_PLACES, Place, answer};
 pub use crate::built::Built;
 pub use crate::divisor::Divisor;
 pub use crate::scheme::Scheme;

@@ -1,4 +1,5 @@
 pub mod BdzLaws
+pub mod Choices
 pub mod Functions
 pub mod Lent
 pub mod LentLaws

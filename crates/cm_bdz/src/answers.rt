@@ -1,16 +1,31 @@
 //! What functions by BDZ and BDZ_PH return.
-ghost use Rattle.std.specs.Prelude.{Option, Some, length};
-ghost use Rattle.cm_bdz.specs.Functions.{bdz_answer, bdz_ph_answer};
+ghost use Rattle.std.specs.Prelude.{◌≡◌, ◌<◌, IfSome, Option, Some, length};
+ghost use Rattle.cm_bdz.specs.Functions.{bdz_answer, bdz_ph_answer, ranked};
 ghost use Rattle.cm_bdz.specs.Places.{bdz_place};
 ghost use Rattle.cm_spec.specs.Lookup2 as lookup2;
 
 use crate::bdz::Bdz;
 use crate::bdz_ph::BdzPh;
-use crate::choice::chosen_among;
+use crate::choice::{chosen_among, chosen_by_all};
 use crate::scheme::{place_in, places_of};
-use cm_algo_scheme::{Answers, Place};
+use cm_algo_scheme::{Answers, MOST_PLACES, Place};
 use cm_bits::Lookup;
 use cm_lookup2::words;
+
+/// The number of a vertex: its rank among those whose cells are not 3. None if its cell is 3.
+#[inline]
+fn rank_of(function: &Bdz, v: u32) -> Option<u32>
+    requires inside { v < length function.now.cells }
+    ensures ranked { result ≡ ranked function.now.cells v }
+    ensures below { IfSome result (λ rank. rank < function.now.keys) }
+{
+    let cells = function.cells();
+    if cells.get(v) == 3 {
+        None
+    } else {
+        Some(function.ranks().rank(cells, v))
+    }
+}
 
 /// A key that the function was built over gets a number below the number of keys, and no other of these keys the same. Another
 /// key gets any number, or none.
@@ -34,12 +49,15 @@ impl Answers for Bdz {
     }
 
     fn answer_at(&self, place: &Place) -> Option<u32> {
-        let cells = self.cells();
-        let v = chosen_among(cells, place);
-        if cells.get(v) == 3 {
-            None
-        } else {
-            Some(self.ranks().rank(cells, v))
+        rank_of(self, chosen_among(self.cells(), place))
+    }
+
+    // The cells of all places come first, and then the ranks, so that the cache misses of the ranks overlap, too.
+    fn answer_all(&self, places: &[Place], answers: &mut [Option<u32>]) {
+        let mut vertices = [0; MOST_PLACES];
+        chosen_by_all(self.cells(), places, &mut vertices);
+        for i in 0..places.len() {
+            answers[i] = rank_of(self, vertices[i]);
         }
     }
 }

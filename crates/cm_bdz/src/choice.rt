@@ -1,12 +1,14 @@
 //! The vertex that cells choose for a key.
 ghost use Rattle.std.specs.Prelude.{◌≡◌, ℕ, ◌<◌, ◌≤◌, List, length};
+ghost use Rattle.cm_algo_scheme.specs.declared.answers.TheConstants.{MOST_PLACES};
+ghost use Rattle.cm_bdz.specs.Choices.{AreBdzPlaces, AreChosen};
 ghost use Rattle.cm_bdz.specs.Functions.{IsThirds, chosen_end, chosen_of};
 ghost use Rattle.cm_bdz.specs.Places.{bdz_place};
 ghost use Rattle.cm_spec.specs.Bdz.{bdz_edge};
 ghost use Rattle.cm_spec.specs.Lookup2 as lookup2;
 
 use crate::scheme::place_in;
-use cm_algo_scheme::{Divisor, Place};
+use cm_algo_scheme::{Divisor, MOST_PLACES, Place};
 use cm_bits::Lookup;
 use cm_lookup2::words;
 
@@ -29,6 +31,23 @@ pub fn chosen_among<C: Lookup>(cells: &C, place: &Place) -> u32
 {
     let sum = cells.get(place[0]) + cells.get(place[1]) + cells.get(place[2]);
     place[(sum % 3) as usize]
+}
+
+/// The vertices of some places, as `chosen_among` gives them, each where its place stands. The numbers behind them are any.
+pub(crate) fn chosen_by_all<C: Lookup>(
+    cells: &C,
+    places: &[Place],
+    vertices: &mut [u32; MOST_PLACES],
+)
+    requires few { length places.now ≤ MOST_PLACES }
+    requires size { IsThirds (length (C.cells cells.now)) }
+    requires bound { C.bound_of cells.now ≤ 4 }
+    requires places { AreBdzPlaces (length (C.cells cells.now)) places.now }
+    ensures chosen { AreChosen (C.cells cells.now) places.now (length places.now) vertices.new }
+{
+    for i in 0..places.len() {
+        vertices[i] = chosen_among(cells, &places[i]);
+    }
 }
 
 /// The vertex of a key. The number of cells is three times a number above 0, and cells are below 4 or less.

@@ -49,4 +49,13 @@ impl<'a> Answers for Lent<'a> {
             Lent::Brz(brz) => brz.answer_at(place),
         }
     }
+
+    fn answer_all(&self, places: &[Place], answers: &mut [Option<u32>]) {
+        match self {
+            Lent::Chm(chm) => chm.answer_all(places, answers),
+            Lent::Bdz(bdz) => bdz.answer_all(places, answers),
+            Lent::BdzPh(bdz_ph) => bdz_ph.answer_all(places, answers),
+            Lent::Brz(brz) => brz.answer_all(places, answers),
+        }
+    }
 }

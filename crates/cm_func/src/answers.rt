@@ -47,4 +47,13 @@ impl Answers for Func {
             Func::Brz(brz) => brz.answer_at(place),
         }
     }
+
+    fn answer_all(&self, places: &[Place], answers: &mut [Option<u32>]) {
+        match self {
+            Func::Chm(chm) => chm.answer_all(places, answers),
+            Func::Bdz(bdz) => bdz.answer_all(places, answers),
+            Func::BdzPh(bdz_ph) => bdz_ph.answer_all(places, answers),
+            Func::Brz(brz) => brz.answer_all(places, answers),
+        }
+    }
 }

@@ -1,11 +1,12 @@
 -- Numbers and places of keys, one part after another.
-use Rattle.std.specs.Prelude.{◌≡◌, ℕ, ◌+◌, ◌-◌, ◌≤◌, List, [], ◌∷◌, ◌++◌, Option, length, slice_index_or, refl}
-use Rattle.std.proofs.Common.{arith, ap, ◌∙◌, inl, inr}
+use Rattle.std.specs.Prelude.{◌≡◌, ℕ, ◌+◌, ◌-◌, ◌<◌, ◌≤◌, List, [], ◌∷◌, ◌++◌, Option, None, length, slice_index_or, refl}
+use Rattle.std.proofs.Common.{arith, ap, sym, ◌∙◌, inl, inr}
 use Rattle.std.proofs.lemmas.Bool.{cases_lt}
 use Rattle.std.proofs.lemmas.List.{get_or_append_left, get_or-append_right, length-append}
 use Rattle.cm_keys_lent.specs.Ends.{key_in}
 use Rattle.cm_keys_lent.specs.Pass.{LentPass}
-use Rattle.cm_lib_lent.specs.Numbers.{ArePlaces, ArePut}
+use Rattle.cm_algo_scheme.specs.Answering as together
+use Rattle.cm_lib_lent.specs.Numbers.{AreAnswered, ArePlaces, ArePut}
 
 -- the numbers of some keys, and then those of the next
 pub put_more : (answer : List ℕ → Option ℕ) (keys : LentPass) (from mid until : ℕ) (a b c : List ℕ) → from ≤ mid → mid ≤ until → ArePut answer keys from mid a b → ArePut answer keys mid until b c → ArePut answer keys from until a c
@@ -51,3 +52,17 @@ place_four place keys from x y z t a b c d =
     (places_more place keys (from + 2) (from + 3) (from + 4) (z ∷ []) (t ∷ []) (omega arith) (omega arith)
     (place_one place keys (from + 2) (from + 3) z (omega arith) c)
     (place_one place keys (from + 3) (from + 4) t (omega arith) d)))
+
+-- each of the places is that of a key
+pub places_are : (place : List ℕ → List ℕ) (keys : LentPass) (from until : ℕ) (places : List (List ℕ)) → ArePlaces place keys from until places → together.ArePlaces place places
+places_are place keys from until places are = λ i l.
+    let back : from + i - from ≡ i = omega arith in
+    (key_in keys.bytes keys.ends (from + i), ap (λ k. slice_index_or places k []) (sym back) ∙ are.are (from + i) (omega arith) (omega (arith, l, are.many)))
+
+-- the answers to these places, in front of others, are those of the keys
+pub answers_read : (place : List ℕ → List ℕ) (answer : List ℕ → Option ℕ) (span : ℕ) (keys : LentPass) (from until : ℕ) (places : List (List ℕ)) (answers behind : List (Option ℕ)) → ArePlaces place keys from until places
+    → together.AnswersAll place answer span places answers → AreAnswered answer keys from until (answers ++ behind)
+answers_read place answer span keys from until places answers behind are found = λ i k n.
+    let inside : i - from < length places = omega (arith, k, n, are.many) in
+    get_or_append_left answers behind None (i - from) (omega (arith, inside, found.many))
+    ∙ found.are (i - from) inside (key_in keys.bytes keys.ends i) (are.are i k n)

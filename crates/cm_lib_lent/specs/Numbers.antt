@@ -20,3 +20,7 @@ pub record ArePut (answer : List ℕ → Option ℕ) (keys : LentPass) (from unt
 pub record ArePlaces (place : List ℕ → List ℕ) (keys : LentPass) (from until : ℕ) (places : List (List ℕ)) : Type 0 where
   pub many : length places + from ≡ until
   pub are : (i : ℕ) → from ≤ i → i < until → slice_index_or places (i - from) [] ≡ place (key_in keys.bytes keys.ends i)
+
+-- The answers to the keys from one on are the first of these.
+abbrev pub AreAnswered : (List ℕ → Option ℕ) → LentPass → ℕ → ℕ → List (Option ℕ) → Type 0
+AreAnswered answer keys from until answers = (i : ℕ) → from ≤ i → i < until → slice_index_or answers (i - from) None ≡ answer (key_in keys.bytes keys.ends i)

@@ -1,6 +1,6 @@
 //! The numbers of keys in lent memory.
 ghost use Rattle.std.specs.Prelude.{◌≡◌, ◌≤◌, ◌+◌, Option, length};
-ghost use Rattle.cm_lib_lent.specs.Numbers.{ArePlaces, ArePut};
+ghost use Rattle.cm_lib_lent.specs.Numbers.{AreAnswered, ArePlaces, ArePut};
 ghost use Rattle.cm_lib_lent.specs.Numbers as numbers;
 
 use arrayvec::ArrayVec;
@@ -56,7 +56,25 @@ fn place_keys<A: Answers>(
     }
 }
 
-/// Puts the numbers of the keys from `from` on, up to `until`. All places come first, so that the cache misses of their cells overlap.
+/// The answers to the keys from `from` on, up to `until`. All places come first, so that the cache misses of their cells overlap.
+fn answer_keys<A: Answers>(
+    function: &A,
+    keys: &LentKeys<'_>,
+    from: usize,
+    until: usize,
+    answers: &mut [Option<u32>; MOST],
+)
+    requires order { from ≤ until }
+    requires few { until ≤ from + 32 }
+    requires inside { until ≤ length keys.now.ends }
+    ensures answered { AreAnswered (A.answer_of function.now) keys.now from until answers.new }
+{
+    let mut places = ArrayVec::<Place, MOST>::new();
+    place_keys(function, keys, from, until, &mut places);
+    function.answer_all(places.as_slice(), &mut answers[..until - from]);
+}
+
+/// Puts the numbers of the keys from `from` on, up to `until`.
 fn put_numbers<A: Answers>(
     function: &A,
     keys: &LentKeys<'_>,
@@ -70,11 +88,10 @@ fn put_numbers<A: Answers>(
     requires room { length keys.now.ends ≤ length numbers.old }
     ensures put { ArePut (A.answer_of function.now) keys.now from until numbers.old numbers.new }
 {
-    let mut room = ArrayVec::<Place, MOST>::new();
-    place_keys(function, keys, from, until, &mut room);
-    let places = room.as_slice();
+    let mut answers = [None; MOST];
+    answer_keys(function, keys, from, until, &mut answers);
     for i in from..until {
-        numbers[i] = number_or_none(function.answer_at(&places[i - from]));
+        numbers[i] = number_or_none(answers[i - from]);
     }
 }
 

@@ -2,6 +2,7 @@
 ghost use Rattle.std.specs.Prelude.{◌≡◌, ◌⊎◌, ◌<◌, ◌≤◌, ◌+◌, ◌++◌, ℕ, List, [], ◌∷◌, length, map, slice_index_or, All, Option, IfSome, Ok, IfOk, OnErr, true, false, IsTrue, Some};
 ghost use Rattle.std.specs.Option.{ForSome};
 ghost use Rattle.cm_query_batch.specs.Waiting.{FillsBatch, Takes};
+ghost use Rattle.cm_query_batch.specs.declared.taken.TheConstants.{MOST};
 
 use arrayvec::ArrayVec;
 use cm_algo_scheme::{Answers, Place};
@@ -38,6 +39,17 @@ impl Model for Taken {
     ghost view = { λ t. record { keys = map (key_in t.bytes.items) t.spots.items; bytes = length t.bytes.items } };
 
     ghost invariant = { λ t. All (StandsIn t.bytes.items) t.spots.items };
+}
+
+/// Makes room for as many answers, which are none so far.
+fn make_room(answers: &mut ArrayVec<Option<u32>, MOST>, count: usize)
+    requires few { count ≤ MOST }
+    ensures room { length answers.new.items ≡ count }
+{
+    answers.clear();
+    for i in 0..count {
+        answers.push(None);
+    }
 }
 
 impl Taken {
@@ -194,10 +206,8 @@ impl Taken {
     {
         let mut places = ArrayVec::<Place, MOST>::new();
         self.place_all(function, &mut places);
-        answers.clear();
-        for place in places.as_slice() {
-            answers.push(function.answer_at(place));
-        }
+        make_room(answers, places.len());
+        function.answer_all(places.as_slice(), answers.as_mut_slice());
     }
 
     /// The bytes of key i, counted from 0.
