@@ -8,3 +8,4 @@ mod FourLemmas
 mod GivenLemmas
 mod MarkLemmas
 pub mod SplittingLemmas
+mod StreamLemmas

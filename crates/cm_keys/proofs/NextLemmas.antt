@@ -140,7 +140,7 @@ none_gives max longest end first given told told' place place' ready ready' inv 
     let none : ready ++ drop place x ≡ [] = sym e ∙ rw none_ready (none_left x (t ∙ is)) in
     leaves_none whole given None (subst (IsLeft whole given) (ap (λ (bytes : List ℕ). keys_after max longest first given (pieces end bytes)) none ∙ left_none max longest first given) (inv x is)))
 
-not_open : (given : ℕ) (first : Option ℕ) → IsFull first given → IsOpen first given → ⊥
+pub not_open : (given : ℕ) (first : Option ℕ) → IsFull first given → IsOpen first given → ⊥
 not_open given None full looked = full
 not_open given (Some n) full looked = omega (arith, full, looked)
 

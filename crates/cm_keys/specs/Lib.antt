@@ -1,6 +1,7 @@
 pub mod Lines
 pub mod LinesLaws
 pub mod LinePass
+pub mod Streams
 pub mod Buffering
 pub mod Leaving
 pub mod NumberingLaws

@@ -105,13 +105,13 @@ fn keep(failure: &mut Option<KeyFault>, fault: KeyFault) -> KeyFault
 }
 
 /// Whether a further line is read.
-fn is_open(first: Option<u32>, given: u32) -> bool
+pub(crate) fn is_open(first: Option<u32>, given: u64) -> bool
     ensures open { result ≡ true → IsOpen first given }
     ensures full { result ≡ false → IsFull first given }
 {
     match first {
         None => true,
-        Some(first) => given < first,
+        Some(first) => given < first as u64,
     }
 }
 
@@ -121,7 +121,7 @@ fn may_give(first: Option<u32>, given: u32) -> bool
     ensures few { result ≡ true → given < MAX_KEYS }
     ensures none { result ≡ false → IsFull first given ⊎ (MAX_KEYS ≤ given) }
 {
-    given < MAX_KEYS && is_open(first, given)
+    given < MAX_KEYS && is_open(first, given as u64)
 }
 
 /// Whether this many further lines may be keys.
@@ -200,7 +200,7 @@ impl<S: Source> KeyPass for Keys<S> {
         // A line at fault is the next one.
         ensures fault { IfErr result (IsNextLine MAX_KEYS self.old) }
     {
-        if !is_open(self.first, self.given) {
+        if !is_open(self.first, self.given as u64) {
             return Ok(false);
         }
         if self.given == MAX_KEYS {

@@ -1,7 +1,8 @@
-//! The keys of a source: its lines, as a pass that can be repeated.
+//! The keys of a source: its lines, as a pass that can be repeated, or as a stream that is read once.
 #![tactic(auto)]
 
-ghost use Rattle.std.specs.Prelude.{◌≡◌, ℕ, List, Option};
+ghost use Rattle.std.specs.Prelude.{◌≡◌, ◌-◌, ◌^◌, ℕ, List, Option};
+ghost use Rattle.cm_keys.specs.declared.lines.TheConstants.{MAX_LINES};
 ghost use Rattle.cm_keys.specs.Lines.{lines_of, pieces};
 ghost use Rattle.cm_keys.specs.LinesLaws.{CarriageReturn, EmptyKeys, NoLines, LongestKeys, LongLine, ManyLines, FirstLines, ZeroEnds};
 ghost use Rattle.cm_keys.specs.NumberingLaws.{AreNumbered};
@@ -9,12 +10,19 @@ ghost use Rattle.cm_keys.specs.SplittingLaws.{AreLines};
 
 mod buffered;
 mod keys;
+mod lines;
 
 pub use keys::{Keys, LINE_END};
+pub use lines::{LineFault, Lines, MAX_LINES};
 
 /// A line feed ends a line.
 pub fn line_end()
     ensures { LINE_END ≡ 10 }
+{}
+
+/// Lines are counted by a `u64`, and there are as many as it can count.
+pub fn max_lines()
+    ensures { MAX_LINES ≡ 2 ^ 64 - 1 }
 {}
 
 /// Worked rows of the definition of lines.

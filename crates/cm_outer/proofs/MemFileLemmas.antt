@@ -1,6 +1,6 @@
 -- Files in memory as a finite map.
-use Rattle.std.proofs.Common.{◌≡◌, ◌≢◌, ℕ, zero, suc, ◌+◌, ◌<◌, List, [], ◌∷◌, ◌++◌, length, get_or, map, Bool, true, false, cond, Option, None, Some, refl, sym, ◌∙◌, ap, arith, string_bytes, position}
-use Rattle.std.specs.Prelude.{IsTrue, is_some}
+use Rattle.std.proofs.Common.{◌≡◌, ◌≢◌, ℕ, zero, suc, ◌+◌, ◌<◌, List, [], ◌∷◌, ◌++◌, length, get_or, map, Bool, true, false, cond, Option, None, Some, unwrap_or, Result, Ok, Err, refl, sym, ◌∙◌, ap, arith, string_bytes, position}
+use Rattle.std.specs.Prelude.{IsTrue, OnErr, is_some}
 use Rattle.std.proofs.Math.ListN.{set}
 use Rattle.std.specs.Str.{bytes_eq}
 use Rattle.std.specs.List.{position_from}
@@ -17,6 +17,8 @@ use Rattle.cm_io.specs.Files.{Files}
 use Rattle.cm_outer.specs.MemFiles.{entry_of, files_of}
 use Rattle.cm_outer.specs.declared.mem_file.MemFile.{MemFile}
 use Rattle.cm_io.specs.FilesLaws.{same_path, insert_twice}
+use Rattle.cm_io_append.specs.Extending.{bytes_or_none}
+use Rattle.cm_io_append.specs.ExtendingLaws.{insert_same}
 
 abbrev pub at_path : List ℕ → MemFile → Bool
 at_path path f = bytes_eq (string_bytes f.path) path
@@ -96,3 +98,22 @@ pushed path fs g named none =
     ap maps.from_entries (map-append entry_of fs (g ∷ []))
     ∙ ap (λ (p : List ℕ). maps.from_entries (map entry_of fs ++ (p, g.bytes.items) ∷ [])) named
     ∙ maps.from_entries_push nat_list_cmp_total same_path (map entry_of fs) path g.bytes.items (absent path fs none)
+
+-- What holds anyway holds if there is an error.
+pub on_err : {T E P : Type 0} (result : Result T E) → P → OnErr result P
+on_err (Ok _) holds = tt
+on_err (Err _) holds = holds
+
+-- bytes that are appended to the first file of a path
+pub written_after : (path : List ℕ) (fs : List MemFile) (i : ℕ) (d g : MemFile) (piece : List ℕ) → position (at_path path) fs ≡ Some i → g.path ≡ (get_or fs i d).path → g.bytes.items ≡ (get_or fs i d).bytes.items ++ piece
+    → files_of (set fs i g) ≡ maps.insert (files_of fs) path (bytes_or_none path (files_of fs) ++ piece)
+written_after path fs i d g piece found kept is =
+    written_in_place path fs i d g found kept
+    ∙ ap (λ (bytes : List ℕ). maps.insert (files_of fs) path bytes) (is ∙ ap (λ (held : Option (List ℕ)). unwrap_or held [] ++ piece) (sym (found_there path fs i d found)))
+
+-- the first file of a path, with the bytes that it has
+pub written_again : (path : List ℕ) (fs : List MemFile) (i : ℕ) (d g : MemFile) → position (at_path path) fs ≡ Some i → g.path ≡ (get_or fs i d).path → g.bytes.items ≡ (get_or fs i d).bytes.items → files_of (set fs i g) ≡ files_of fs
+written_again path fs i d g found kept is =
+    written_in_place path fs i d g found kept
+    ∙ ap (λ (bytes : List ℕ). maps.insert (files_of fs) path bytes) is
+    ∙ insert_same (files_of fs) path (get_or fs i d).bytes.items (found_there path fs i d found)

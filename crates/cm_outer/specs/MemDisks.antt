@@ -1,9 +1,10 @@
 -- A disk in memory, as contracts see it.
-use Rattle.std.specs.Prelude.{ℕ, Bool, true, false, List, Option, Result, Ok, Err, refl}
+use Rattle.std.specs.Prelude.{◌-◌, ℕ, length, Bool, true, false, List, Option, Result, Ok, Err, refl}
 use Rattle.std.specs.Coded.{Coded, code_by, coded×, coded_list, coded_option, coded_ℕ}
 use Rattle.std.specs.FinMap as maps
 use Rattle.cm_outer.specs.DiskCalls.{DiskCalls, calls_code}
 use Rattle.cm_io.specs.Files.{Files}
+use Rattle.cm_io_append.specs.Extending.{bytes_or_none}
 use Rattle.cm_io.specs.declared.fault.DiskFault.{DiskFault}
 use Rattle.cm_io.specs.declared.fault.DiskFault.TheVariants as disk_fault
 
@@ -16,6 +17,10 @@ pub record DiskInMemory : Type 0 where
   pub read_faults : ℕ
   pub write_faults : ℕ
   pub calls : DiskCalls
+
+-- how many bytes have room behind those of a path
+abbrev pub room_left : List ℕ → DiskInMemory → ℕ
+room_left path disk = disk.room - length (bytes_or_none path disk.files)
 
 -- whether a call returns `Failed`
 abbrev pub is_failed : {T : Type 0} → Result T DiskFault → Bool

@@ -1,15 +1,17 @@
 //! A disk in memory whose files change and whose spills have a byte that reads wrongly. Its files are not known.
-ghost use Rattle.std.specs.Prelude.{◌≡◌, ◌<◌, [], None, Some, IsOk, IfOk, IfErr, length, map, nat_lt, option_copied};
-ghost use Rattle.std.specs.Option.{ForSome};
+ghost use Rattle.std.specs.Prelude.{◌≡◌, ◌<◌, ◌++◌, [], None, Some, IsOk, IfOk, IfErr, OnOk, OnErr, length, map, nat_lt, option_copied, unwrap_or};
+ghost use Rattle.std.specs.Option.{ForSome, option_map};
 ghost use Rattle.cm_io.specs.Causes.{HasDiskCause, Collects, HasCloseCause};
 ghost use Rattle.cm_io.specs.Files.{Creates, Closes};
 ghost use Rattle.cm_io.specs.Counts.{counted_if};
+ghost use Rattle.cm_io_append.specs.Extending.{Extends};
 ghost use Rattle.cm_outer.specs.TurnSources.{new_turns};
 ghost use Rattle.cm_io_memory.specs.MemSinks.{new_sink};
 ghost use Rattle.cm_outer.specs.BentSpills.{new_bent};
 
 use crate::{BentSpill, TurnSource};
 use cm_io::{Disk, DiskFault, Failed};
+use cm_io_append::AppendDisk;
 use cm_io_memory::MemSink;
 use std::alloc::{AllocError, Global};
 use std::marker::Model;
@@ -165,6 +167,38 @@ impl Disk for BentDisk {
     {
         if spill.has_failed() {
             self.write_faults = self.write_faults.saturating_add(1);
+        }
+    }
+}
+
+impl AppendDisk for BentDisk {
+    fn append(&mut self, path: &str, piece: &[u8], _last: bool) -> Result<(), DiskFault>
+        ensures files { Extends path.now piece.now None None result }
+        ensures cause { HasDiskCause self.old.write_faults self.new.write_faults result }
+
+        // Appends to what the writer that was last closed held, or fails if memory runs out. Nothing else changes.
+        ensures memory { IfErr result (λ fault. fault ≡ DiskFault.Memory) }
+        ensures ok { OnOk result (self.new ≡ record self.old { made = Some (unwrap_or self.old.made [] ++ piece.now) }) }
+        ensures err { OnErr result (self.new ≡ self.old) }
+    {
+        append_to(self.alloc, &mut self.made, piece)?;
+        Ok(())
+    }
+}
+
+/// Appends bytes to those that are there, or to none. If memory runs out, they stay as before.
+fn append_to(alloc: Global, made: &mut Option<Vec<u8>>, piece: &[u8]) -> Result<(), AllocError>
+    ensures ok { OnOk result (option_map (λ v. v.items) made.new ≡ Some (unwrap_or (option_map (λ v. v.items) made.old) [] ++ piece.now)) }
+    ensures err { OnErr result (option_map (λ v. v.items) made.new ≡ option_map (λ v. v.items) made.old) }
+{
+    match made {
+        Some(bytes) => {
+            bytes.extend_from_slice(piece)?;
+            Ok(())
+        }
+        None => {
+            *made = Some(piece.to_vec(alloc)?);
+            Ok(())
         }
     }
 }

@@ -1,6 +1,6 @@
 //! The kinds of calls that can be made to fail in a disk in memory.
 
-/// A kind of call. The first four are a disk's own; the others are those of each reader, writer and spill that it makes.
+/// A kind of call. The first five are a disk's own; the others are those of each reader, writer and spill that it makes.
 #[derive(Clone, Copy, Debug, PartialEq, Eq)]
 pub enum DiskCall {
     /// `open` of the disk.
@@ -9,6 +9,8 @@ pub enum DiskCall {
     Create,
     /// `close` of the disk.
     Close,
+    /// `append` of the disk, to a file.
+    Extend,
     /// `spill` of the disk.
     Spill,
     /// `read` of a reader.

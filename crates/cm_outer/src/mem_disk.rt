@@ -1,25 +1,27 @@
 //! A disk in memory.
-ghost use Rattle.std.specs.Prelude.{◌≡◌, ◌<◌, ◌↔◌, ◌⊎◌, ◌++◌, ◌∷◌, ◌||◌, [], None, Some, IfOk, OnOk, OnErr, IsErr, Contains, is_err, nat_lt, option_copied};
+ghost use Rattle.std.specs.Prelude.{◌≡◌, ◌<◌, ◌≤◌, ◌+◌, ◌-◌, ◌↔◌, ◌⊎◌, ◌++◌, ◌∷◌, ◌||◌, [], None, Some, IfOk, OnOk, OnErr, IsErr, Contains, is_err, length, min, nat_lt, option_copied, take};
 ghost use Rattle.std.specs.FinMap as maps;
 ghost use Rattle.std.specs.Option.{ForSome};
 ghost use Rattle.cm_io.specs.Causes.{HasDiskCause, Collects, HasCloseCause};
 ghost use Rattle.cm_io.specs.Files.{IsThere, Opens, Creates, Closes, file_at};
 ghost use Rattle.cm_io.specs.Counts.{counted, counted_if};
+ghost use Rattle.cm_io_append.specs.Extending.{Extends, extended};
 ghost use Rattle.cm_outer.specs.DiskCalls.{no_calls, numbers};
-ghost use Rattle.cm_outer.specs.MemDisks.{is_failed};
+ghost use Rattle.cm_outer.specs.MemDisks.{is_failed, room_left};
 ghost use Rattle.cm_io_memory.specs.MemSources.{new_source};
 ghost use Rattle.cm_io_memory.specs.MemSinks.{new_sink};
 ghost use Rattle.cm_io_memory.specs.MemSpills.{new_spill};
 
 use crate::DiskCall;
 use crate::listed_calls::{next_is_listed, sink_of, source_of, spill_of};
-use crate::mem_file::{MemFile, bytes_at, set_bytes};
+use crate::mem_file::{MemFile, bytes_at, extend_bytes, set_bytes};
 use cm_io::{Disk, DiskFault, Failed};
+use cm_io_append::AppendDisk;
 use cm_io_memory::{MemSink, MemSource, MemSpill};
 use std::alloc::{AllocError, Global};
 use std::marker::Model;
 
-/// Files in memory. Each writer and each spill has room for `room` bytes. An `open` of a path that isn't there fails, and so does each
+/// Files in memory. Each writer and each spill has room for `room` bytes, and so has each file that is appended to. An `open` of a path that isn't there fails, and so does each
 /// listed call. A call is listed by its kind and its number among the calls of that kind, from 0; one that fails counts too, also if
 /// memory ran out.
 #[derive(Drop)]
@@ -34,6 +36,7 @@ pub struct MemDisk {
     opens: u64,
     creates: u64,
     closes: u64,
+    extends: u64,
     spills: u64,
 }
 
@@ -52,7 +55,7 @@ impl Model for MemDisk {
       spilled = option_map (λ v. v.items) d.spilled;
       read_faults = d.read_faults;
       write_faults = d.write_faults;
-      calls = record { listed = d.listed.items; opens = d.opens; creates = d.creates; closes = d.closes; spills = d.spills };
+      calls = record { listed = d.listed.items; opens = d.opens; creates = d.creates; closes = d.closes; extends = d.extends; spills = d.spills };
     } };
 }
 
@@ -72,12 +75,13 @@ impl MemDisk {
             opens: 0,
             creates: 0,
             closes: 0,
+            extends: 0,
             spills: 0,
         }
     }
 
-    /// Lists one more call that fails: the call with this number, from 0, among the calls of its kind. `Open`, `Create`, `Close` and
-    /// `Spill` are the disk's own calls. The other kinds are counted for each reader, writer or spill by itself, and fail in each that
+    /// Lists one more call that fails: the call with this number, from 0, among the calls of its kind. `Open`, `Create`, `Close`,
+    /// `Extend` and `Spill` are the disk's own calls. The other kinds are counted for each reader, writer or spill by itself, and fail in each that
     /// is made from now on. If memory runs out, the list stays as before.
     pub fn fail(&mut self, call: DiskCall, number: u64) -> Result<(), AllocError>
         ensures ok { OnOk result (self.new ≡ record self.old {
@@ -130,6 +134,17 @@ impl MemDisk {
         let sink = sink_of(self.alloc, self.room, &self.listed)?;
         set_bytes(self.alloc, &mut self.files, path, Vec::new(self.alloc))?;
         Ok(sink)
+    }
+
+    /// The first of these bytes, as many as have room behind those of a path.
+    fn fitting<'a>(&self, path: &str, piece: &'a [u8]) -> &'a [u8]
+        ensures fits { result.now ≡ take (room_left path.now self.now) piece.now }
+    {
+        let len = match bytes_at(&self.files, path) {
+            Some(bytes) => bytes.len(),
+            None => 0,
+        };
+        &piece[..self.room.saturating_sub(len).min(piece.len())]
     }
 }
 
@@ -283,5 +298,40 @@ impl Disk for MemDisk {
             self.write_faults = self.write_faults.saturating_add(1);
         }
         self.spilled = Some(spill.into_bytes());
+    }
+}
+
+impl AppendDisk for MemDisk {
+    fn append(&mut self, path: &str, piece: &[u8], _last: bool) -> Result<(), DiskFault>
+        requires there { IsThere path.now (Some self.old.files) }
+        ensures files { Extends path.now piece.now (Some self.old.files) (Some self.new.files) result }
+        ensures spilled { self.new.spilled ≡ self.old.spilled }
+        ensures read_faults { self.new.read_faults ≡ self.old.read_faults }
+        ensures cause { HasDiskCause self.old.write_faults self.new.write_faults result }
+
+        // Returns `Failed` if it is listed, and then appends nothing, and if the piece doesn't fit, and then appends what does.
+        ensures listed { Contains self.old.calls.listed (DiskCall.Extend, self.old.calls.extends) →
+            (result ≡ Err DiskFault.Failed) × (self.new.files ≡ self.old.files) }
+        ensures fits { OnOk result (length piece.now ≤ room_left path.now self.old) }
+        ensures full { result ≡ Err DiskFault.Failed → Contains self.old.calls.listed (DiskCall.Extend, self.old.calls.extends)
+            ⊎ ((room_left path.now self.old < length piece.now)
+            × (Some self.new.files ≡ extended path.now (take (room_left path.now self.old) piece.now) (Some self.old.files))) }
+        ensures state { self.new ≡ record self.old {
+          files = self.new.files;
+          write_faults = counted_if (is_failed result) self.old.write_faults;
+          calls = record self.old.calls { extends = counted self.old.calls.extends };
+        } }
+    {
+        if next_is_listed(&self.listed, DiskCall::Extend, &mut self.extends) {
+            self.write_faults = self.write_faults.saturating_add(1);
+            return Err(DiskFault::Failed);
+        }
+        let part = self.fitting(path, piece);
+        extend_bytes(&mut self.files, path, part)?;
+        if part.len() < piece.len() {
+            self.write_faults = self.write_faults.saturating_add(1);
+            return Err(DiskFault::Failed);
+        }
+        Ok(())
     }
 }

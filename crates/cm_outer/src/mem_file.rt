@@ -1,8 +1,9 @@
 //! Files in memory.
-ghost use Rattle.std.specs.Prelude.{◌≡◌, OnOk, OnErr, IsOk, IsTrue, position, string_bytes, option_copied};
+ghost use Rattle.std.specs.Prelude.{◌≡◌, ◌++◌, OnOk, OnErr, IsOk, IsTrue, position, string_bytes, option_copied};
 ghost use Rattle.std.specs.FinMap as maps;
 ghost use Rattle.std.specs.Str.{bytes_eq};
 ghost use Rattle.cm_io.specs.Files.{file_at};
+ghost use Rattle.cm_io_append.specs.Extending.{bytes_or_none};
 ghost use Rattle.cm_outer.specs.MemFiles.{files_of};
 
 use std::alloc::{AllocError, Global};
@@ -52,4 +53,23 @@ pub(crate) fn set_bytes(
         }
     }
     Ok(())
+}
+
+/// Appends these bytes to those of a path, which is there. If memory runs out, the files stay as before.
+pub(crate) fn extend_bytes(
+    files: &mut [MemFile],
+    path: &str,
+    piece: &[u8],
+) -> Result<(), AllocError>
+    requires there { IsTrue (maps.contains_key (files_of files.old) path.now) }
+    ensures ok { OnOk result (files_of files.new ≡ maps.insert (files_of files.old) path.now (bytes_or_none path.now (files_of files.old) ++ piece.now)) }
+    ensures err { OnErr result (files_of files.new ≡ files_of files.old) }
+{
+    match place_of(files, path) {
+        Some(i) => {
+            files[i].bytes.extend_from_slice(piece)?;
+            Ok(())
+        }
+        None => unreachable!(),
+    }
 }

@@ -7,13 +7,15 @@ ghost use Rattle.std.specs.Option.{ForSome};
 ghost use Rattle.cm_io.specs.Causes.{HasCause, HasCloseCause, HasDiskCause, Collects};
 ghost use Rattle.cm_io.specs.Counts.{counted, counted_if};
 ghost use Rattle.cm_io.specs.Files.{Closes, Creates, Opens};
+ghost use Rattle.cm_io_append.specs.Extending.{Extends};
 ghost use Rattle.cm_real.specs.Spills.{spill_path_of};
 
 use crate::{FileSpill, StdSink};
 use cm_io::{Disk, DiskFault, Failed, Sink, Source, Spill};
+use cm_io_append::AppendDisk;
 use std::alloc::{AllocError, Global};
 use std::fs::OpenFile;
-use std::io::{ErrorKind, Read, Seek, SeekFrom};
+use std::io::{ErrorKind, Read, Seek, SeekFrom, Write};
 use std::os::unix::fs::OpenOptionsExt;
 use std::path::Path;
 use std::rt::Files;
@@ -109,6 +111,23 @@ fn is_synced<F: OpenFile>(file: &F) -> bool {
         }
     }
     false
+}
+
+/// Opens the file of a path, and appends a piece to it. None if that fails: a prefix of the piece may have been appended then.
+fn extended<R: Files>(rt: &R, path: &str, piece: &[u8]) -> Option<R::File>
+    ensures taken { IfSome result (λ file. (before : R.File) × Appends (R.File.contents before) (R.File.contents file) piece.now) }
+{
+    let mut options = fs::OpenOptions::new();
+    let _ = options.append(true);
+    match open_with(rt, &options, path) {
+        Ok(mut file) => {
+            if file.write_all(piece).is_err() {
+                return None;
+            }
+            Some(file)
+        }
+        Err(_) => None,
+    }
 }
 
 /// The path of the spill in a directory, for the process with this number.
@@ -275,6 +294,28 @@ impl<'a, R: Files> Disk for FileDisk<'a, R> {
         let _ = fs::remove_file(self.rt, path.as_str());
         if faults > 0 {
             self.write_faults = self.write_faults.saturating_add(1);
+        }
+    }
+}
+
+impl<'a, R: Files> AppendDisk for FileDisk<'a, R> {
+    fn append(&mut self, path: &str, piece: &[u8], last: bool) -> Result<(), DiskFault>
+        ensures files { Extends path.now piece.now None None result }
+        ensures read_faults { self.new.read_faults ≡ self.old.read_faults }
+        ensures cause { HasDiskCause self.old.write_faults self.new.write_faults result }
+
+        // A file has the piece behind the bytes that it had.
+        ensures taken { OnOk result ((before : R.File) × (after : R.File) × Appends (R.File.contents before) (R.File.contents after) piece.now) }
+
+        // A failure counts once, and nothing else does.
+        ensures count { self.new.write_faults ≡ counted_if (is_err result) self.old.write_faults }
+    {
+        match extended(self.rt, path, piece) {
+            Some(file) if !last || is_synced(&file) => Ok(()),
+            _ => {
+                self.write_faults = self.write_faults.saturating_add(1);
+                Err(DiskFault::Failed)
+            }
         }
     }
 }

@@ -1,7 +1,8 @@
 //! Real files, folders and spills, and sinks over std's writers.
 use crate::equal::{expect_bytes, expect_equal, expect_true};
-use crate::memory::{Uses, store};
+use crate::memory::{Uses, store, store_pieces};
 use cm_io::{Disk, DiskFault, Failed, Source, Spill, write_pieces};
+use cm_io_append::{AppendDisk, read_whole};
 use cm_real::{FileDisk, StdSink};
 use std::alloc::{AllocError, AllocGlobal, Global};
 use std::fs;
@@ -68,6 +69,35 @@ fn a_file_is_written_and_read(rt: HostRuntime) -> Result<(), Fail> {
         &rt,
         matches!(disk.open(path.as_str()), Err(DiskFault::Failed)),
     );
+    Ok(())
+}
+
+/// All bytes of a file.
+fn whole_file<D: Disk>(alloc: Global, disk: &mut D, path: &str) -> Result<Vec<u8>, DiskFault> {
+    let mut reader = disk.open(path)?;
+    let outcome = read_whole(alloc, &mut reader);
+    disk.shut(reader);
+    outcome
+}
+
+#[test]
+fn a_file_is_appended_to(rt: HostRuntime) -> Result<(), Fail> {
+    let path = new_file(&rt)?;
+    let mut disk = FileDisk::new(&rt, rt.alloc(), 7);
+    let stored = store(&mut disk, path.as_str(), b"an earlier one");
+    let pieces = store_pieces(&mut disk, path.as_str(), b"abc", b"def");
+    let more = disk.append(path.as_str(), b"gh", false);
+    let whole = whole_file(rt.alloc(), &mut disk, path.as_str());
+    fs::remove_file(&rt, path.as_str())?;
+    expect_equal(&rt, &[stored, pieces, more], &[Ok(()); 3]);
+    match whole {
+        Ok(bytes) => expect_bytes(&rt, bytes.as_slice(), b"abcdefgh"),
+        Err(fault) => expect_equal(&rt, &Err(fault), &Ok(())),
+    }
+    // A file that isn't there is not made.
+    let missing = disk.append(path.as_str(), b"a", true);
+    expect_equal(&rt, &missing, &Err(DiskFault::Failed));
+    expect_true(&rt, !fs::exists(&rt, path.as_str())?);
     Ok(())
 }
 

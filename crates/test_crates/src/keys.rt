@@ -10,7 +10,7 @@ use std::process::Abort;
 use std::test::Fail;
 
 /// The bytes of a key, or how many they are if there are many.
-fn key_text(alloc: Global, key: &[u8]) -> Result<String, AllocError> {
+pub fn key_text(alloc: Global, key: &[u8]) -> Result<String, AllocError> {
     if key.len() > 9 {
         return format!(in alloc; "{} bytes", key.len());
     }

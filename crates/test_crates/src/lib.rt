@@ -14,6 +14,8 @@ mod graph;
 #[cfg(test)]
 mod keys;
 #[cfg(test)]
+mod lines;
+#[cfg(test)]
 mod lookup2;
 #[cfg(test)]
 mod made;

@@ -1,6 +1,7 @@
 //! Hash values that were published, and those that another program computed.
 use crate::equal::expect_equal_at;
 use cm_lookup2::{words, words_of_four, words_under_four};
+use cm_route::{ROUTE_SEED, Route};
 use std::test::Fail;
 
 const TEXT: &[u8] = b"abcdefghijklmnopqrstuvwxyz";
@@ -87,6 +88,25 @@ fn hash_values_of_four_keys(rt: HostRuntime) -> Result<(), Fail> {
         for i in 0..4 {
             expect_equal_at(&rt, &(n, i), &four.at(i), &PREFIXES[n + i - 2]);
         }
+    }
+    Ok(())
+}
+
+/// Keys, numbers of shards, and the shard of each key under the seed of split files, by another program.
+const SHARDS: [(&[u8], u32, u32); 6] = [
+    (b"", 4_096, 1_001),
+    (b"a", 4_096, 969),
+    (b"b", 1, 0),
+    (b"\n", 4_096, 3_168),
+    (b"key-0000000000", 7, 5),
+    (TEXT, 7, 4),
+];
+
+#[test]
+fn shards(rt: HostRuntime) -> Result<(), Fail> {
+    for (key, shards, expected) in &SHARDS {
+        let shard = Route::new(ROUTE_SEED, *shards).shard(*key);
+        expect_equal_at(&rt, &(*key, *shards), &shard, expected);
     }
     Ok(())
 }

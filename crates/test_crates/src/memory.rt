@@ -6,7 +6,8 @@ ghost use Rattle.cm_io.specs.Writing.{Writes};
 
 use crate::equal::{expect_bytes, expect_equal, expect_true};
 use cm_io::{Disk, DiskFault, Failed, Notes, Sink, Source, Spill, write_pieces};
-use cm_outer::{MemDisk, MemSink, MemSource, MemSpill};
+use cm_io_append::AppendDisk;
+use cm_outer::{BentDisk, DiskCall, MemDisk, MemSink, MemSource, MemSpill};
 use std::test::Fail;
 
 // Each of these goes through the bounds alone.
@@ -25,6 +26,19 @@ pub fn store<D: Disk>(disk: &mut D, path: &str, bytes: &[u8]) -> Result<(), Disk
     disk.close(path, writer)?;
     wrote?;
     Ok(())
+}
+
+/// Makes an empty file, and appends two pieces to it.
+pub fn store_pieces<D: AppendDisk>(
+    disk: &mut D,
+    path: &str,
+    first: &[u8],
+    last: &[u8],
+) -> Result<(), DiskFault> {
+    let writer = disk.create(path)?;
+    disk.close(path, writer)?;
+    disk.append(path, first, false)?;
+    disk.append(path, last, true)
 }
 
 fn first_bytes<D: Disk>(disk: &mut D, path: &str, buf: &mut [u8]) -> Result<usize, DiskFault> {
@@ -175,5 +189,44 @@ fn files_are_kept(rt: HostRuntime) -> Result<(), Fail> {
     );
     expect_true(&rt, holds(&disk, "out", b"1234"));
     expect_true(&rt, holds(&disk, "keys", b"a\nb\n"));
+    Ok(())
+}
+
+/// Two appends to a file with room for six bytes, of which one may be listed, and what the file has then.
+const APPENDS: [(Option<u64>, &[u8], &[u8], Result<(), DiskFault>, &[u8]); 5] = [
+    (None, b"abc", b"def", Ok(()), b"abcdef"),
+    (None, b"", b"abc", Ok(()), b"abc"),
+    (None, b"abcd", b"efg", Err(DiskFault::Failed), b"abcdef"),
+    (Some(0), b"abc", b"def", Err(DiskFault::Failed), b""),
+    (Some(1), b"abc", b"def", Err(DiskFault::Failed), b"abc"),
+];
+
+#[test]
+fn files_are_appended_to(rt: HostRuntime) -> Result<(), Fail> {
+    for (listed, first, last, outcome, bytes) in &APPENDS {
+        let mut disk = MemDisk::new(rt.alloc(), 6);
+        disk.put("keys", b"a\nb\n")?;
+        if let Some(number) = listed {
+            disk.fail(DiskCall::Extend, *number)?;
+        }
+        let stored = store_pieces(&mut disk, "out", *first, *last);
+        expect_equal(&rt, &stored, outcome);
+        expect_true(&rt, holds(&disk, "out", *bytes));
+        expect_true(&rt, holds(&disk, "keys", b"a\nb\n"));
+        expect_equal(&rt, &disk.write_faults(), &(outcome.is_err() as u64));
+    }
+    Ok(())
+}
+
+#[test]
+fn a_disk_with_unknown_files_is_appended_to(rt: HostRuntime) -> Result<(), Fail> {
+    let alloc = rt.alloc();
+    let passes = vec![in alloc; b"a\n".to_vec(alloc)?]?;
+    let mut disk = BentDisk::new(alloc, 9, passes, 0, 7);
+    expect_equal(&rt, &disk.append("new", b"a", false), &Ok(()));
+    expect_equal(&rt, &disk.made(), &Some(b"a".as_slice()));
+    let stored = store_pieces(&mut disk, "out", b"abc", b"def");
+    expect_equal(&rt, &stored, &Ok(()));
+    expect_equal(&rt, &disk.made(), &Some(b"abcdef".as_slice()));
     Ok(())
 }

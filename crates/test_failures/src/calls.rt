@@ -30,6 +30,7 @@ fn status_of(call: DiskCall) -> u8 {
         DiskCall::Open | DiskCall::Read | DiskCall::Rewind => 4,
         DiskCall::Create
         | DiskCall::Close
+        | DiskCall::Extend
         | DiskCall::Write
         | DiskCall::Spill
         | DiskCall::Append

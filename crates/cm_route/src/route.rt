@@ -1,12 +1,18 @@
 //! The shard that a key is in, if keys are split into shards.
-ghost use Rattle.std.specs.Prelude.{◌≡◌, ◌≤◌, ◌∷◌, [], ℕ, List, Some};
-ghost use Rattle.cm_lib_lent.specs.Routes.{shard_of};
+ghost use Rattle.std.specs.Prelude.{◌≡◌, ◌<◌, ◌≤◌, ◌∷◌, [], ℕ, List, Some};
+ghost use Rattle.cm_route.specs.Routes.{shard_of};
 ghost use Rattle.cm_spec.specs.Lookup2 as lookup2;
 ghost use Rattle.cm_spec.specs.declared.limits.TheConstants.{MAX_VERTICES};
 
 use cm_algo_scheme::{Answers, Divisor, Place};
 use cm_lookup2::{words, words_of_four};
 use std::marker::Model;
+
+/// The seed of the route of keys that are split into files.
+pub const ROUTE_SEED: u32 = 1_397_244_242;
+
+/// How many files keys are split into at most.
+pub const MAX_SHARDS: u32 = 4_096;
 
 /// A route of keys into shards, as a function from keys to numbers: the shard of a key, counted from 0, is the third hash value of
 /// lookup2 (Jenkins 1997) under a seed, modulo the number of shards. Clauses see the seed and the number of shards.
@@ -18,7 +24,7 @@ pub struct Route {
 
 impl Model for Route {
     ghost use Rattle.std.specs.Prelude.{◌≤◌};
-    ghost use Rattle.cm_lib_lent.specs.Routes as routes;
+    ghost use Rattle.cm_route.specs.Routes as routes;
     ghost use Rattle.cm_spec.specs.declared.limits.TheConstants.{MAX_VERTICES};
 
     ghost Value = { routes.Route };
@@ -48,6 +54,14 @@ impl Route {
         ensures few { result ≤ MAX_VERTICES }
     {
         self.shards.value()
+    }
+
+    /// The shard of a key, counted from 0.
+    pub fn shard(&self, key: &[u8]) -> u32
+        ensures shard { result ≡ shard_of self.now key.now }
+        ensures below { result < self.now.shards }
+    {
+        self.shards.rem(words(key, self.seed)[2])
     }
 
     /// The shard of a key of these hash values, as a place.

@@ -1,7 +1,7 @@
 use Rattle.std.proofs.Common.{arith, ◌<◌, ap, subst, sym, ℕ}
 use Rattle.std.proofs.lemmas.Nat.{mod_below}
 use Rattle.std.specs.List.{slice_index_or}
-use Rattle.cm_lib_lent.proofs.route.RouteAnswers.answer_at.Goals as goal
+use Rattle.cm_route.proofs.route.RouteAnswers.answer_at.Goals as goal
 
 -- the shard of some key, which is below their number
 pub returns-clause-inside : goal.returns-clause-inside

@@ -1,0 +1,19 @@
+//! What a disk is that can append to a file.
+ghost use Rattle.std.specs.Prelude.{◌≡◌};
+ghost use Rattle.cm_io.specs.Causes.{HasDiskCause};
+ghost use Rattle.cm_io.specs.Files.{IsThere};
+ghost use Rattle.cm_io_append.specs.Extending.{Extends};
+
+use cm_io::{Disk, DiskFault};
+
+/// A disk that can append to a file.
+pub trait AppendDisk: Disk {
+    /// Appends a piece to the file of a path, which is there. `last` says that nothing more comes: the file is synced then. Returns
+    /// `Failed` exactly if the count of write faults rises, and a prefix of the piece was appended then. If memory runs out, nothing was.
+    fn append(&mut self, path: &str, piece: &[u8], last: bool) -> Result<(), DiskFault>
+        requires there { IsThere path.now (Self.state self.old).files }
+        ensures files { Extends path.now piece.now (Self.state self.old).files (Self.state self.new).files result }
+        ensures spilled { (Self.state self.new).spilled ≡ (Self.state self.old).spilled }
+        ensures read_faults { (Self.state self.new).read_faults ≡ (Self.state self.old).read_faults }
+        ensures cause { HasDiskCause (Self.state self.old).write_faults (Self.state self.new).write_faults result };
+}
