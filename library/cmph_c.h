@@ -42,12 +42,14 @@ extern "C" {
 #define CMPH_C_EQUAL_KEYS 17    /* key `again` is equal to key `at` */
 #define CMPH_C_NO_SEED 18       /* no seed works */
 #define CMPH_C_BAD_SHARDS 19    /* there are no shards, or too many */
+#define CMPH_C_NO_SPILL 20      /* the spill is too small: `at` bytes are needed */
+#define CMPH_C_NO_SPLIT 21      /* every seed leaves a bucket with too many keys */
 
 /* The algorithms. */
 #define CMPH_C_CHM 1    /* numbers in the order of the keys */
 #define CMPH_C_BDZ 2    /* all numbers below the number of keys */
 #define CMPH_C_BDZ_PH 3 /* numbers with gaps, in the least room */
-#define CMPH_C_BRZ 4    /* all numbers below the number of keys, for many keys: it is opened and asked, and built by the program cmph alone */
+#define CMPH_C_BRZ 4    /* all numbers below the number of keys, for many keys: built by cmph_c_build_brz alone */
 
 /* Where a fault is: an offset in bytes, how many bytes or numbers are needed, or the index of a key, from 0, as the code says. */
 typedef struct cmph_c_place {
@@ -83,9 +85,9 @@ typedef struct cmph_c_function {
 
 /* How a function is built. */
 typedef struct cmph_c_plan {
-    uint32_t algorithm; /* CMPH_C_CHM, CMPH_C_BDZ or CMPH_C_BDZ_PH */
-    uint32_t ratio;     /* vertices a key, from 1000000 to 10000000 millionths: 1230000 for BDZ and BDZ_PH, 2090000 for CHM */
-    uint32_t b;         /* by BDZ: a rank for every 2^b cells, from 3 to 10 */
+    uint32_t algorithm; /* CMPH_C_CHM, CMPH_C_BDZ or CMPH_C_BDZ_PH; CMPH_C_BRZ for cmph_c_build_brz */
+    uint32_t ratio;     /* vertices a key, from 1000000 to 10000000 millionths: 2090000 for CHM, 1230000 for the others */
+    uint32_t b;         /* by BDZ: a rank for every 2^b cells, from 3 to 10; by BRZ: keys a bucket on average, from 64 to 700, 128 say */
     uint32_t seed;      /* the first seed */
     uint32_t tries;     /* how many seeds are tried, from 1 to 1000 */
 } cmph_c_plan;
@@ -113,30 +115,26 @@ uint32_t cmph_c_answers(const cmph_c_function *function, const uint8_t *keys, si
                         uint32_t *numbers, size_t numbers_len, cmph_c_place *place);
 
 /*
- * How many bytes the file of a function of `keys` keys has that is built by this plan: what cmph_c_build needs. 0 if a number of the plan is not in its
- * range, or there are no keys, or more than 67,108,864.
- */
-uint64_t cmph_c_room(const cmph_c_plan *plan, uint32_t keys);
-
-/*
- * Builds the function of keys, which stand one after another as in cmph_c_answers, and puts its file into the first bytes of `room`. *written is how
- * many. CMPH_C_NO_ROOM says in place->at how many bytes are needed, CMPH_C_EQUAL_KEYS which two keys are equal. Memory is taken by malloc, and freed.
- */
-uint32_t cmph_c_build(const uint8_t *keys, size_t keys_len, const uint64_t *ends, size_t ends_len, const cmph_c_plan *plan, uint8_t *room,
-                      size_t room_len, uint64_t *written, cmph_c_place *place);
-
-/*
- * Builds the function of keys, which stand one after another as in cmph_c_answers, and puts its file into the first bytes of `room`. *written is how
- * many. CMPH_C_NO_ROOM says in place->at how many bytes are needed, CMPH_C_EQUAL_KEYS which two keys are equal. Memory is taken by malloc, and freed.
- */
-uint32_t cmph_c_build(const uint8_t *keys, size_t keys_len, const uint64_t *ends, size_t ends_len, const cmph_c_plan *plan, uint8_t *room,
-                      size_t room_len, uint64_t *written, cmph_c_place *place);
-
-/*
  * How many bytes the file of a function of `keys` keys has that is built by this plan: as many as cmph_c_build writes, whichever keys they are. 0 if
- * a number of the plan is not in its range, or there are no keys, or more than 67,108,864. Nothing is built, and no memory is taken.
+ * a number of the plan is not in its range, or there are no keys, or more than 67,108,864, and by BRZ. Nothing is built, and no memory is taken.
  */
 uint64_t cmph_c_room(const cmph_c_plan *plan, uint32_t keys);
+
+/*
+ * Builds the function of keys, which stand one after another as in cmph_c_answers, and puts its file into the first bytes of `room`. *written is how
+ * many. CMPH_C_NO_ROOM says in place->at how many bytes are needed, CMPH_C_EQUAL_KEYS which two keys are equal. Memory is taken by malloc, and freed.
+ */
+uint32_t cmph_c_build(const uint8_t *keys, size_t keys_len, const uint64_t *ends, size_t ends_len, const cmph_c_plan *plan, uint8_t *room,
+                      size_t room_len, uint64_t *written, cmph_c_place *place);
+
+/*
+ * The same by BRZ. The keys are stored in the `spill_len` bytes at `spill`, of which they need ends[ends_len - 1] + 10 * ends_len: CMPH_C_NO_SPILL says so in
+ * place->at, before anything is built. It has any bytes afterwards, and overlaps neither the keys nor the room. How many bytes the file has depends on the
+ * keys, and CMPH_C_NO_ROOM says it in place->at; 24 + 9 * (ends_len / b + 1) + ratio * ends_len / 4000000 + 1 suffice. CMPH_C_NO_SEED: for some bucket no
+ * seed works. CMPH_C_NO_SPLIT: more seeds, or a lower b, may help.
+ */
+uint32_t cmph_c_build_brz(const uint8_t *keys, size_t keys_len, const uint64_t *ends, size_t ends_len, const cmph_c_plan *plan, uint8_t *spill,
+                          size_t spill_len, uint8_t *room, size_t room_len, uint64_t *written, cmph_c_place *place);
 
 /*
  * Which of `shards` shards each key is in: the third hash value of lookup2 under a seed, modulo their number. `out_len` is at least `ends_len`.

@@ -26,7 +26,7 @@ HEADER = TOP / "library" / "cmph_c.h"
 CALLER = TOP / "tests" / "library" / "caller.c"
 ALGORITHMS = ["chm", "bdz", "bdz_ph", "brz"]
 PLANS = {"chm": (1, 2_090_000), "bdz": (2, 1_230_000), "bdz_ph": (3, 1_230_000)}  # of the algorithms that the library builds by
-LONGEST = {"chm": 455_836_984, "bdz": 23_215_501, "bdz_ph": 16_508_805}  # bytes of the file of MOST_KEYS keys (docs/formats.md)
+LONGEST = {"chm": 455_836_984, "bdz": 23_215_501, "bdz_ph": 16_508_805}  # bytes of the file of MOST_KEYS keys (docs/use/formats.md)
 MOST_KEYS = 67_108_864
 FAULTS = ["", "", "truncated at", "bad magic", "bad algorithm", "bad field at", "bad padding at", "bad cell at", "bad count at", "bad rank at", "trailing bytes"]
 CODES = {"chm": {0, 2, 3, 4, 5, 6, 7, 10}, "bdz": {0, 2, 3, 4, 5, 6, 8, 9, 10}, "bdz_ph": {0, 2, 3, 4, 5, 6, 7, 10}, "brz": {0, 2, 3, 4, 5, 6, 8, 10}}  # of damaged dumps
@@ -163,6 +163,34 @@ def builds(room, caller, algorithm):
     case(f"{algorithm}: no keys", (said_of := built(room, caller, "none", plan)) != "16 0 0" and said_of)
 
 
+def spilled(room, caller, keys, plan, seed=0, tries=5):
+    """The code and the place of a build by BRZ."""
+    left = run(caller, "spilled", *plan, seed, tries, keys, "built", cwd=room)
+    return left.stderr or left.stdout.strip()
+
+
+def spills(room, caller, watch):
+    """Builds by BRZ, with the least spill and the least room, beside the files of cmph."""
+    for keys, ratio, b in (("words", 1_230_000, 64), ("words", 10_000_000, 700), ("few", 1_230_000, 128), ("some", 1_230_000, 128), ("many", 1_230_000, 128)):
+        said_of = spilled(room, caller, keys, (ratio, b), 5, 50)
+        run(CMPH, "-g", "-a", "brz", "-c", f"{ratio / 1e6:g}", "-b", b, "-s", 5, "-r", 50, "-m", "wanted", keys, cwd=room)
+        same = (room / "built").read_bytes() == (room / "wanted").read_bytes()
+        case(f"brz: a build of {keys} in memory, {b} keys a bucket", said_of != "0 0 0" and said_of or not same)
+    equal = "".join(f"{line}\n" for line in ["a"] + ["b"] * 1100)  # more than a bucket may have
+    for text, wanted in (("a\nb\nc\nb\na\n", "17 1 3"), ("b\na\na\nb\n", "17 1 2"), ("\n\nx\n", "17 0 1"), ("x\nx\nx\n", "17 0 1"), (equal, "17 1 2")):
+        (room / "equal").write_text(text)
+        case(f"brz: equal keys {text[:12]!r}", (said_of := spilled(room, caller, "equal", (1_230_000, 64))) != wanted and said_of)
+    case("brz: no seed", (said_of := spilled(room, caller, "words", (1_000_000, 64), tries=2)) != "18 0 0" and said_of)
+    for bad in ((999_999, 128), (10_000_001, 128), (1_230_000, 63), (1_230_000, 701), (1_230_000, 7), (1_230_000, 65_536 + 128)):
+        case(f"brz: a bad plan {bad}", (said_of := spilled(room, caller, "words", bad)) != "15 0 0" and said_of)
+    for tries in (0, 1001):
+        case(f"brz: {tries} seeds", (said_of := spilled(room, caller, "words", (1_230_000, 128), tries=tries)) != "15 0 0" and said_of)
+    case("brz: no keys", (said_of := spilled(room, caller, "none", (1_230_000, 128))) != "16 0 0" and said_of)
+    case("brz: no room is known", (left := run(caller, "room", 4, 1_230_000, 128, 5)).stdout != "0\n" and left)
+    left = run(*watch, caller, "spilled", 1_230_000, 64, 5, 50, "words", "built", cwd=room)
+    case(f"brz: a build in memory {watch[:1]}", left.stdout != "0 0 0\n" and (left.returncode, left.stdout, left.stderr))
+
+
 def rooms(room, caller, algorithm):
     """The bytes of files that cmph builds, of the longest one, and of no keys and too many."""
     plan, wanted = PLANS[algorithm], {MOST_KEYS: LONGEST[algorithm], 0: 0, MOST_KEYS + 1: 0, 2**32 - 1: 0}
@@ -238,6 +266,8 @@ def cases(room, callers):
             if algorithm in PLANS:
                 builds(room, caller, algorithm)
                 rooms(room, caller, algorithm)
+            else:
+                spills(room, caller, watch)
     for caller in callers[:1]:
         shards = run(caller, "route", 3, 7, "words", cwd=room).stdout.split()
         wanted = [str(judge.hashes(line.encode(), 3)[2] % 7) for line in (room / "words").read_text().split("\n") if line]

@@ -58,12 +58,9 @@ def library_file(room):
         return Path(sys.argv[2]).resolve()
     if not ARCHIVE.exists():
         run(sys.executable, TOP / "tools" / "prove.py", "--alone", "cmph_c")
-    memory = Path(shutil.which("rt")).resolve().parent.parent / "c" / "liblibc_c.a"
-    out = room / "libcmph_c.so.1"
-    left = run("cc", "-shared", "-o", out, "-Wl,--whole-archive", ARCHIVE, memory, "-Wl,--no-whole-archive", "-Wl,-z,defs", "-Wl,-z,text",
-               "-Wl,-soname,libcmph_c.so.1", f"-Wl,--version-script={LIBRARY / 'exports.map'}")
+    left = run(sys.executable, TOP / "tools" / "link.py", room)
     case("the shared library is made", left.stderr)
-    return out
+    return room / "libcmph_c.so.1"
 
 
 def interpreters():
@@ -129,9 +126,10 @@ def numbers(room, cmph, algorithm, keys):
 def builds(room, cmph, algorithm, keys):
     """Files that are built in memory, beside those that cmph writes."""
     case(f"{algorithm}: a build in memory", cmph.build(keys, algorithm) != (room / f"many_{algorithm}").read_bytes())
-    run(CMPH, "-g", "-a", algorithm, "-s", 5, "-r", 50, "-c", 3, "-b", 4, "-m", "wanted", "words", cwd=room)
+    b = 70 if algorithm == "brz" else 4
+    run(CMPH, "-g", "-a", algorithm, "-s", 5, "-r", 50, "-c", 3, "-b", b, "-m", "wanted", "words", cwd=room)
     words = (room / "words").read_bytes().split(b"\n")[:-1]
-    case(f"{algorithm}: a build by other numbers", cmph.build(words, algorithm, 3, 4, 5, 50) != (room / "wanted").read_bytes())
+    case(f"{algorithm}: a build by other numbers", cmph.build(words, algorithm, 3, b, 5, 50) != (room / "wanted").read_bytes())
 
 
 def shards(room, cmph):
@@ -145,7 +143,7 @@ def unit_tests(python, room, around):
         if " ... skipped " in line:
             print(f"{python}: {line}")
     case(f"{python}: unit tests", left.returncode and left.stderr)
-    for page in (PACKAGE / "README.md", TOP / "docs" / "python.md"):
+    for page in (PACKAGE / "README.md", TOP / "docs" / "use" / "python.md"):
         left = run(python, "-m", "doctest", page, cwd=room, env=around)
         case(f"{python}: the sessions of {page.name}", left.returncode and left.stdout + left.stderr)
 
@@ -185,8 +183,7 @@ def try_all(room):
     (room / "many").write_bytes(b"\n".join(keys) + b"\n")
     for algorithm in ALGORITHMS:
         numbers(room, cmph, algorithm, keys)
-        if algorithm != "brz":
-            builds(room, cmph, algorithm, keys)
+        builds(room, cmph, algorithm, keys)
     shards(room, cmph)
     for python in interpreters():
         unit_tests(python, room, os.environ)

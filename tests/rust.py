@@ -87,11 +87,7 @@ def declarations():
 
 def archive(room):
     """The C library with all that it needs, as `make library` makes it."""
-    made = room / "lib" / "libcmph_c.a"
-    made.parent.mkdir()
-    libc = Path(shutil.which("rt")).resolve().parent.parent / "c" / "liblibc_c.a"
-    script = f"create {made}\naddlib {ARCHIVE}\naddlib {libc}\nsave\nend\n"
-    left = run("ar", "-M", input=script.encode())
+    left = run(sys.executable, TOP / "tools" / "link.py", ARCHIVE, room / "lib")
     case("the archive", left.returncode and left.stderr.decode())
 
 

@@ -5,6 +5,7 @@
  *   caller open FUNCTION ..                         a line for each file: the code, and the offset
  *   caller room ALGORITHM RATIO B KEYS ..           a line for each number of keys: how many bytes the function file has
  *   caller build ALGORITHM RATIO B SEED TRIES KEYS OUT     writes the function file; prints the code, `at` and `again`
+ *   caller spilled RATIO B SEED TRIES KEYS OUT      the same by BRZ
  *   caller route SEED SHARDS KEYS                   a line for each line of KEYS: its shard
  *   caller ends FUNCTION                            ends that are wrong: prints nothing
  *   caller most FUNCTION                            more keys than there may be: prints nothing
@@ -86,12 +87,65 @@ static void builds(char **words) {
     printf("%u %llu %llu\n", (unsigned)code, (unsigned long long)place.at, (unsigned long long)place.again);
 }
 
+/* A build by BRZ with a spill and a room of these lengths. What it may not write stays. */
+static uint32_t build_spilled(const key_list *keys, const cmph_c_plan *plan, size_t spill_len, uint8_t *dump, size_t dump_len, uint64_t *written, cmph_c_place *place) {
+    uint8_t *spill = (uint8_t *)room(spill_len);
+    memset(dump, 0x77, dump_len);
+    *written = 77;
+    place->at = place->again = 0;
+    uint32_t code = cmph_c_build_brz(keys->at, keys->len, keys->ends, keys->many, plan, spill, spill_len, dump, dump_len, written, place);
+    if (code == CMPH_C_OK ? *written > dump_len || place->at || place->again : *written != 77) fail("another number of bytes");
+    for (size_t i = code == CMPH_C_OK ? (size_t)*written : 0; i < dump_len; i++)
+        if (dump[i] != 0x77) fail("a byte that was put where there is no file");
+    free(spill);
+    return code;
+}
+
+/* Builds by BRZ with the least spill that will do, in more room than the file has, then in the least, and with one byte fewer of each. */
+static void spills(char **words) {
+    cmph_c_plan plan = {CMPH_C_BRZ, number(words[0]), number(words[1]), number(words[2]), number(words[3])};
+    key_list keys = read_keys(words[4]);
+    size_t spill_len = keys.len + 10 * keys.many;
+    size_t most = (size_t)(25 + 9 * (keys.many / (plan.b ? plan.b : 1) + 1) + keys.many * (uint64_t)plan.ratio / 4000000);
+    uint64_t written, len;
+    cmph_c_place place, other;
+    uint8_t *dump = (uint8_t *)room(most), *least;
+    uint32_t code = build_spilled(&keys, &plan, spill_len, dump, most, &written, &place);
+    if (code == CMPH_C_NO_SPILL || code == CMPH_C_NO_ROOM) fail("more bytes are needed than are known to be");
+    if (code != CMPH_C_BAD_PLAN && keys.many) {
+        if (build_spilled(&keys, &plan, spill_len - 1, dump, most, &len, &other) != CMPH_C_NO_SPILL || other.at != spill_len) fail("too small a spill");
+        if (build_spilled(&keys, &plan, 0, dump, 0, &len, &other) != CMPH_C_NO_SPILL || other.at != spill_len) fail("no spill");
+    }
+    if (code == CMPH_C_OK) {
+        FILE *out = fopen(words[5], "wb");
+        least = (uint8_t *)room((size_t)written);
+        if (build_spilled(&keys, &plan, spill_len + 1000, least, (size_t)written, &len, &other) != CMPH_C_OK || len != written) fail("the least room");
+        if (!out || fwrite(least, 1, (size_t)written, out) != written || fclose(out)) fail("not written");
+        if (build_spilled(&keys, &plan, spill_len, least, (size_t)written - 1, &len, &other) != CMPH_C_NO_ROOM || other.at != written) fail("too little room");
+        if (build_spilled(&keys, &plan, spill_len, dump, most, &len, &other) != CMPH_C_OK || len != written) fail("another file");
+        FILE *in = fopen(words[5], "rb");
+        if (!in || fread(least, 1, (size_t)written, in) != written || memcmp(least, dump, (size_t)written)) fail("another file in more room");
+        fclose(in);
+    }
+    printf("%u %llu %llu\n", (unsigned)code, (unsigned long long)place.at, (unsigned long long)place.again);
+}
+
 static void routes(char **words) {
     key_list keys = read_keys(words[2]);
     uint32_t *shards = (uint32_t *)room((keys.many + 1) * sizeof(uint32_t));
     cmph_c_place place = {0, 0};
     if (cmph_c_route(keys.at, keys.len, keys.ends, keys.many, number(words[0]), number(words[1]), shards, keys.many, &place) != CMPH_C_OK) fail("no shards");
     for (size_t i = 0; i < keys.many; i++) printf("%u\n", (unsigned)shards[i]);
+}
+
+/* The code and the place of a build by BRZ, with as long a spill as needed. */
+static void expect_spilled(const key_list *keys, uint32_t code, uint64_t at) {
+    static const cmph_c_plan plan = {CMPH_C_BRZ, 1230000, 64, 1, 100};
+    uint8_t dump[64];
+    uint64_t written;
+    cmph_c_place place;
+    if (build_spilled(keys, &plan, keys->len + 10 * keys->many, dump, sizeof dump, &written, &place) != code) fail("another code of a build by BRZ");
+    if (place.at != (code == CMPH_C_OK ? 0 : at)) fail("another place of a build by BRZ");
 }
 
 /* The code and the place of each call that takes keys, which put nothing if they refuse. `nothing` is the code of a build, if it differs. */
@@ -113,6 +167,7 @@ static void expect(const cmph_c_function *function, const key_list *keys, size_t
     if (cmph_c_build(keys->at, keys->len, keys->ends, keys->many, &plan, dump, sizeof dump, &written, &place) != built) fail("another code of a build");
     if (built == CMPH_C_OK ? written > sizeof dump : written != 77 || dump[0] != 77) fail("a build that was refused put something");
     if (place.at != (built == code ? at : 0)) fail("another place of a build");
+    expect_spilled(keys, built, built == code ? at : 0);
 }
 
 /* Keys of `len` bytes in all, which end at these. */
@@ -176,6 +231,8 @@ static void most(const char *function_path) {
     if (cmph_c_answers(&function, none, 0, ends, many, found, 0, &place) != CMPH_C_TOO_MANY_KEYS) fail("too many numbers");
     if (cmph_c_route(none, 0, ends, many, 1, 5, found, 0, &place) != CMPH_C_TOO_MANY_KEYS) fail("too many shards");
     if (cmph_c_build(none, 0, ends, many, &plan, none, 0, &written, &place) != CMPH_C_TOO_MANY_KEYS || written != 77) fail("too many keys");
+    plan.algorithm = CMPH_C_BRZ, plan.b = 64;
+    if (cmph_c_build_brz(none, 0, ends, many, &plan, none, 0, none, 0, &written, &place) != CMPH_C_TOO_MANY_KEYS || written != 77) fail("too many keys by BRZ");
 }
 
 /* What a struct of any values is made of. */
@@ -309,6 +366,8 @@ int main(int many, char **words) {
         rooms(words + 2, many - 2);
     else if (!strcmp(job, "build") && many == 9)
         builds(words + 2);
+    else if (!strcmp(job, "spilled") && many == 8)
+        spills(words + 2);
     else if (!strcmp(job, "route") && many == 5)
         routes(words + 2);
     else if (!strcmp(job, "ends") && many == 3)

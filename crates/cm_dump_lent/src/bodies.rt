@@ -1,19 +1,20 @@
 //! The functions of each algorithm in the bytes of their dumps, after the header.
-ghost use Rattle.std.specs.Prelude.{◌≡◌, ◌+◌, ◌≤◌, IfErr, IfOk, length};
+ghost use Rattle.std.specs.Prelude.{◌≡◌, ◌+◌, ◌*◌, ◌^◌, ◌≤◌, IfErr, IfOk, Ok, length};
+ghost use Rattle.std.specs.Int.{div_ceil};
 ghost use Rattle.cm_bdz.specs.Functions.{IsBdz, IsBdzPh};
 ghost use Rattle.cm_bdz.specs.Lent.{samples_of};
 ghost use Rattle.cm_bits.specs.Held.{packed_cells};
 ghost use Rattle.cm_chm.specs.Functions.{IsChm};
-ghost use Rattle.cm_dump.specs.Spelling.{bdz_at, bdz_ph_at, chm_at, ranked_at};
+ghost use Rattle.cm_dump.specs.Spelling.{bdz_at, bdz_ph_at, chm_at, ranked_at, ranks_at};
 ghost use Rattle.cm_dump.specs.declared.header.TheConstants.{HEADER_LEN};
 ghost use Rattle.cm_dump_items.specs.Reading.{Answers, IsByteFault};
-ghost use Rattle.cm_rank.specs.Ranks.{StandsFor};
+ghost use Rattle.cm_rank.specs.Ranks.{StandsFor, ranks_in, sampled};
 ghost use Rattle.cm_spec.specs.Bdz.{bdz_size};
 ghost use Rattle.cm_spec.specs.Image.{packed_len};
 ghost use Rattle.cm_spec.specs.Rule.{IsRatio};
 ghost use Rattle.cm_spec.specs.declared.limits.TheConstants.{MAX_KEYS};
 
-use crate::ranks::{open_ranks, ranks_len};
+use crate::ranks::{busy_by_ranks, open_ranks, ranks_len};
 use cm_algo_scheme::Scheme;
 use cm_bdz::{BdzPhScheme, BdzScheme, LentBdz, LentBdzPh};
 use cm_bits::packings::{Fours, Threes};
@@ -44,8 +45,44 @@ pub(crate) fn open_chm<'a>(dump: &'a [u8], header: Header) -> Result<LentChm<'a>
     }
 }
 
-/// The BDZ function of a header and the image of its n cells, in the bytes of its dump. The cells are counted, and then the ranks are
-/// compared, each in one pass.
+/// The BDZ function of a header, the image of its n cells and their ranks, in the bytes of its dump. The cells are not counted again: how many
+/// there are is the last rank and what is after it.
+#[tactic(auto, unfolding(cm_dump::specs::Spelling::ranked_at, cm_dump::specs::Spelling::counted))]
+fn close_ranked<'a>(
+    dump: &'a [u8],
+    header: Header,
+    n: u32,
+    image: &'a [u8],
+    ranks: &'a [u8],
+) -> Result<LentBdz<'a>, LoadFault>
+    requires keys { (1 ≤ header.keys) × (header.keys ≤ MAX_KEYS) }
+    requires ratio { IsRatio header.ratio }
+    requires b { (3 ≤ header.b) × (header.b ≤ 10) }
+    requires n { n ≡ bdz_size header.keys header.ratio }
+    requires whole { length image.now ≡ packed_len 4 n }
+    requires inside { HEADER_LEN + packed_len 4 n ≤ length dump.now }
+    requires long { length ranks.now ≡ 4 * div_ceil n (2 ^ header.b) }
+    requires stands { StandsFor (record { idle = 3; shift = header.b; ranks = ranks_in ranks.now }) (packed_cells 4 4 n image.now) }
+    requires ranked { ranks_at dump.now (HEADER_LEN + packed_len 4 n) (sampled 3 header.b (packed_cells 4 4 n image.now)) ≡ Ok tt }
+    ensures exact { Answers (λ f. f.function) result (ranked_at dump.now header (packed_cells 4 4 n image.now)) }
+    ensures valid { IfOk result (λ f. IsBdz f.function) }
+    ensures stands { IfOk result (λ f. StandsFor (samples_of f) f.function.cells) }
+    ensures kind { IfErr result IsByteFault }
+{
+    let cells = LentCrumbs::new(n, image);
+    let b = header.b as u8;
+    if busy_by_ranks(&cells, ranks, b) != header.keys {
+        return Err(LoadFault::BadCount { at: HEADER_LEN });
+    }
+    let end = HEADER_LEN + Crumbs::image_len(n, 4) + ranks_len(n, b);
+    match lent_end(dump, end) {
+        Ok(()) => Ok(LentBdz::new(image, ranks, header.keys, header.ratio, header.seed, b)),
+        Err(fault) => Err(fault),
+    }
+}
+
+/// The BDZ function of a header and the image of its n cells, in the bytes of its dump. The cells are counted as the ranks are compared, and
+/// once more if a rank is wrong, since a wrong number of cells is the first fault.
 #[tactic(auto, unfolding(cm_dump::specs::Spelling::ranked_at, cm_dump::specs::Spelling::counted))]
 fn open_ranked<'a>(
     dump: &'a [u8],
@@ -65,18 +102,15 @@ fn open_ranked<'a>(
     ensures kind { IfErr result IsByteFault }
 {
     let cells = LentCrumbs::new(n, image);
-    if cells.count_busy(3, 0, n) != header.keys {
-        return Err(LoadFault::BadCount { at: HEADER_LEN });
-    }
     let at = HEADER_LEN + Crumbs::image_len(n, 4);
-    let b = header.b as u8;
-    let ranks = match open_ranks(dump, at, &cells, b) {
-        Ok(ranks) => ranks,
-        Err(fault) => return Err(fault),
-    };
-    match lent_end(dump, at + ranks_len(n, b)) {
-        Ok(()) => Ok(LentBdz::new(image, ranks, header.keys, header.ratio, header.seed, b)),
-        Err(fault) => Err(fault),
+    match open_ranks(dump, at, &cells, header.b as u8) {
+        Ok(ranks) => close_ranked(dump, header, n, image, ranks),
+        Err(fault) => {
+            if cells.count_busy(3, 0, n) != header.keys {
+                return Err(LoadFault::BadCount { at: HEADER_LEN });
+            }
+            Err(fault)
+        }
     }
 }
 

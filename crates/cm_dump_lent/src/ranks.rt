@@ -3,13 +3,13 @@ ghost use Rattle.std.specs.Prelude.{◌≡◌, ◌+◌, ◌*◌, ◌<◌, ◌≤
 ghost use Rattle.std.specs.Int.{div_ceil};
 ghost use Rattle.cm_dump.specs.Spelling.{ranks_at};
 ghost use Rattle.cm_dump_items.specs.Reading.{Answers, IsByteFault};
-ghost use Rattle.cm_rank.specs.Ranks.{StandsFor, ranks_in, sampled};
+ghost use Rattle.cm_rank.specs.Ranks.{StandsFor, rank_of, ranks_in, sampled};
 ghost use Rattle.cm_spec.specs.declared.limits.TheConstants.{MAX_VERTICES};
 
 use cm_bits::{LentCrumbs, Lookup};
 use cm_dump_brz::bytes_from;
 use cm_dump_items::LoadFault;
-use cm_rank::first_bad_rank;
+use cm_rank::{Counted, LentRanks, first_bad_rank};
 
 /// How many bytes the ranks of n cells have: four for every `2^b`-th cell.
 pub(crate) fn ranks_len(n: u32, b: u8) -> u64
@@ -52,4 +52,20 @@ pub(crate) fn open_ranks<'a>(
             Ok(bytes)
         },
     }
+}
+
+/// How many of these cells are not 3, by ranks that are theirs: the rank of the last cell, and whether that is one. It reads the cells of the
+/// last block.
+pub(crate) fn busy_by_ranks<'a>(cells: &LentCrumbs<'a>, ranks: &[u8], b: u8) -> u32
+    requires some { 0 < length (⟦<LentCrumbs<'a> as Lookup>⟧.cells cells.now) }
+    requires n { length (⟦<LentCrumbs<'a> as Lookup>⟧.cells cells.now) ≤ MAX_VERTICES }
+    requires b { (3 ≤ b) × (b ≤ 10) }
+    requires long { length ranks.now ≡ 4 * div_ceil (length (⟦<LentCrumbs<'a> as Lookup>⟧.cells cells.now)) (2 ^ b) }
+    requires stands { StandsFor (record { idle = 3; shift = b; ranks = ranks_in ranks.now }) (⟦<LentCrumbs<'a> as Lookup>⟧.cells cells.now) }
+    ensures busy { rank_of 3 (⟦<LentCrumbs<'a> as Lookup>⟧.cells cells.now) 0 + result ≡ rank_of 3 (⟦<LentCrumbs<'a> as Lookup>⟧.cells cells.now) (length (⟦<LentCrumbs<'a> as Lookup>⟧.cells cells.now)) }
+{
+    let n = cells.len();
+    let last = n - 1;
+    let before = LentRanks::new(ranks, 3, b).rank(cells, last);
+    before + cells.count_busy(3, last, n)
 }

@@ -24,10 +24,10 @@ pub use Rattle.cm_dump.specs.Spelling.{spelling_of}
 pub use Rattle.cm_dump_items.specs.Reading.{Fails}
 -- lent memory: the function that bytes are and why they are none, builds into a buffer, how many bytes that takes, and the numbers and shards of many keys
 pub use Rattle.cm_dump_lent.specs.Opened.{IsOpenFault, LacksIndex, func_by, lent_answer}
-pub use Rattle.cm_lib_lent.specs.Builds.{FailsLent, IsLentFunc, IsLentKind, IsSaved, told_of}
+pub use Rattle.cm_lib_lent.specs.Builds.{FailsLent, FailsSpilled, IsLentFunc, IsLentKind, IsSaved, IsSpilledKind, spill_len_of, told_of}
 pub use Rattle.cm_lib_lent.specs.Numbers.{ArePut, number_or_none}
 pub use Rattle.cm_lib_lent.specs.Rooms.{dump_len_by}
-pub use Rattle.cm_lib_lent.specs.Routes.{shard_of}
+pub use Rattle.cm_route.specs.Routes.{shard_of}
 -- what a pass, a source or a sink of a caller's own has to keep
 pub use Rattle.cm_spec.specs.declared.limits.TheConstants.{MAX_KEYS}
 pub use Rattle.cm_io.specs.declared.key_pass.TheConstants.{MAX_KEY_LEN}

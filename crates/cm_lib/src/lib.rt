@@ -11,9 +11,8 @@
 //! 4. **A file.** `save` writes a function into a `Sink`, as the `saved_len` bytes of its dump, and `load` reads it from a `Source`, or
 //!    returns the first fault of the bytes.
 //! 5. **Lent memory.** `open` returns the function that the bytes of a dump are, in these bytes: nothing is copied. One by BRZ needs a slice for an index of
-//!    its buckets. `build_into` builds over
-//!    `LentKeys` and puts the dump into a buffer, of the `dump_len` bytes that it has, and `answers_into` puts the numbers of many keys, or their
-//!    shards by a `Route`, into a slice.
+//!    its buckets. `build_into` builds over `LentKeys` and puts the dump into a buffer, of the `dump_len` bytes that it has; `build_brz_into` does
+//!    so by BRZ, with the spill in a buffer too. `answers_into` puts the numbers of many keys, or their shards by a `Route`, into a slice.
 //!
 //! Clauses find the definitions in `Rattle.cm_lib.specs.Terms`. The calls of `laws` do nothing, and have what the proof of a caller needs.
 #![tactic(auto)]
@@ -41,7 +40,9 @@ pub use cm_dump::{LoadFault, load, save, saved_len};
 
 // Functions, builds and answers in lent memory.
 pub use cm_dump_lent::{Lent, OpenFault, open};
-pub use cm_lib_lent::{LentFault, NONE, Route, answers_into, build_into, dump_len, number_or_none};
+pub use cm_lib_lent::{
+    LentFault, NONE, Route, answers_into, build_brz_into, build_into, dump_len, number_or_none,
+};
 
 // What keys and dumps are read from and written to: the traits, in memory, and real files.
 pub use cm_io::{Disk, DiskFault, Failed, Sink, Source, Spill};

@@ -1,3 +1,4 @@
 pub mod BuildLemmas
 pub mod NumberLemmas
 pub mod RoomLemmas
+pub mod SpillLemmas

@@ -1,4 +1,4 @@
 pub mod Builds
 pub mod Numbers
 pub mod Rooms
-pub mod Routes
+pub mod Spills

@@ -3,11 +3,12 @@
 #![tactic(auto)]
 
 mod building;
+mod disk;
 mod numbers;
 mod room;
-mod route;
+mod spill;
 
-pub use crate::building::{LentFault, build_into};
+pub use crate::building::{LentFault, build_brz_into, build_into};
 pub use crate::numbers::{NONE, answers_into, number_or_none};
 pub use crate::room::{dump_len, dumps_fit};
-pub use crate::route::Route;
+pub use cm_route::Route;

@@ -1,1 +1,3 @@
+pub mod BuildLemmas
+pub mod HeldLemmas
 pub mod RoomLemmas

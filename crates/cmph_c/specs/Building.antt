@@ -18,7 +18,7 @@ use Rattle.cmph_c.specs.Answering.{IsBadEnd, pass_of}
 use Rattle.cmph_c.specs.Codes.{at_only}
 use Rattle.cmph_c.specs.declared.building.Plan.{Plan}
 use Rattle.cmph_c.specs.declared.codes.Place.{Place}
-use Rattle.cmph_c.specs.declared.codes.TheConstants.{BAD_PLAN, EQUAL_KEYS, MEMORY, NO_KEYS, NO_ROOM, NO_SEED}
+use Rattle.cmph_c.specs.declared.codes.TheConstants.{BAD_PLAN, EQUAL_KEYS, MEMORY, NO_KEYS, NO_ROOM, NO_SEED, NO_SPILL, NO_SPLIT}
 use Rattle.cmph_c.specs.declared.function.TheConstants.{BDZ, BDZ_PH, CHM}
 
 -- the algorithm of a number
@@ -65,10 +65,10 @@ pub record IsBuilt (p : Plan) (bytes ends : List ℕ) (written : ℕ) (old new :
   pub planned : IsPlanFor p plan
   pub saved : IsSaved plan (seeds_of p.seed p.tries) (pass_of bytes ends) written old new
 
--- the code for equal keys, if there are some, or else for seeds that don't work
-abbrev pub core_code : List Pair → ℕ
-core_code [] = NO_SEED
-core_code (pair ∷ pairs) = EQUAL_KEYS
+-- the code for equal keys, if there are some, or else another one
+abbrev pub equal_code : ℕ → List Pair → ℕ
+equal_code code [] = code
+equal_code code (pair ∷ pairs) = EQUAL_KEYS
 
 -- the index of the first of them
 abbrev pub first_of : List Pair → ℕ
@@ -84,18 +84,23 @@ again_of (pair ∷ pairs) = pair.again - 1
 abbrev pub build_code : LentFault → ℕ
 build_code (lent.Room needed) = NO_ROOM
 build_code (lent.Build faults.NoKeys) = NO_KEYS
-build_code (lent.Build (faults.Cored shown)) = core_code shown.equal.items
+build_code (lent.Spill needed) = NO_SPILL
+build_code (lent.Build (faults.Cored shown)) = equal_code NO_SEED shown.equal.items
+build_code (lent.Build (faults.Overfull seed bucket count equal)) = equal_code NO_SPLIT equal.items
 build_code fault = MEMORY
 
 -- how many bytes are needed, or the first of two equal keys
 abbrev pub build_place : LentFault → ℕ
 build_place (lent.Room needed) = needed
+build_place (lent.Spill needed) = needed
 build_place (lent.Build (faults.Cored shown)) = first_of shown.equal.items
+build_place (lent.Build (faults.Overfull seed bucket count equal)) = first_of equal.items
 build_place fault = 0
 
 -- the second of them
 abbrev pub build_again : LentFault → ℕ
 build_again (lent.Build (faults.Cored shown)) = again_of shown.equal.items
+build_again (lent.Build (faults.Overfull seed bucket count equal)) = again_of equal.items
 build_again fault = 0
 
 -- There is no function in the room, for this reason.

@@ -4,3 +4,4 @@ pub mod Codes
 pub mod Functions
 pub mod Opening
 pub mod Routing
+pub mod Spilling

@@ -2,7 +2,7 @@
 use Rattle.std.specs.Prelude.{◌≡◌, ◌<◌, ◌≤◌, ◌⊎◌, ℕ, List, length, Some}
 use Rattle.cm_keys_lent.specs.Ends.{AreEnds}
 use Rattle.cm_lib_lent.specs.Numbers.{ArePut}
-use Rattle.cm_lib_lent.specs.Routes.{shard_of}
+use Rattle.cm_route.specs.Routes.{shard_of}
 use Rattle.cm_spec.specs.declared.limits.TheConstants.{MAX_VERTICES}
 use Rattle.cmph_c.specs.Answering.{IsBadEnd, IsShort, pass_of}
 use Rattle.cmph_c.specs.Codes.{at_only}

@@ -1,5 +1,5 @@
 //! The numbers of keys.
-ghost use Rattle.std.specs.Prelude.{◌≡◌, ◌≢◌};
+ghost use Rattle.std.specs.Prelude.{◌≡◌, ◌≢◌, IfNone, IfSome};
 ghost use Rattle.cm_dump_lent.specs.Opened.{lent_answer};
 ghost use Rattle.cm_dump_lent.specs.declared.lent.Lent.{Lent};
 ghost use Rattle.cm_lib_lent.specs.Numbers.{number_or_none};
@@ -8,20 +8,38 @@ ghost use Rattle.cmph_c.specs.Answering.{ArePutBy, IsUnput};
 ghost use Rattle.cmph_c.specs.Functions.{Holds, IsHeld};
 
 use crate::codes::{NO_FUNCTION, NO_ROOM, OK, Place, at_only, ends_code_of};
-use crate::function::{Function, held};
-use cm_algo_scheme::answer;
+use crate::function::{
+    BDZ, BDZ_PH, BRZ, CHM, Function, bdz_held, bdz_ph_held, brz_held, chm_held, held,
+};
+use cm_algo_scheme::{Answers, answer};
 use cm_keys_lent::LentKeys;
 use cm_lib_lent::{NONE, answers_into, number_or_none};
 
-/// The number of a key by the function that a struct holds, or `2^32 - 1` if the key has none, or the struct holds no function.
+/// The number of a key by a function, or `2^32 - 1` if there is none.
+#[inline(always)]
+fn number_by<A: Answers + Drop>(function: Option<A>, key: &[u8]) -> u32
+    ensures number { IfSome function (λ f. result ≡ number_or_none (A.answer_of f key.now)) }
+    ensures none { IfNone function (result ≡ NONE) }
+{
+    match function {
+        Some(function) => number_or_none(answer(&function, key)),
+        None => NONE,
+    }
+}
+
+/// The number of a key by the function that a struct holds, or `2^32 - 1` if the key has none, or the struct holds no function. The algorithm is
+/// looked at once.
 #[unsafe(no_mangle)]
 pub extern "C" fn cmph_c_answer(function: &Function<'_>, key: &[u8]) -> u32
     ensures number { (f : Lent) → Holds function.now f → result ≡ number_or_none (lent_answer f key.now) }
     ensures none { (IsHeld function.now → ⊥) → result ≡ NONE }
 {
-    match held(function) {
-        Some(lent) => number_or_none(answer(&lent, key)),
-        None => NONE,
+    match function.kind {
+        CHM => number_by(chm_held(function), key),
+        BDZ => number_by(bdz_held(function), key),
+        BDZ_PH => number_by(bdz_ph_held(function), key),
+        BRZ => number_by(brz_held(function), key),
+        _ => NONE,
     }
 }
 

@@ -1,12 +1,13 @@
 //! A function is built in memory of the caller's.
 ghost use Rattle.std.specs.Prelude.{◌≡◌, ◌≢◌, ◌↔◌, ℕ, List, IfSome, IsSome, Some, length};
 ghost use Rattle.cm_algo_names.specs.declared.algorithm.Algorithm.TheVariants.{Brz};
-ghost use Rattle.cm_lib_lent.specs.Builds.{IsLentKind};
+ghost use Rattle.cm_lib_lent.specs.Builds.{IsSpilledKind};
 ghost use Rattle.cm_tool_builds.specs.Plans.{IsPlan};
-ghost use Rattle.cmph_c.specs.Building.{HasAlgorithm, IsBuildable, IsBuilt, IsGoodPlan, IsPlanFor, IsRoomFor, IsUnbuilt, algorithm_by, b_by, build_again, build_code, build_place};
+ghost use Rattle.cmph_c.specs.Building.{HasAlgorithm, IsBuildable, IsBuilt, IsGoodPlan, IsPlanFor, IsRoomFor, IsUnbuilt, again_of, algorithm_by, b_by, build_again, build_code, build_place, equal_code, first_of};
 
 use crate::codes::{
-    BAD_PLAN, EQUAL_KEYS, MEMORY, NO_KEYS, NO_ROOM, NO_SEED, OK, Place, at_only, ends_code_of,
+    BAD_PLAN, EQUAL_KEYS, MEMORY, NO_KEYS, NO_ROOM, NO_SEED, NO_SPILL, NO_SPLIT, OK, Place,
+    at_only, ends_code_of,
 };
 use crate::function::{BDZ, BDZ_PH, CHM};
 use cm_algo_names::Algorithm;
@@ -16,6 +17,7 @@ use cm_lib_lent::{LentFault, build_into, dump_len, dumps_fit};
 use cm_spec::{MAX_KEYS, MAX_RATIO, MIN_RATIO};
 use cm_tool_builds::{FuncFault, Plan as Planned};
 use cm_tool_cells::seeds;
+use cm_witness_gather::Pair;
 use cm_words_values::MAX_SEEDS;
 use std::alloc::Global;
 
@@ -23,11 +25,12 @@ use std::alloc::Global;
 #[repr(C)]
 #[derive(Clone, Copy)]
 pub struct Plan {
-    /// `CHM`, `BDZ` or `BDZ_PH`.
+    /// `CHM`, `BDZ`, `BDZ_PH` or `BRZ`.
     pub algorithm: u32,
     /// The ratio of vertices to keys, from 1,000,000 to 10,000,000 millionths.
     pub ratio: u32,
-    /// By BDZ the rank of every `2^b`-th cell is kept, with b from 3 to 10. The other algorithms don't use it.
+    /// By BDZ the rank of every `2^b`-th cell is kept, with b from 3 to 10. By BRZ a bucket has b keys on average, from 64 to 700. The other
+    /// algorithms don't use it.
     pub b: u32,
     /// The first seed that is tried.
     pub seed: u32,
@@ -106,27 +109,36 @@ pub extern "C" fn cmph_c_room(plan: &Plan, keys: u32) -> u64
     room_of(plan, keys)
 }
 
+/// The code and the place for keys that stand in the way of every seed: those of the first two that are equal, or this code.
+fn equal_or(equal: &[Pair], code: u32) -> (u32, Place)
+    ensures code { result.0 ≡ equal_code code equal.now }
+    ensures place { (result.1.at ≡ first_of equal.now) × (result.1.again ≡ again_of equal.now) }
+{
+    match equal.first() {
+        Some(pair) => (
+            EQUAL_KEYS,
+            Place {
+                at: (pair.first as u64).saturating_sub(1),
+                again: (pair.again as u64).saturating_sub(1),
+            },
+        ),
+        None => (code, at_only(0)),
+    }
+}
+
 /// The code of a refused build, and its place.
-fn why(fault: LentFault) -> (u32, Place)
-    requires kind { IsLentKind fault }
+pub(crate) fn why(fault: LentFault) -> (u32, Place)
+    requires kind { IsSpilledKind fault }
     ensures code { result.0 ≡ build_code fault }
     ensures place { (result.1.at ≡ build_place fault) × (result.1.again ≡ build_again fault) }
 {
-    let none = at_only(0);
     match fault {
         LentFault::Room { needed } => (NO_ROOM, at_only(needed)),
-        LentFault::Build(FuncFault::Memory) => (MEMORY, none),
-        LentFault::Build(FuncFault::NoKeys) => (NO_KEYS, none),
-        LentFault::Build(FuncFault::Cored(shown)) => match shown.equal.first() {
-            Some(pair) => (
-                EQUAL_KEYS,
-                Place {
-                    at: (pair.first as u64).saturating_sub(1),
-                    again: (pair.again as u64).saturating_sub(1),
-                },
-            ),
-            None => (NO_SEED, none),
-        },
+        LentFault::Spill { needed } => (NO_SPILL, at_only(needed)),
+        LentFault::Build(FuncFault::Memory) => (MEMORY, at_only(0)),
+        LentFault::Build(FuncFault::NoKeys) => (NO_KEYS, at_only(0)),
+        LentFault::Build(FuncFault::Cored(shown)) => equal_or(&shown.equal, NO_SEED),
+        LentFault::Build(FuncFault::Overfull { equal, .. }) => equal_or(&equal, NO_SPLIT),
         LentFault::Build(_) => unreachable!(),
     }
 }
@@ -136,6 +148,7 @@ fn why(fault: LentFault) -> (u32, Place)
 /// end. Returns `OK`, or `BAD_PLAN`, `BAD_END` with the first key whose end is wrong, `TOO_MANY_KEYS`, `NO_KEYS`, `EQUAL_KEYS` with the first pair,
 /// `NO_SEED`, `NO_ROOM` with the number of bytes that are needed, or `MEMORY`, and then the room stays as it was. Memory of the C library is taken
 /// while it builds, and returned.
+#[tactic(auto, using(crate::proofs::BuildLemmas::spilled_too))]
 #[unsafe(no_mangle)]
 pub extern "C" fn cmph_c_build(
     alloc: Global,

@@ -67,6 +67,12 @@ pub const NO_SEED: u32 = 18;
 /// There are no shards, or too many.
 pub const BAD_SHARDS: u32 = 19;
 
+/// The spill is too small: this many bytes are needed.
+pub const NO_SPILL: u32 = 20;
+
+/// Every seed leaves a bucket with too many keys, and no two keys are equal in the first such bucket under the first seed.
+pub const NO_SPLIT: u32 = 21;
+
 /// Where a fault is: an offset in bytes, a number of them, or the index of a key, from 0, as the code says, and the index of the second key of
 /// two that are equal.
 #[repr(C)]

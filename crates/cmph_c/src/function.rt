@@ -5,6 +5,7 @@ ghost use Rattle.cm_chm.specs.Parts.{FitsChm};
 ghost use Rattle.cm_dump_brz.specs.Indexed.{FitsBrz, IndexedBrz};
 ghost use Rattle.cm_dump_brz.specs.Indexed as indexed;
 ghost use Rattle.cm_dump_lent.specs.Opened.{func_by};
+ghost use Rattle.cm_dump_lent.specs.declared.lent.Lent.TheVariants as lent;
 ghost use Rattle.cm_func.specs.Functions.{span_by};
 ghost use Rattle.cmph_c.specs.Functions.{Holds, HoldsBrz, IsHeld, bdz_parts, bdz_ph_parts, brz_parts, chm_parts, number_of};
 
@@ -70,20 +71,15 @@ pub(crate) fn held<'a>(function: &Function<'a>) -> Option<Lent<'a>>
     ensures none { IfNone result (IsHeld function.now → ⊥) }
 {
     match function.kind {
-        CHM => match LentChm::of(chm_parts_of(function)) {
+        CHM => match chm_held(function) {
             Some(chm) => Some(Lent::Chm(chm)),
             None => None,
         },
-        BDZ => {
-            if function.b > 10 {
-                return None;
-            }
-            match LentBdz::of(bdz_parts_of(function)) {
-                Some(bdz) => Some(Lent::Bdz(bdz)),
-                None => None,
-            }
-        }
-        BDZ_PH => match LentBdzPh::of(bdz_ph_parts_of(function)) {
+        BDZ => match bdz_held(function) {
+            Some(bdz) => Some(Lent::Bdz(bdz)),
+            None => None,
+        },
+        BDZ_PH => match bdz_ph_held(function) {
             Some(bdz_ph) => Some(Lent::BdzPh(bdz_ph)),
             None => None,
         },
@@ -95,9 +91,42 @@ pub(crate) fn held<'a>(function: &Function<'a>) -> Option<Lent<'a>>
     }
 }
 
+/// The function by CHM that a struct of this algorithm holds, or none.
+#[inline(always)]
+pub(crate) fn chm_held<'a>(function: &Function<'a>) -> Option<LentChm<'a>>
+    requires kind { function.now.kind ≡ CHM }
+    ensures held { IfSome result (λ f. Holds function.now (lent.Chm f)) }
+    ensures none { IfNone result (IsHeld function.now → ⊥) }
+{
+    LentChm::of(chm_parts_of(function))
+}
+
+/// The function by BDZ that a struct of this algorithm holds, or none.
+#[inline(always)]
+pub(crate) fn bdz_held<'a>(function: &Function<'a>) -> Option<LentBdz<'a>>
+    requires kind { function.now.kind ≡ BDZ }
+    ensures held { IfSome result (λ f. Holds function.now (lent.Bdz f)) }
+    ensures none { IfNone result (IsHeld function.now → ⊥) }
+{
+    if function.b > 10 {
+        return None;
+    }
+    LentBdz::of(bdz_parts_of(function))
+}
+
+/// The function by BDZ_PH that a struct of this algorithm holds, or none.
+#[inline(always)]
+pub(crate) fn bdz_ph_held<'a>(function: &Function<'a>) -> Option<LentBdzPh<'a>>
+    requires kind { function.now.kind ≡ BDZ_PH }
+    ensures held { IfSome result (λ f. Holds function.now (lent.BdzPh f)) }
+    ensures none { IfNone result (IsHeld function.now → ⊥) }
+{
+    LentBdzPh::of(bdz_ph_parts_of(function))
+}
+
 /// The function by BRZ that a struct holds, or none.
 #[inline(always)]
-fn brz_held<'a>(function: &Function<'a>) -> Option<LentBrz<'a>>
+pub(crate) fn brz_held<'a>(function: &Function<'a>) -> Option<LentBrz<'a>>
     ensures held { IfSome result (λ f. HoldsBrz function.now f) }
     ensures none { IfNone result ((f : IndexedBrz) → HoldsBrz function.now f → ⊥) }
 {

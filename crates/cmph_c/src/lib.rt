@@ -11,6 +11,7 @@ mod codes;
 mod function;
 mod opening;
 mod routing;
+mod spilling;
 
 pub use crate::answering::{cmph_c_answer, cmph_c_answers};
 pub use crate::building::{Plan, cmph_c_build, cmph_c_room};
@@ -18,3 +19,4 @@ pub use crate::codes::Place;
 pub use crate::function::Function;
 pub use crate::opening::cmph_c_open;
 pub use crate::routing::cmph_c_route;
+pub use crate::spilling::cmph_c_build_brz;

@@ -5,7 +5,7 @@ ghost use Rattle.cm_lib.specs.Terms.{Brz, IsPlan, MAX_KEYS};
 use cm_lib::{
     Algorithm, Answers, EndsFault, FuncFault, Lent, LentFault, LentKeys, MIN_BYTES, MIN_WIDTH,
     MemDisk, MemSink, MemSource, NONE, OpenFault, Pair, Plan, Route, answer, answers_into,
-    build_into, dump_len, func_of, load, number_or_none, open, save,
+    build_brz_into, build_into, dump_len, func_of, load, number_or_none, open, save,
 };
 use std::alloc::{AllocError, Global};
 use std::process::Abort;
@@ -269,18 +269,26 @@ fn changed_bytes(rt: HostRuntime) -> Result<(), Fail> {
     Ok(())
 }
 
-/// The dump of the function by BRZ of some keys, in buckets of 64 keys on average.
+/// A plan by BRZ, with buckets of 64 keys on average.
+fn plan_by_brz() -> Plan
+    ensures algorithm { result.algorithm ≡ Brz }
+    ensures valid { IsPlan result }
+{
+    Plan {
+        algorithm: Algorithm::Brz,
+        c: 2_100_000,
+        b: MIN_WIDTH,
+        buffer: MIN_BYTES,
+    }
+}
+
+/// The dump of the function by BRZ of some keys.
 fn dump_by_brz(
     rt: &impl Abort,
     alloc: Global,
     keys: &mut LentKeys<'_>,
 ) -> Result<Vec<u8>, AllocError> {
-    let plan = Plan {
-        algorithm: Algorithm::Brz,
-        c: 2_100_000,
-        b: MIN_WIDTH,
-        buffer: MIN_BYTES,
-    };
+    let plan = plan_by_brz();
     let mut disk = MemDisk::new(alloc, 1_000_000);
     let Ok(function) = func_of(alloc, &plan, &SEEDS, "spill", keys, &mut disk) else {
         panic!(rt; "not built");
@@ -315,6 +323,86 @@ fn brz_in_its_dump(rt: HostRuntime) -> Result<(), Fail> {
     };
     let dump = dump_by_brz(&rt, alloc, &mut few)?;
     change(&rt, alloc, dump)?;
+    Ok(())
+}
+
+/// By BRZ with the keys in a lent spill: the same dump as with a spill of the disk's, in as much room as it needs, and with one byte fewer of each.
+/// Several runs of the spill are merged.
+#[test]
+fn brz_in_a_buffer(rt: HostRuntime) -> Result<(), Fail> {
+    let alloc = rt.alloc();
+    let count = 9000;
+    let (bytes, ends) = keys_of(alloc, count)?;
+    let Ok(mut keys) = LentKeys::new(&bytes, &ends) else {
+        panic!(rt; "no keys");
+    };
+    let dump = dump_by_brz(&rt, alloc, &mut keys)?;
+    let spill_len = bytes.len() + 10 * count as usize;
+    assert!(rt; spill_len > 2 * MIN_BYTES as usize);
+    let mut spill = vec![in alloc; 0u8; spill_len]?;
+    let mut room = vec![in alloc; 0xa5u8; dump.len() + 1]?;
+    let plan = plan_by_brz();
+    match build_brz_into(alloc, &plan, &SEEDS, &mut keys, &mut spill, &mut room) {
+        Ok(len) => assert_eq!(rt; len, dump.len()),
+        Err(_) => panic!(rt; "not built"),
+    }
+    assert_eq!(rt; room.pop(), Some(0xa5));
+    assert_eq!(rt; room.as_slice(), dump.as_slice());
+    room.pop();
+    match build_brz_into(alloc, &plan, &SEEDS, &mut keys, &mut spill, &mut room) {
+        Err(LentFault::Room { needed }) => assert_eq!(rt; needed, dump.len() as u64),
+        _ => panic!(rt; "a byte less of room is not refused"),
+    }
+    spill.pop();
+    match build_brz_into(alloc, &plan, &SEEDS, &mut keys, &mut spill, &mut room) {
+        Err(LentFault::Spill { needed }) => assert_eq!(rt; needed, spill_len as u64),
+        _ => panic!(rt; "a byte less of the spill is not refused"),
+    }
+    Ok(())
+}
+
+/// Equal keys by BRZ: in a bucket that has a function of its other keys, and in one with too many keys under every seed.
+#[test]
+fn refused_builds_by_brz(rt: HostRuntime) -> Result<(), Fail> {
+    let alloc = rt.alloc();
+    let mut ends = Vec::new(alloc);
+    for i in 0..1100 {
+        ends.push(i)?;
+    }
+    let mut spill = vec![in alloc; 0u8; 12_098]?;
+    let plan = plan_by_brz();
+    let bytes = vec![in alloc; b'k'; 1099]?;
+    let Ok(mut keys) = LentKeys::new(&bytes, &ends) else {
+        panic!(rt; "no keys");
+    };
+    match build_brz_into(alloc, &plan, &SEEDS, &mut keys, &mut spill, &mut []) {
+        Err(LentFault::Spill { needed }) => assert_eq!(rt; needed, 12_099),
+        _ => panic!(rt; "a short spill is not refused"),
+    }
+    spill.push(0)?;
+    match build_brz_into(alloc, &plan, &SEEDS, &mut keys, &mut spill, &mut []) {
+        Err(LentFault::Build(FuncFault::Overfull { equal, .. })) => {
+            assert_eq!(rt; equal.first().copied(), Some(Pair { first: 2, again: 3 }));
+        }
+        _ => panic!(rt; "equal keys are not refused"),
+    }
+    let Ok(mut two) = LentKeys::new(b"aa", &[1, 2]) else {
+        panic!(rt; "no keys");
+    };
+    match build_brz_into(alloc, &plan, &SEEDS, &mut two, &mut spill, &mut []) {
+        Err(LentFault::Build(FuncFault::Cored(shown))) => {
+            assert_eq!(rt;
+                shown.equal.as_slice(),
+                [Pair { first: 1, again: 2 }].as_slice()
+            );
+        }
+        _ => panic!(rt; "two equal keys are not refused"),
+    }
+    let Ok(mut none) = LentKeys::new(b"", &[]) else {
+        panic!(rt; "not empty");
+    };
+    let refused = build_brz_into(alloc, &plan, &SEEDS, &mut none, &mut [], &mut []);
+    assert!(rt; matches!(refused, Err(LentFault::Build(FuncFault::NoKeys))));
     Ok(())
 }
 

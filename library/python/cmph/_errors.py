@@ -60,6 +60,7 @@ def build_error(code: int, at: int, again: int) -> Exception:
         c.NO_KEYS: "there are no keys",
         c.TOO_MANY_KEYS: f"more than {c.MOST_KEYS} keys",
         c.NO_SEED: "no seed works: a greater ratio or more tries may help",
+        c.NO_SPLIT: "no seed splits the keys into small buckets: a smaller b or more tries may help",
     }
     return BuildError(said[code]) if code in said else error(code, at)
 
@@ -71,7 +72,7 @@ def error(code: int, at: int) -> Exception:
     said = {
         c.BAD_END: f"key {at} ends before it begins, or past the data, or has more than {c.MOST_KEY_BYTES} bytes",
         c.TOO_MANY_KEYS: f"more than {c.MOST_KEYS} keys",
-        c.BAD_PLAN: "a number of the plan is out of its range: ratio is from 1 to 10, b by bdz from 3 to 10, tries from 1 to 1000",
+        c.BAD_PLAN: "a number of the plan is out of its range: ratio is from 1 to 10, b by bdz from 3 to 10 and by brz from 64 to 700, tries from 1 to 1000",
         c.BAD_SHARDS: f"there are from 1 to {c.MOST_SHARDS} shards",
     }
     return ValueError(said[code]) if code in said else RuntimeError(f"libcmph_c returned code {code} at {at}")

@@ -35,6 +35,8 @@ NO_KEYS = 16
 EQUAL_KEYS = 17
 NO_SEED = 18
 BAD_SHARDS = 19
+NO_SPILL = 20
+NO_SPLIT = 21
 
 ALGORITHMS = {1: "chm", 2: "bdz", 3: "bdz_ph", 4: "brz"}
 
@@ -102,4 +104,7 @@ c_answer = _bind(_one, "cmph_c_answer", c_uint32, c_void_p, ctypes.c_char_p, c_s
 c_answers = _bind(_many, "cmph_c_answers", c_uint32, c_void_p, *_BYTES, *_ENDS, *_NUMBERS, _PLACE)
 c_room = _bind(_many, "cmph_c_room", c_uint64, ctypes.POINTER(CPlan), c_uint32)
 c_build = _bind(_many, "cmph_c_build", c_uint32, *_BYTES, *_ENDS, ctypes.POINTER(CPlan), *_BYTES, ctypes.POINTER(c_uint64), _PLACE)
+c_build_brz = _bind(
+    _many, "cmph_c_build_brz", c_uint32, *_BYTES, *_ENDS, ctypes.POINTER(CPlan), *_BYTES, *_BYTES, ctypes.POINTER(c_uint64), _PLACE
+)
 c_route = _bind(_many, "cmph_c_route", c_uint32, *_BYTES, *_ENDS, c_uint32, c_uint32, *_NUMBERS, _PLACE)

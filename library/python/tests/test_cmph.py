@@ -28,11 +28,11 @@ except ImportError:
     numpy = None
 
 CMPH = os.environ.get("CMPH")
-BUILT = ("chm", "bdz", "bdz_ph")
+BUILT = ("chm", "bdz", "bdz_ph", "brz")
 KEYS = [b"%d of many" % i for i in range(997)] + [b"", b"\0", b"k" * 65535]
 OTHERS = [b"other %d" % i for i in range(1000)]
 
-# Small files of docs/formats.md: the keys, the first seed, and the bytes in both versions.
+# Small files of docs/use/formats.md: the keys, the first seed, and the bytes in both versions.
 FILES = {
     "chm": (
         [b"a", b"b"], 1,
@@ -284,8 +284,7 @@ class Refused(Case):
 class Builds(Case):
     def test_small_files(self):
         for algorithm, (keys, seed, _, _) in FILES.items():
-            if algorithm != "brz":
-                self.assertEqual(cmph.build(keys, algorithm, seed=seed), small(algorithm))
+            self.assertEqual(cmph.build(keys, algorithm, seed=seed), small(algorithm))
             for version in (1, 2):
                 f = cmph.Function(small(algorithm, version))
                 self.assertEqual((len(f), f.algorithm, len(set(f.many(keys)))), (len(keys), algorithm, len(keys)))
@@ -302,8 +301,9 @@ class Builds(Case):
         self.assertEqual(cmph.build(KEYS), cmph.build(KEYS, "bdz", 1.23, 7, 1, 100))
         self.assertEqual(cmph.build(KEYS, "chm"), cmph.build(KEYS, "chm", ratio=2.09, b=99))
         self.assertEqual(cmph.build(KEYS, ratio=2, b=3, seed=5)[8:20], bytes.fromhex("02 00 0300 e8030000 80841e00"))
+        self.assertEqual(cmph.build(KEYS, "brz", ratio=2, b=700, seed=5)[8:20], bytes.fromhex("04 00 bc02 e8030000 80841e00"))
         for wrong in [
-            {"algorithm": "brz"}, {"algorithm": "CHM"}, {"algorithm": 2}, {"ratio": 0.999}, {"ratio": 10.001}, {"ratio": math.nan}, {"ratio": math.inf},
+            {"algorithm": "brz", "b": 63}, {"algorithm": "brz", "b": 701}, {"algorithm": "brz", "b": 7}, {"algorithm": "CHM"}, {"algorithm": 2}, {"ratio": 0.999}, {"ratio": 10.001}, {"ratio": math.nan}, {"ratio": math.inf},
             {"b": 2}, {"b": 11}, {"b": -1}, {"b": 2**32 + 7}, {"seed": -1}, {"seed": 2**32}, {"tries": 0}, {"tries": 1001}, {"tries": 2**32 + 1},
         ]:
             with self.subTest(wrong), self.assertRaises(ValueError) as caught:
@@ -325,6 +325,27 @@ class Builds(Case):
                 cmph.build([], algorithm)
             with self.assertRaisesRegex(cmph.BuildError, "no seed works"):
                 cmph.build(KEYS, algorithm, ratio=1, tries=2)
+
+    def test_buckets(self):
+        keys = [b"%d" % i for i in range(5000)]
+        for b in (64, 128, 700):
+            for ratio in (1.23, 10):
+                f = cmph.Function(cmph.build(keys, "brz", ratio=ratio, b=b))
+                self.assertEqual(sorted(f.many(keys)), list(range(5000)))
+        # more than a bucket may have, under any seed
+        with self.assertRaises(cmph.EqualKeys) as caught:
+            cmph.build([b"a"] + [b"b"] * 1100, "brz", tries=2)
+        self.assertEqual((caught.exception.first, caught.exception.again), (1, 2))
+
+    def test_a_short_room_by_brz(self):
+        # the file is longer than the room that the package takes first
+        calls, real = [], cmph._building.c_build_brz
+        def short(*words):
+            calls.append(words[8])
+            return real(*words[:8], 5 if len(calls) == 1 else words[8], *words[9:])
+        with mock.patch.object(cmph._building, "c_build_brz", short):
+            dump = cmph.build(KEYS, "brz")
+        self.assertEqual((dump, len(calls), calls[1]), (cmph.build(KEYS, "brz"), 2, len(dump)))
 
     def test_too_many_keys(self):
         many = 67_108_865

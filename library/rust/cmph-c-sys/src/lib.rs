@@ -51,6 +51,10 @@ pub const CMPH_C_EQUAL_KEYS: u32 = 17;
 pub const CMPH_C_NO_SEED: u32 = 18;
 /// There are no shards, or too many.
 pub const CMPH_C_BAD_SHARDS: u32 = 19;
+/// The spill is too small: `at` bytes are needed.
+pub const CMPH_C_NO_SPILL: u32 = 20;
+/// Every seed leaves a bucket with too many keys.
+pub const CMPH_C_NO_SPLIT: u32 = 21;
 
 /// Numbers in the order of the keys.
 pub const CMPH_C_CHM: u32 = 1;
@@ -58,7 +62,7 @@ pub const CMPH_C_CHM: u32 = 1;
 pub const CMPH_C_BDZ: u32 = 2;
 /// Numbers with gaps, in the least room.
 pub const CMPH_C_BDZ_PH: u32 = 3;
-/// All numbers below the number of keys, for many keys: opened and asked, but not built.
+/// All numbers below the number of keys, for many keys: built by `cmph_c_build_brz` alone.
 pub const CMPH_C_BRZ: u32 = 4;
 
 /// Where a fault is: an offset in bytes, how many bytes or numbers are needed, or the index of a key, from 0, as the code says.
@@ -134,11 +138,11 @@ pub const CMPH_C_FUNCTION_INIT: cmph_c_function = cmph_c_function {
 #[repr(C)]
 #[derive(Clone, Copy, Debug, PartialEq, Eq)]
 pub struct cmph_c_plan {
-    /// [`CMPH_C_CHM`], [`CMPH_C_BDZ`] or [`CMPH_C_BDZ_PH`].
+    /// [`CMPH_C_CHM`], [`CMPH_C_BDZ`] or [`CMPH_C_BDZ_PH`], or [`CMPH_C_BRZ`] for `cmph_c_build_brz`.
     pub algorithm: u32,
     /// Vertices a key, from 1,000,000 to 10,000,000 millionths.
     pub ratio: u32,
-    /// By BDZ: a rank for every `2^b` cells, from 3 to 10.
+    /// By BDZ: a rank for every `2^b` cells, from 3 to 10. By BRZ: keys a bucket on average, from 64 to 700.
     pub b: u32,
     /// The first seed.
     pub seed: u32,
@@ -182,6 +186,21 @@ extern "C" {
         ends: *const u64,
         ends_len: usize,
         plan: *const cmph_c_plan,
+        room: *mut u8,
+        room_len: usize,
+        written: *mut u64,
+        place: *mut cmph_c_place,
+    ) -> u32;
+
+    /// The same by BRZ, with the keys in a spill.
+    pub fn cmph_c_build_brz(
+        keys: *const u8,
+        keys_len: usize,
+        ends: *const u64,
+        ends_len: usize,
+        plan: *const cmph_c_plan,
+        spill: *mut u8,
+        spill_len: usize,
         room: *mut u8,
         room_len: usize,
         written: *mut u64,

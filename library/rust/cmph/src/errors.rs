@@ -159,7 +159,7 @@ impl Error for KeysError {}
 pub enum BuildError {
     /// Memory runs out.
     OutOfMemory,
-    /// A number of the plan is not in its range, or its algorithm is BRZ.
+    /// A number of the plan is not in its range, or its algorithm is not one of the call.
     BadPlan,
     /// The end of this key is before the end of the key before it, or past the bytes, or the key has more than 65,535 bytes.
     BadEnd {
@@ -179,6 +179,13 @@ pub enum BuildError {
     },
     /// No seed works: more of them, or a greater ratio, may.
     NoSeed,
+    /// By BRZ: every seed leaves a bucket with more than 1,023 keys: more seeds, or a smaller `b`, may not.
+    NoSplit,
+    /// The spill of [`build_brz_into`](crate::build_brz_into) is too small.
+    NoSpill {
+        /// How many bytes it has to have.
+        needed: usize,
+    },
     /// The room of [`build_into`](crate::build_into) is too small.
     NoRoom {
         /// How many bytes the file has.
@@ -205,6 +212,8 @@ impl BuildError {
                 again: place.again as usize,
             },
             sys::CMPH_C_NO_SEED => BuildError::NoSeed,
+            sys::CMPH_C_NO_SPLIT => BuildError::NoSplit,
+            sys::CMPH_C_NO_SPILL => BuildError::NoSpill { needed: at },
             sys::CMPH_C_NO_ROOM => BuildError::NoRoom { needed: at },
             _ => BuildError::Other { code },
         }
@@ -223,6 +232,8 @@ impl fmt::Display for BuildError {
                 write!(out, "keys {first} and {again} are equal")
             }
             BuildError::NoSeed => write!(out, "no seed works"),
+            BuildError::NoSplit => write!(out, "no seed splits the keys into small buckets"),
+            BuildError::NoSpill { needed } => write!(out, "a spill of {needed} bytes is needed"),
             BuildError::NoRoom { needed } => write!(out, "room for {needed} bytes is needed"),
             BuildError::Other { code } => write!(out, "unknown code {code} of the C library"),
         }

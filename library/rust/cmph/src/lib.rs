@@ -41,7 +41,7 @@ mod keys;
 mod plan;
 mod routing;
 
-pub use building::{build, build_into, room};
+pub use building::{build, build_brz_into, build_into, room};
 pub use errors::{BuildError, DumpError, KeysError};
 pub use function::Function;
 pub use keys::Keys;

@@ -11,7 +11,7 @@ pub enum Algorithm {
     Bdz,
     /// Numbers with gaps, below about 1.23 times the number of keys, in the smallest function.
     BdzPh,
-    /// All numbers below the number of keys, for many keys. The program `cmph` alone builds these functions.
+    /// All numbers below the number of keys, which are split into buckets, for many keys.
     Brz,
 }
 
@@ -46,11 +46,13 @@ impl Algorithm {
 /// ```
 #[derive(Clone, Copy, Debug, PartialEq, Eq, Hash)]
 pub struct Plan {
-    /// The algorithm. A build by [`Algorithm::Brz`] is refused as a bad plan.
+    /// The algorithm. [`Algorithm::Brz`] is a bad plan of [`build_into`](crate::build_into), and the only one of
+    /// [`build_brz_into`](crate::build_brz_into) that is not.
     pub algorithm: Algorithm,
     /// Vertices a key, from 1,000,000 to 10,000,000 millionths.
     pub ratio: u32,
-    /// By BDZ a rank is kept for every `2^b` cells, with b from 3 to 10. The others do not use it.
+    /// By BDZ a rank is kept for every `2^b` cells, with b from 3 to 10. By BRZ a bucket has b keys on average, from 64 to 700. The others do
+    /// not use it.
     pub b: u32,
     /// The first seed that is tried.
     pub seed: u32,
@@ -72,6 +74,12 @@ impl Plan {
     /// A build by BDZ_PH, with 1.23 vertices a key.
     pub const fn bdz_ph() -> Plan {
         Plan::by(Algorithm::BdzPh, 1_230_000)
+    }
+
+    /// A build by BRZ, with 1.23 vertices a key, and 128 keys a bucket on average.
+    pub const fn brz() -> Plan {
+        let plan = Plan::by(Algorithm::Brz, 1_230_000);
+        Plan { b: 128, ..plan }
     }
 
     const fn by(algorithm: Algorithm, ratio: u32) -> Plan {

@@ -2,15 +2,16 @@
 mod common;
 
 use cmph::{
-    build, build_into, room, route, Algorithm, BuildError, Function, Keys, KeysError, Plan,
+    build, build_brz_into, build_into, room, route, Algorithm, BuildError, Function, Keys,
+    KeysError, Plan,
 };
-use common::{generated, of_hex, plans};
+use common::{generated, known_plans, of_hex, plans, two_by_brz};
 
 fn built(keys: &Keys, plan: &Plan) -> Result<Vec<u8>, BuildError> {
     build(keys.bytes(), keys.ends(), plan)
 }
 
-/// The files of docs/formats.md.
+/// The files of docs/use/formats.md.
 #[test]
 fn small_functions_have_known_files() {
     let none = Plan {
@@ -44,7 +45,7 @@ fn small_functions_have_known_files() {
 
 #[test]
 fn the_room_is_what_the_file_takes() {
-    for plan in plans() {
+    for plan in known_plans() {
         for many in [1, 2, 3, 5, 100] {
             let keys = generated(many);
             let dump = built(&keys, &plan).unwrap();
@@ -70,6 +71,60 @@ fn the_room_is_what_the_file_takes() {
 }
 
 #[test]
+fn a_build_by_brz_takes_a_spill() {
+    let keys: Keys = ["", "a"].into_iter().collect();
+    let none = Plan {
+        seed: 0,
+        ..Plan::brz()
+    };
+    assert_eq!(built(&keys, &none), Ok(two_by_brz()));
+
+    let keys = generated(1000);
+    let plan = Plan {
+        b: 64,
+        ..Plan::brz()
+    };
+    let dump = built(&keys, &plan).unwrap();
+    let needed = keys.bytes().len() + 10 * keys.len();
+    let mut spill = vec![0; needed];
+    let mut room = vec![7; dump.len()];
+    let into = |spill: &mut [u8], room: &mut [u8]| {
+        build_brz_into(keys.bytes(), keys.ends(), &plan, spill, room)
+    };
+    let fault = into(&mut spill[1..], &mut room);
+    assert_eq!(fault, Err(BuildError::NoSpill { needed }));
+    assert!(room.iter().all(|byte| *byte == 7));
+    let fault = into(&mut spill, &mut room[1..]);
+    assert_eq!(fault, Err(BuildError::NoRoom { needed: dump.len() }));
+    assert!(room.iter().all(|byte| *byte == 7));
+    assert_eq!(into(&mut spill, &mut room), Ok(dump.len()));
+    assert_eq!(room, dump);
+
+    // more than a bucket may have, under any seed
+    let keys: Keys = ["b"; 1100].into_iter().collect();
+    let fault = built(&keys, &Plan { tries: 2, ..plan });
+    assert_eq!(fault, Err(BuildError::EqualKeys { first: 0, again: 1 }));
+
+    assert_eq!(room_of_brz(&plan), None);
+    for bad in [
+        Plan { b: 63, ..plan },
+        Plan { b: 701, ..plan },
+        Plan { b: 7, ..plan },
+        Plan::bdz(),
+    ] {
+        let fault = build_brz_into(keys.bytes(), keys.ends(), &bad, &mut spill, &mut []);
+        assert_eq!(fault, Err(BuildError::BadPlan));
+    }
+    let fault = build_into(keys.bytes(), keys.ends(), &plan, &mut []);
+    assert_eq!(fault, Err(BuildError::BadPlan));
+}
+
+/// The length of a file by BRZ is not known before.
+fn room_of_brz(plan: &Plan) -> Option<u64> {
+    room(plan, 1000)
+}
+
+#[test]
 fn equal_keys_are_named() {
     let keys: Keys = ["a", "b", "c", "b"].into_iter().collect();
     for plan in plans() {
@@ -84,6 +139,26 @@ fn without_keys_there_is_no_function() {
     for plan in plans() {
         assert_eq!(built(&Keys::new(), &plan), Err(BuildError::NoKeys));
     }
+}
+
+/// The plan with the least b.
+fn least(plan: Plan) -> Plan {
+    let b = if plan.algorithm == Algorithm::Brz {
+        64
+    } else {
+        3
+    };
+    Plan { b, ..plan }
+}
+
+/// The plan with the greatest.
+fn greatest(plan: Plan) -> Plan {
+    let b = if plan.algorithm == Algorithm::Brz {
+        700
+    } else {
+        10
+    };
+    Plan { b, ..plan }
 }
 
 #[test]
@@ -106,6 +181,7 @@ fn a_bad_plan_is_refused() {
             },
             Plan {
                 algorithm: Algorithm::Brz,
+                b: 63,
                 ..plan
             },
             Plan {
@@ -133,8 +209,8 @@ fn a_bad_plan_is_refused() {
                 seed: u32::MAX,
                 ..plan
             },
-            Plan { b: 3, ..plan },
-            Plan { b: 10, ..plan },
+            least(plan),
+            greatest(plan),
         ] {
             assert!(built(&keys, &good).is_ok());
         }

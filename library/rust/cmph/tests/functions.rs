@@ -2,7 +2,7 @@
 mod common;
 
 use cmph::{build, Algorithm, DumpError, Function, Keys, KeysError, Plan, NONE};
-use common::{generated, of_hex, plans, two_by_brz};
+use common::{generated, known_plans, of_hex, plans, two_by_brz};
 use std::{env, fs, thread};
 
 const BATCH: usize = 1000;
@@ -130,7 +130,7 @@ fn the_first_fault_is_named() {
     }
 }
 
-/// The faults of cells and ranks, on the functions of docs/formats.md.
+/// The faults of cells and ranks, on the functions of docs/use/formats.md.
 #[test]
 fn faults_past_the_header_are_named() {
     let bdz = "434d5048444d5032 02 00 0700 01000000 b0c41200 00000000";
@@ -158,7 +158,7 @@ fn faults_past_the_header_are_named() {
     }
 }
 
-/// The functions of docs/formats.md in version 1, with their keys.
+/// The functions of docs/use/formats.md in version 1, with their keys.
 #[test]
 fn files_of_version_1_are_opened() {
     let (chm, bdz) = (&["a", "b"][..], &[""][..]);
@@ -223,7 +223,7 @@ fn a_function_by_brz_has_its_index_in_memory_of_its_own_or_of_the_callers() {
 #[test]
 fn the_other_algorithms_need_no_index() {
     let keys = generated(5);
-    for plan in plans() {
+    for plan in known_plans() {
         let dump = dump_of(&keys, &plan);
         let function = Function::open_in(&dump, &mut []).unwrap();
         assert_numbers(&function, &keys);

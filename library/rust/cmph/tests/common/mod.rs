@@ -6,8 +6,13 @@ pub fn generated(many: usize) -> Keys {
     (0..many).map(|i| format!("key {i}")).collect()
 }
 
-/// A plan of each algorithm that builds in memory.
-pub fn plans() -> [Plan; 3] {
+/// A plan of each algorithm.
+pub fn plans() -> [Plan; 4] {
+    [Plan::chm(), Plan::bdz(), Plan::bdz_ph(), Plan::brz()]
+}
+
+/// Those whose files have a length that is known before, and need no index.
+pub fn known_plans() -> [Plan; 3] {
     [Plan::chm(), Plan::bdz(), Plan::bdz_ph()]
 }
 
@@ -20,7 +25,7 @@ pub fn of_hex(digits: &str) -> Vec<u8> {
         .collect()
 }
 
-/// The function by BRZ of docs/formats.md, over the empty key and `a`.
+/// The function by BRZ of docs/use/formats.md, over the empty key and `a`.
 #[allow(dead_code)]
 pub fn two_by_brz() -> Vec<u8> {
     of_hex("434d5048444d5032 04 00 8000 02000000 b0c41200 00000000 0200 00000000 c3ff03")
