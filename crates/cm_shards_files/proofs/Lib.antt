@@ -1,0 +1,7 @@
+mod ApartLemmas
+mod KeyLemmas
+mod LoadLemmas
+mod MapLemmas
+mod ReadLemmas
+mod RouteLemmas
+mod TakenLemmas

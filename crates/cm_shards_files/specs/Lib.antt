@@ -1,0 +1,7 @@
+pub mod Taken
+pub mod FunctionFiles
+pub mod Shards
+pub mod ShardsLaws
+pub mod Loading
+pub mod Steps
+pub mod Examples

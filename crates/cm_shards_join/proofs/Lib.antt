@@ -1,0 +1,5 @@
+pub mod SpanLemmas
+pub mod CountLemmas
+pub mod TakeLemmas
+pub mod Ends
+pub mod Promises

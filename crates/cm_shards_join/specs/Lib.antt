@@ -1,0 +1,7 @@
+pub mod Counts
+pub mod Taking
+pub mod Takings
+pub mod Texts
+pub mod Outcomes
+pub mod Leaves
+pub mod Joins

@@ -1,0 +1,14 @@
+//! The join of function files into a manifest.
+#![tactic(auto)]
+
+mod counting;
+mod driving;
+mod making;
+mod reporting;
+mod stop;
+mod storing;
+mod taking;
+
+pub use crate::driving::join_job;
+pub use crate::stop::JoinStop;
+pub use cm_shards_words::JoinJob;

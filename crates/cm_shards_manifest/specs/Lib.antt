@@ -1,0 +1,9 @@
+pub mod Manifests
+pub mod ManifestBytes
+pub mod ManifestItems
+pub mod Steps
+pub mod ManifestFiles
+pub mod Loads
+pub mod ManifestLaws
+pub mod Paths
+pub mod Examples

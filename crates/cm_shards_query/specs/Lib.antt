@@ -1,0 +1,9 @@
+pub mod Texts
+pub mod Marks
+pub mod Taking
+pub mod Verdicts
+pub mod Written
+pub mod Outcomes
+pub mod Leaves
+pub mod Asks
+pub mod Examples

@@ -1,0 +1,6 @@
+use Rattle.std.proofs.Common.{arith}
+use Rattle.cm_shards_split.specs.PlacedLaws.{placed_at, placed_counts, placed_kept}
+use Rattle.cm_shards_split.proofs.laws.files_of_a_split.Goals as goal
+
+pub returns : goal.returns
+returns c = record { shards = λ dir i parts text files inside few. placed_at dir i parts text files inside (omega (arith, few)); counts = placed_counts; others = placed_kept }

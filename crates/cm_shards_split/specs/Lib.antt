@@ -1,0 +1,12 @@
+pub mod Names
+pub mod NamesLaws
+pub mod Shares
+pub mod Placed
+pub mod PlacedLaws
+pub mod Outcomes
+pub mod Parts
+pub mod Streaming
+pub mod Stops
+pub mod Splits
+pub mod Leaves
+pub mod Examples
