@@ -1,7 +1,7 @@
 #!/usr/bin/env python3
-"""Compares the options and their choices in the usage text, the man pages, the README, docs/command-line.md and the completions.
+"""Compares the options and their choices in the usage text, the man pages, the README, docs/use/command-line.md and the completions.
 
-    tests/completions.py [CMPH [JUDGE [FILTER [STORE]]]]        the programs are those below crates/ if they are left out
+    tests/completions.py [CMPH [JUDGE [FILTER [STORE [SHARDS]]]]]   the programs are those below crates/ if they are left out
 
 The usage text may name options and algorithms before the program takes them. CMPH is asked which it takes, and the others are
 left out. The programs beside it have no usage text: they are asked for each letter. The completions of bash are asked of bash; those of
@@ -16,14 +16,18 @@ from pathlib import Path
 
 TOP = Path(__file__).resolve().parent.parent
 BASH, ZSH = TOP / "completions" / "cmph.bash", TOP / "completions" / "_cmph"
-PROGRAMS = ["cmph", "cmph_judge", "cmph_filter", "cmph_store"]
+PROGRAMS = ["cmph", "cmph_judge", "cmph_filter", "cmph_store", "cmph_shards"]
 
-# Of the programs beside cmph: how many files they take, what follows their options in the man page, and their heading in docs/command-line.md.
+# Of the programs beside cmph: how many files they take, what follows their options in the man page, and their heading in docs/use/command-line.md.
 BESIDE = {
     "cmph_judge": (2, ".Ss What is true", "## The judge of reports"),
     "cmph_filter": (1, ".Ss Keys", "## Filters"),
     "cmph_store": (1, ".Ss Lines and keys", "## Record stores"),
+    "cmph_shards": (1, ".Ss Splits", "## Shards"),
 }
+
+# The options without which a program refuses any arguments.
+NEEDED = {"cmph_shards": "dm"}
 
 
 def run(*command):
@@ -106,13 +110,14 @@ def choices_of_zsh(letter):
     return found[1].split() if found else []
 
 
-def taken_by(program, files):
+def taken_by(program, files, needed):
     """The options that a program without a usage text takes, each with whether it has a value."""
-    def takes(*words):
-        return "bad arguments" not in run(program, *words, *["/none/none"] * files).stderr
+    def takes(letter, *value):
+        others = [word for other in needed if other != letter for word in (f"-{other}", "/none/none")]
+        return "bad arguments" not in run(program, f"-{letter}", *value, *others, *["/none/none"] * files).stderr
 
-    flags, valued = ([letter for letter in string.ascii_letters if takes(f"-{letter}", *value)] for value in ([], ["1"]))
-    return {**dict.fromkeys(flags, False), **dict.fromkeys(valued, True)}
+    flags, valued = ([letter for letter in string.ascii_letters if takes(letter, *value)] for value in ([], ["1"]))
+    return {**dict.fromkeys(valued, True), **dict.fromkeys(flags, False)}
 
 
 def of_section(page, heading):
@@ -123,21 +128,21 @@ def of_section(page, heading):
 def of_usage_lines(name):
     """The options of the indented lines of the README that say how a program is called."""
     lines = re.findall(rf"^    {name} (.*)$", (TOP / "README.md").read_text(), re.MULTILINE)
-    return {letter: bool(value) for line in lines for letter, value in re.findall(r"(?:^|\[)-(\w)( \w+)?", line)}
+    return {letter: bool(value) for line in lines for letter, value in re.findall(r"(?:^|[\[ ])-(\w)( \w+)?", line.split("#")[0])}
 
 
 def of_program(name):
-    """The options of a program beside cmph, as its man page, the README, docs/command-line.md and the completions have them."""
+    """The options of a program beside cmph, as its man page, the README, docs/use/command-line.md and the completions have them."""
     bash = TOP / "completions" / f"{name}.bash"
     offered = run("bash", "-c", f'source "$1"; COMP_WORDS=({name} -); COMP_CWORD=1; _{name}; printf "%s\\n" "${{COMPREPLY[@]}}"', "bash", bash)
     values = re.search(r"\(\[(\w+)\]\)", bash.read_text())[1]
     _, end, heading = BESIDE[name]
-    table = re.findall(r"^\| `-(\w)` \|([^|]*)\|", of_section("docs/command-line.md", heading), re.MULTILINE)
+    table = re.findall(r"^\| `-(\w)` \|([^|]*)\|", of_section("docs/use/command-line.md", heading), re.MULTILINE)
     return [
         (f"the options of the man page of {name}", of_man(name, end)),
         (f"the options of the synopsis of {name}", listed_in_synopsis(name)[1]),
         (f"the options of {name} in the README", of_usage_lines(name)),
-        (f"the options of {name} in docs/command-line.md", {letter: not what.startswith(" flag") for letter, what in table}),
+        (f"the options of {name} in docs/use/command-line.md", {letter: not what.startswith(" flag") for letter, what in table}),
         (f"the options of {name} of bash", {word[1:]: word[1:] in values for word in offered.stdout.split()}),
         (f"the options of {name} of zsh", of_zsh(ZSH.with_name(f"_{name}"))),
     ]
@@ -150,13 +155,13 @@ def main():
     compared = [
         ("the options of the man page", of_man(), options),
         ("the options of its synopsis", of_synopsis(), options),
-        ("the options of the README", of_table("README.md"), options),
-        ("the options of docs/command-line.md", of_table("docs/command-line.md"), options),
+        ("the options of the README", of_usage_lines("cmph"), options),
+        ("the options of docs/use/command-line.md", of_table("docs/use/command-line.md"), options),
         ("the options of bash", options_of_bash(), options),
         ("the options of zsh", of_zsh(), options),
         ("the algorithms of the man page", choices_of_man("a"), algorithms),
-        ("the algorithms of the README", choices_of_table("README.md", "a"), algorithms),
-        ("the algorithms of docs/command-line.md", choices_of_table("docs/command-line.md", "a"), algorithms),
+        ("the algorithms of the README", re.findall(r"^\| [^|]* \| `(\w+)` \|", of_section("README.md", "## Which algorithm to take"), re.MULTILINE), algorithms),
+        ("the algorithms of docs/use/command-line.md", choices_of_table("docs/use/command-line.md", "a"), algorithms),
         ("the algorithms of bash", of_bash("-a", ""), algorithms),
         ("the algorithms of bash after flags", of_bash("-gva", ""), algorithms),
         ("the algorithms of zsh", choices_of_zsh("a"), algorithms),
@@ -166,7 +171,7 @@ def main():
         ("the hash functions of zsh", choices_of_zsh("f"), hashes),
     ]
     for name, (files, _, _) in BESIDE.items():
-        options = taken_by(programs[name], files)
+        options = taken_by(programs[name], files, NEEDED.get(name, ""))
         compared += [(what, found, options) for what, found in of_program(name)]
     if shutil.which("zsh"):
         compared.append(("the faults that zsh finds", "".join(run("zsh", "-n", ZSH.with_name(f"_{name}")).stderr for name in PROGRAMS), ""))

@@ -1,8 +1,8 @@
 #!/usr/bin/env python3
 """Runs the built programs on real files, pipes and devices, and compares status, outputs and files with what they must be.
 
-    tests/edge.py [CMPH [JUDGE [FILTER [STORE]]]]   the programs are those below crates/ if they are left out
-    tests/edge.py --list                    lists the cases, as docs/reliability.md has them
+    tests/edge.py [CMPH [JUDGE [FILTER [STORE [SHARDS]]]]]   the programs are those below crates/ if they are left out
+    tests/edge.py --list                    lists the cases, as docs/use/reliability.md has them
 
 Each case runs in a folder of its own, as nobody if this runs as root. The last line is 'N passed, M failed'.
 """
@@ -491,7 +491,7 @@ def main():
     passed = failed = 0
     with tempfile.TemporaryDirectory(prefix="cmph-edge-") as top:
         os.chmod(top, 0o755)
-        for number, name in enumerate(["cmph", "cmph_judge", "cmph_filter", "cmph_store"], 1):
+        for number, name in enumerate(["cmph", "cmph_judge", "cmph_filter", "cmph_store", "cmph_shards"], 1):
             given = sys.argv[number] if len(sys.argv) > number else os.path.join(HERE, "..", "crates", name, "out", name)
             shutil.copyfile(given, os.path.join(top, name))
             os.chmod(os.path.join(top, name), 0o755)

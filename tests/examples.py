@@ -1,7 +1,7 @@
 #!/usr/bin/env python3
 """Runs the examples of the man pages, of the README and of pages below docs/, and compares what they print with what stands there.
 
-    tests/examples.py [CMPH [JUDGE [FILTER [STORE]]]]   the programs are those below crates/ if they are left out
+    tests/examples.py [CMPH [JUDGE [FILTER [STORE [SHARDS]]]]]   the programs are those below crates/ if they are left out
 
 Each page's examples run one after another in one shell, in a folder of its own. Both outputs come together, as on a terminal.
 """
@@ -12,9 +12,10 @@ import tempfile
 from pathlib import Path
 
 TOP = Path(__file__).resolve().parent.parent
-PROGRAMS = ["cmph", "cmph_judge", "cmph_filter", "cmph_store"]
-SECTIONS = [("README.md", "## A session", "## Install"), ("docs/algorithms.md", "## Buckets", "## A worked example"),
-            ("docs/filters.md", "## A session", "## When to take which"), ("docs/stores.md", "## A session", "## When to take which")]
+PROGRAMS = ["cmph", "cmph_judge", "cmph_filter", "cmph_store", "cmph_shards"]
+SECTIONS = [("README.md", "## A session", "## Install"), ("docs/believe/algorithms.md", "## Buckets", "## A worked example"),
+            ("docs/use/filters.md", "## A session", "## When to take which"), ("docs/use/stores.md", "## A session", "## When to take which"),
+            ("docs/use/shards.md", "## A session", "## When to shard")]
 PRELUDE = 'ended() { local status=$?; printf "\\0"; return $status; }\n'
 
 
