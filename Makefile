@@ -1,5 +1,5 @@
-# make            proves and builds bin/cmph, bin/cmph_judge, bin/cmph_filter and bin/cmph_store: names each crate with its time, and puts
-#                 all else into out/prove.log
+# make            proves and builds bin/cmph, bin/cmph_judge, bin/cmph_filter, bin/cmph_store and bin/cmph_shards: names each crate with its
+#                 time, and puts all else into out/prove.log
 # make demo       builds a function over a word list, queries it, and tries all algorithms over generated keys
 # make library    proves and builds the C library: lib/libcmph_c.a, lib/libcmph_c.so.1 and lib/cmph_c.pc; its header is library/cmph_c.h
 # make install-library
@@ -7,6 +7,7 @@
 # make check      the gate: proves everything from nothing, and runs all tests
 # make install    installs the programs, their man pages, and completions for bash and zsh below $(PREFIX); and the library, if `make library` made it
 # make uninstall  removes them
+# make dist       packs programs, library, man pages and completions as an archive with an install.sh, and as a Debian package, in dist/
 # make bench      measures it beside the C tool and plain Rust, leaves the results in bench/results, and writes the measured tables of
 #                 README.md and docs/: make bench SETS="100000 words" for fewer sets of keys, ROUNDS=3 for fewer runs, NAME=here for
 #                 results of another name than `latest`
@@ -21,9 +22,11 @@
 #                 membership filters beside builds and queries, libbloom and plain Rust
 # make bench-store
 #                 record stores beside builds and queries, tinycdb and LMDB
+# make bench-shards
+#                 splits and queries of shards beside plain Rust and one function, and all steps beside cmph-shards
 # make bench-library
 #                 calls of the C library beside those of libcmph, in one process
-# make drawings   draws docs/chm.svg from a real run
+# make drawings   draws docs/believe/chm.svg and docs/use/shards.svg from real runs
 PREFIX ?= /usr/local
 SETS ?=
 NAME ?= latest
@@ -31,7 +34,7 @@ ROUNDS ?= 7
 BEFORE ?=
 SOURCES := crates.txt $(wildcard crates/*/src/*.rt crates/*/specs/*.antt) $(shell find crates -path '*/out' -prune -o -name '*.antt' -print)
 
-PROGRAMS := cmph cmph_judge cmph_filter cmph_store
+PROGRAMS := cmph cmph_judge cmph_filter cmph_store cmph_shards
 
 all: $(PROGRAMS:%=bin/%)
 
@@ -39,26 +42,22 @@ all: $(PROGRAMS:%=bin/%)
 bin/cmph_judge: bin/cmph
 bin/cmph_filter: bin/cmph_judge
 bin/cmph_store: bin/cmph_filter
+bin/cmph_shards: bin/cmph_store
 bin/%: $(SOURCES)
 	@python3 tools/prove.py $*
 	@mkdir -p bin
 	@cp crates/$*/out/$* $@
 
-# The functions of the C library that take memory are in the kit's archive: with them a program needs nothing else.
-LIBC = $(shell dirname $$(dirname $$(readlink -f $$(command -v rt))))/c/liblibc_c.a
 VERSION := 1
 
 library: lib/libcmph_c.a lib/libcmph_c.so.1 lib/cmph_c.pc
 
 lib/libcmph_c.a: $(SOURCES)
 	@python3 tools/prove.py cmph_c
-	@mkdir -p lib
-	@rm -f $@
-	@printf 'create $@\naddlib crates/cmph_c/out/libcmph_c.a\naddlib $(LIBC)\nsave\nend\n' | ar -M
+	@python3 tools/link.py lib
 
 lib/libcmph_c.so.1: lib/libcmph_c.a library/exports.map
-	$(CC) -shared -o $@ -Wl,--whole-archive lib/libcmph_c.a -Wl,--no-whole-archive -Wl,-z,defs -Wl,-z,text -Wl,-soname,libcmph_c.so.1 \
-	    -Wl,--version-script=library/exports.map
+	@python3 tools/link.py lib
 
 lib/cmph_c.pc: library/cmph_c.pc.in
 	@mkdir -p lib
@@ -70,6 +69,9 @@ install-library: library
 	install -D -m 755 lib/libcmph_c.so.1 $(DESTDIR)$(PREFIX)/lib/libcmph_c.so.1
 	ln -sf libcmph_c.so.1 $(DESTDIR)$(PREFIX)/lib/libcmph_c.so
 	install -D -m 644 lib/cmph_c.pc $(DESTDIR)$(PREFIX)/lib/pkgconfig/cmph_c.pc
+
+dist: all library
+	python3 tools/dist.py
 
 demo: bin/cmph
 	@scratch=$$(mktemp -d) && cp examples/words $$scratch/ && cd $$scratch && cmph=$(CURDIR)/bin/cmph && \
@@ -130,13 +132,17 @@ bench-filter: all
 bench-store: all
 	python3 bench/tables.py --record store python3 bench/store.py
 
+bench-shards: all
+	python3 bench/tables.py --record shards python3 bench/shards.py
+
 bench-library: bin/cmph library
 	python3 bench/tables.py --record library python3 bench/library.py
 
-drawings: bin/cmph
-	python3 docs/draw.py
+drawings: all
+	python3 bench/draw.py
+	python3 bench/draw_shards.py
 
 clean:
-	rm -rf bin lib out crates/*/out
+	rm -rf bin lib out dist crates/*/out
 
-.PHONY: all library demo check install install-library uninstall bench bench-bits bench-peel bench-spill bench-bbhash bench-versions bench-most bench-judge bench-filter bench-store bench-library drawings clean
+.PHONY: all library dist demo check install install-library uninstall bench bench-bits bench-peel bench-spill bench-bbhash bench-versions bench-most bench-judge bench-filter bench-store bench-shards bench-library drawings clean

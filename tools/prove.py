@@ -158,6 +158,7 @@ class Proof:
 
     def __init__(self, crates, log, kit):
         self.crates, self.log, self.kit, self.lock, self.running, self.stopped = crates, log, kit, threading.Lock(), {}, False
+        self.verdicts = dict.fromkeys(crates, "")  # the last line of each proof, which tools/dist.py packs
 
     def prove(self, name, jobs, waits):
         """Proves a crate, unless it is proved, and gives the status, the seconds, and the first lines that may say what is wrong. A crate that waits
@@ -173,6 +174,7 @@ class Proof:
             if status != 0:
                 return status, time.monotonic() - start, said
         kept.write_text(now)
+        made.with_name(f"{name}.verdict").write_text(self.verdicts[name] + "\n")
         return 0, time.monotonic() - start, said
 
     def run(self, name, command, said):
@@ -186,6 +188,8 @@ class Proof:
         for line in ran.stdout:
             if len(said) < SHOWN and line.strip() and not any(dull in line for dull in DULL):
                 said.append(line.rstrip())
+            if line.startswith("logic="):
+                self.verdicts[name] = line.strip()
             with self.lock:
                 self.log.write(f"{name}: {line.rstrip()}\n")
                 self.log.flush()
