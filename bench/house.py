@@ -1,5 +1,5 @@
 #!/usr/bin/env python3
-"""Reads the crates and their families from crates.txt, and writes from it the tables of crates and the drawing docs/crates.svg.
+"""Reads the crates and their families from crates.txt, and writes from it the tables of crates and the drawing docs/believe/crates.svg.
 
     bench/house.py DRAWING.svg
 

@@ -2,9 +2,9 @@
 """Writes the measured tables of README.md and docs/ from the files in bench/results, those of crates from crates.txt, and code from
 its file.
 
-    bench/tables.py                            writes every block, and the drawings docs/bench.svg and docs/crates.svg
+    bench/tables.py                            writes every block, and the drawings docs/measured/bench.svg and docs/believe/crates.svg
     bench/tables.py --check                    writes nothing, and fails if a block or a drawing is not what it would write, if
-                                               docs/proofs.md has no row of a crate, or if a link leads nowhere
+                                               docs/believe/proofs.md has no row of a crate
     bench/tables.py --record NAME COMMAND ..   runs COMMAND, and first leaves what it prints in bench/results/NAME.md, with
                                                the machine, the date and the command
 
@@ -14,9 +14,13 @@ A block stands in a page between `<!-- begin: WHAT -->` and `<!-- end -->`. WHAT
     choice NAME KEYS    which algorithm to take, with the figures of NAME.csv for that many generated keys
     crates              each crate with what it may use and what it promises, by crates.txt
     families            each family of crates with what it is for and what it promises, by crates.txt
+    contents [all]      the headings of the page, with `all` those of the third level too
+    reading CRATE MODULE NAME
+                        the definitions that the clauses of a theorem reach (bench/reading.py)
+    kit                 what the crates are proved with, by `rt version`
     source FILE [PART]  a file of the repository as code, or the part of it between its comments `begin: PART` and `end: PART`
 
-The bars in docs/bench.svg are drawn from bench/results/latest.csv, and docs/crates.svg from crates.txt (bench/house.py).
+The bars in docs/measured/bench.svg are drawn from bench/results/latest.csv, and docs/believe/crates.svg from crates.txt (bench/house.py).
 """
 
 import csv
@@ -32,12 +36,12 @@ from pathlib import Path
 import bars
 import compare
 import house
-import links
+import reading
 
 TOP = Path(__file__).resolve().parent.parent
 RESULTS = TOP / "bench" / "results"
-BARS = TOP / "docs" / "bench.svg"
-CRATES = TOP / "docs" / "crates.svg"
+BARS = TOP / "docs" / "measured" / "bench.svg"
+CRATES = TOP / "docs" / "believe" / "crates.svg"
 BLOCK = re.compile(r"^<!-- begin: ([^\n]*) -->\n(.*?)^<!-- end -->$", re.MULTILINE | re.DOTALL)
 MARKER = re.compile(r"^<!-- (begin: .*|end) -->$", re.MULTILINE)
 FENCES = {".rt": "rust", ".rs": "rust", ".antt": "antt"}
@@ -110,9 +114,25 @@ def source(path: str, part: str | None) -> str:
     return f"```{FENCES.get(Path(path).suffix, '')}\n{code.strip()}\n```\n"
 
 
-def content(what: str) -> str:
-    """What stands in a block."""
+def contents(text: str, depth: int) -> str:
+    """A list of the headings of a page, to this level."""
+    code = re.compile(r"^```.*?^```$", re.MULTILINE | re.DOTALL)
+    lines, seen = [], {}
+    for level, heading in re.findall(r"^(##+) (.*)$", code.sub("", text), re.MULTILINE):
+        anchor = re.sub(r"[^\w\- ]", "", heading.lower()).replace(" ", "-")
+        again = seen[anchor] = seen.get(anchor, -1) + 1
+        if len(level) <= depth:
+            lines.append(f"{'  ' * (len(level) - 2)}- [{heading}](#{anchor}{f'-{again}' if again else ''})")
+    return "\n".join(lines) + "\n"
+
+
+def content(what: str, text: str) -> str:
+    """What stands in a block of a page."""
     match what.split():
+        case ["contents"]:
+            return contents(text, 2)
+        case ["contents", "all"]:
+            return contents(text, 3)
         case ["bench", name]:
             return (RESULTS / f"{name}.md").read_text()
         case ["choice", name, keys]:
@@ -121,6 +141,10 @@ def content(what: str) -> str:
             return house.table_of_crates()
         case ["families"]:
             return house.table_of_families()
+        case ["reading", crate, module, name]:
+            return reading.table(crate, module, name)
+        case ["kit"]:
+            return f"Proved with `{subprocess.run(['rt', 'version'], capture_output=True, text=True, check=True).stdout.strip()}`.\n"
         case ["source", path, *part] if len(part) < 2:
             return source(path, *part or [None])
     raise Refused(f"there is no block '{what}'")
@@ -131,7 +155,7 @@ def page(text: str) -> str:
     markers = [found.startswith("begin") for found in MARKER.findall(text)]
     if markers != [True, False] * (len(markers) // 2):
         raise Refused("a block does not begin and end")
-    return BLOCK.sub(lambda block: f"<!-- begin: {block[1]} -->\n{content(block[1])}<!-- end -->", text)
+    return BLOCK.sub(lambda block: f"<!-- begin: {block[1]} -->\n{content(block[1], text)}<!-- end -->", text)
 
 
 def drawn() -> str:
@@ -144,7 +168,7 @@ def drawn() -> str:
 def wanted() -> dict[Path, str]:
     """Each page, and the drawings, as they should be."""
     pages = {}
-    for path in [TOP / "README.md", *sorted((TOP / "docs").glob("*.md"))]:
+    for path in [TOP / "README.md", *sorted((TOP / "docs").rglob("*.md"))]:
         try:
             pages[path] = page(path.read_text())
         except (Refused, house.Refused, OSError) as fault:
@@ -157,8 +181,8 @@ def wanted() -> dict[Path, str]:
 
 
 def not_in_proofs() -> list[str]:
-    """The crates of the program that have no row in docs/proofs.md."""
-    rows = re.findall(r"^\| (`[^|]*`) \|", (TOP / "docs" / "proofs.md").read_text(), re.MULTILINE)
+    """The crates of the program that have no row in docs/believe/proofs.md."""
+    rows = re.findall(r"^\| (`[^|]*`) \|", (TOP / "docs" / "believe" / "proofs.md").read_text(), re.MULTILINE)
     named = {name for row in rows for name in re.findall(r"`(\w+)`", row)}
     crates = [crate.name for family in house.read() for crate in family.crates]
     return [name for name in crates if name not in named and not name.startswith(("test_", "bench_"))]
@@ -189,7 +213,7 @@ def main() -> int:
         else:
             path.write_text(text)
             print(f"{path.relative_to(TOP)}: written")
-    faults = [f"docs/proofs.md has no row of {name}" for name in not_in_proofs()] + links.broken()
+    faults = [f"docs/believe/proofs.md has no row of {name}" for name in not_in_proofs()]
     for fault in faults:
         print(fault, file=sys.stderr)
     return 1 if (old or faults) and asked == ["--check"] else 0

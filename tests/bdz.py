@@ -1,4 +1,4 @@
-"""Functions by BDZ in plain Python, written from docs/formats.md and docs/algorithms.md alone: it shares no line with the program. They are the indexes of
+"""Functions by BDZ in plain Python, written from docs/use/formats.md and docs/believe/algorithms.md alone: it shares no line with the program. They are the indexes of
 tests/store.py. Edges are those of tests/judge.py, rounds and cells those of tests/filter.py."""
 from itertools import accumulate
 from typing import NamedTuple

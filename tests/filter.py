@@ -1,5 +1,5 @@
 #!/usr/bin/env python3
-"""Membership filters in plain Python, written from docs/formats.md and docs/algorithms.md alone: it shares no line with the program. tests/filtering.py compares
+"""Membership filters in plain Python, written from docs/use/formats.md and docs/believe/algorithms.md alone: it shares no line with the program. tests/filtering.py compares
 both. Hash values, edges and the 2-core are those of tests/judge.py.
 
     tests/filter.py KEYS        builds a filter over the lines of a file, with fingerprints of 8 bits, and prints its file in hexadecimal digits, or why

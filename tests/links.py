@@ -1,6 +1,6 @@
 #!/usr/bin/env python3
-"""Checks the links of the documents: each names a file or a folder that is there, and a heading of it if it names one. Each page in docs/ is listed
-in docs/README.md.
+"""Checks the links of the documents: each names a file or a folder that is there, and a heading of it if it names one. Each page below docs/ is
+listed in docs/README.md.
 
     tests/links.py
 
@@ -64,7 +64,7 @@ def faults():
             yield fault and f"{page.relative_to(TOP)}: {link}: {fault}"
     listed = {(INDEX.parent / link.partition("#")[0]).resolve() for link in links(INDEX)}
     for page in pages():
-        if page.parent == INDEX.parent and page != INDEX:
+        if INDEX.parent in page.parents and page != INDEX:
             yield "" if page in listed else f"{page.relative_to(TOP)}: not in {INDEX.relative_to(TOP)}"
 
 

@@ -10,7 +10,7 @@ import time
 
 from room import HERE, case, closed_once, ends, finished, limited, lines, said, same
 
-sys.path.append(os.path.join(HERE, "..", "docs"))
+sys.path.append(os.path.join(HERE, "..", "bench"))
 from draw import words as lookup2  # noqa: E402
 
 BUILD = ["-g", "-a", "brz", "keys"]

@@ -1,5 +1,5 @@
 #!/usr/bin/env python3
-"""Record stores in plain Python, written from docs/formats.md alone: it shares no line with the program. tests/storing.py compares both. The index is a
+"""Record stores in plain Python, written from docs/use/formats.md alone: it shares no line with the program. tests/storing.py compares both. The index is a
 function of tests/bdz.py.
 
     tests/store.py [-g] [-z] [-k N] [-c C] [-s S] [-r R] [-b B] [-m FILE] LINES     builds or looks up, as the program does

@@ -1,4 +1,4 @@
-"""What the program must do with small files: docs/formats.md and docs/algorithms.md once more, in plain Python.
+"""What the program must do with small files: docs/use/formats.md and docs/believe/algorithms.md once more, in plain Python.
 
 hostile.py compares the program with it. It is written for clarity, and is fast enough for some hundred keys.
 """

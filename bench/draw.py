@@ -1,7 +1,7 @@
 #!/usr/bin/env python3
-"""Draws a build and an answer by CHM, step by step, into docs/chm.svg.
+"""Draws a build and an answer by CHM, step by step, into docs/believe/chm.svg.
 
-    docs/draw.py [PROGRAM]
+    bench/draw.py [PROGRAM]
 
 PROGRAM is bin/cmph if none is given. It builds a function over eight words and answers them. This script reads the
 function file that came of it, works out the hashes, the graph, the rounds and the cells again, and stops if anything
@@ -354,7 +354,7 @@ def main() -> None:
     page.y += 4
     for key in (SHOWN, STRANGER):
         draw_answer(page, key, function.seed, cells, answered[key], m)
-    (TOP / "docs" / "chm.svg").write_text(page.svg())
+    (TOP / "docs" / "believe" / "chm.svg").write_text(page.svg())
 
 
 if __name__ == "__main__":
