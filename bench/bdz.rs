@@ -5,6 +5,7 @@ mod plain;
 mod triples;
 
 use plain::{Divisor, Edges, Function, Peeled};
+use std::hint::black_box;
 use std::io::{self, Write};
 use triples::{Cells, chosen};
 
@@ -131,6 +132,20 @@ impl Function<3> for Bdz {
     fn answer(&self, ends: [u32; 3]) -> Option<u32> {
         let v = chosen(&self.cells, ends);
         (self.cells.get(v) != IDLE).then(|| self.rank(v))
+    }
+
+    /// In steps, each over all keys: the chosen vertices; a look at all that their ranks need, so that no key waits alone; the ranks.
+    fn answers(&self, ends: &[[u32; 3]], out: &mut [Option<u32>]) {
+        let mut vertices = [0; plain::BATCH];
+        for (v, ends) in vertices.iter_mut().zip(ends) {
+            *v = chosen(&self.cells, *ends);
+        }
+        let vertices = &vertices[..ends.len()];
+        let looks = vertices.iter().map(|v| v / (WORDS * PER_WORD));
+        black_box(looks.fold(0, |sum, at| sum ^ u64::from(self.ranks[at as usize]) ^ self.cells.word(at * WORDS) ^ self.cells.word((at + 1) * WORDS - 1)));
+        for (answer, v) in out.iter_mut().zip(vertices) {
+            *answer = (self.cells.get(*v) != IDLE).then(|| self.rank(*v));
+        }
     }
 }
 

@@ -1,11 +1,11 @@
 #!/usr/bin/env python3
 """Measures this program beside the C tool of the CMPH library, and beside the same algorithms in plain Rust.
 
-    bench/compare.py [--name NAME] [--rounds N] [SET ..]
+    bench/compare.py [--name NAME] [--rounds N] [--builds N] [SET ..]
 
 A SET is a number of generated keys, `words` (Debian's word list), `paths` (paths of files of this machine), or the path of a
-file of keys. Every tool builds a function over the same keys and answers them all, in N interleaved runs (3). The least
-processor time counts, and the greatest memory.
+file of keys. Every tool builds a function over the same keys and answers them all, in N interleaved runs (3), or builds it in
+fewer: a build of the C tool over many keys takes long. The least processor time counts, and the greatest memory.
 
 For equal work each tool takes a seed whose first graph works, or by brz the first split. This program tries seeds from 1 on,
 so the keys are chosen: the first block of generated keys that seed 1 serves, or a file without its last few lines. For the C
@@ -263,7 +263,8 @@ def row(name: str, keys: int, algorithm: str, measure: str, values: dict[str, fl
     return {"set": name, "keys": keys, "algorithm": algorithm, "measure": measure, **values, **ratios}
 
 
-def measure(name: str, algorithm: str, rounds: int, tool: str | None, scratch: Path) -> list[dict]:
+def measure(name: str, algorithm: str, rounds: tuple[int, int], tool: str | None, scratch: Path) -> list[dict]:
+    """The rows of a set by an algorithm. `rounds` has the runs of builds and of queries."""
     keys, c_function, plain_keys = scratch / "keys", scratch / "c.mph", scratch / "plain"
     count = fitting_keys(name, algorithm, keys)
     if count is None:
@@ -285,7 +286,7 @@ def measure(name: str, algorithm: str, rounds: int, tool: str | None, scratch: P
         builds["c"] = c_build(tool, algorithm, seed, c_function, keys)
         queries["c"] = [tool, "-v", "-m", c_function, keys]
         functions["c"] = c_function
-    built, queried = interleaved(builds, rounds), interleaved(queries, rounds)
+    built, queried = interleaved(builds, rounds[0]), interleaved(queries, rounds[1])
     bits = {tool: 8 * path.stat().st_size / count for tool, path in functions.items()}
     values = [
         {tool: used.seconds for tool, used in built.items()},
@@ -339,10 +340,23 @@ def leave(name: str, rows: list[dict], facts: str) -> None:
     (results / f"{name}.md").write_text(f"{facts}\n\n{table(rows)}\n")
 
 
+def facts_of(asked: argparse.Namespace, load: float) -> str:
+    """What is said above the table: when, by which command, on which machine, and how busy it was."""
+    day, command = date.today(), shlex.join(["python3", "bench/compare.py", *sys.argv[1:]])
+    runs = "one run each, interleaved" if asked.rounds == 1 else f"{asked.rounds} interleaved runs"
+    runs += f", of {asked.builds} for a build" if asked.builds else ""
+    return (
+        f"Measured on {day.day} {day:%B %Y} by `{command}` on {machine()}: the least processor time and the "
+        f"greatest memory of {runs}. Load average {load:.1f} at the start, {os.getloadavg()[0]:.1f} at the end."
+        "\n\nIn brackets: the ratio to the C tool."
+    )
+
+
 def main() -> None:
     parser = argparse.ArgumentParser(description=__doc__, formatter_class=argparse.RawDescriptionHelpFormatter)
     parser.add_argument("--name", default="latest", help="the name of the results (latest)")
     parser.add_argument("--rounds", type=int, default=3, help="how often each tool runs (3)")
+    parser.add_argument("--builds", type=int, help="how often each tool builds, if not as often")
     parser.add_argument("sets", metavar="SET", nargs="*", default=SETS, help=f"the sets of keys ({' '.join(SETS)})")
     asked = parser.parse_args()
     if not OURS.exists():
@@ -356,14 +370,8 @@ def main() -> None:
         rows = []
         for name in asked.sets:
             for algorithm in taken:
-                rows += measure(name, algorithm, asked.rounds, tool, scratch)
-    day, command = date.today(), ["python3", "bench/compare.py", "--name", asked.name, "--rounds", str(asked.rounds), *asked.sets]
-    runs = "one run each, interleaved" if asked.rounds == 1 else f"{asked.rounds} interleaved runs"
-    facts = (
-        f"Measured on {day.day} {day:%B %Y} by `{shlex.join(command)}` on {machine()}: the least processor time and the "
-        f"greatest memory of {runs}. Load average {load:.1f} at the start, {os.getloadavg()[0]:.1f} at the end."
-        "\n\nIn brackets: the ratio to the C tool."
-    )
+                rows += measure(name, algorithm, (asked.builds or asked.rounds, asked.rounds), tool, scratch)
+    facts = facts_of(asked, load)
     print(f"{facts}\n\n{table(rows)}")
     leave(asked.name, rows, facts)
 

@@ -76,6 +76,13 @@ pub trait Function<const K: usize> {
 
     /// What the key with these ends gets.
     fn answer(&self, ends: [u32; K]) -> Option<u32>;
+
+    /// What each of the keys with these ends gets, at most `BATCH` of them.
+    fn answers(&self, ends: &[[u32; K]], out: &mut [Option<u32>]) {
+        for (answer, ends) in out.iter_mut().zip(ends) {
+            *answer = self.answer(*ends);
+        }
+    }
 }
 
 // The hash
@@ -388,9 +395,7 @@ fn query<F: Function<K>, const K: usize>(path: &str) -> io::Result<()> {
         for (edge, key) in edges.iter_mut().zip(batch.keys()) {
             *edge = F::edge(words(key, seed), &range);
         }
-        for (answer, edge) in answers.iter_mut().zip(&edges[..batch.ends.len()]) {
-            *answer = function.answer(*edge);
-        }
+        function.answers(&edges[..batch.ends.len()], &mut answers);
         for (key, answer) in batch.keys().zip(answers) {
             if let Some(number) = answer {
                 text.put(key, number)?;
