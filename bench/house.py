@@ -1,5 +1,5 @@
 #!/usr/bin/env python3
-"""Reads the crates and their families from crates.txt, and writes from it the tables of crates and the drawing docs/believe/crates.svg.
+"""Reads the crates and their families from crates.txt, and writes from it the table of families and the drawing docs/believe/crates.svg.
 
     bench/house.py DRAWING.svg
 
@@ -82,16 +82,6 @@ def named_in(each: Family) -> None:
 
 
 # Tables
-
-
-def table_of_crates() -> str:
-    """Each crate with what it may use and what it promises."""
-    lines = ["| Crate | May use | Promises to those above |", "|---|---|---|"]
-    for each in read():
-        lines.append(f"| **{each.name}** | | {each.purpose} |")
-        for crate in each.crates:
-            lines.append(f"| `{crate.name}` | {listed(crate.uses)} | {crate.promise} |")
-    return "\n".join(lines) + "\n"
 
 
 def table_of_families() -> str:

@@ -1,6 +1,6 @@
 #!/usr/bin/env python3
-"""Writes the measured tables of README.md and docs/ from the files in bench/results, those of crates from crates.txt, and code from
-its file.
+"""Writes the measured tables of README.md, bench/notebook.md and docs/ from the files in bench/results, those of crates from crates.txt,
+and code from its file.
 
     bench/tables.py                            writes every block, and the drawings docs/measured/bench.svg and docs/believe/crates.svg
     bench/tables.py --check                    writes nothing, and fails if a block or a drawing is not what it would write, if
@@ -12,7 +12,6 @@ A block stands in a page between `<!-- begin: WHAT -->` and `<!-- end -->`. WHAT
 
     bench NAME          all of bench/results/NAME.md
     choice NAME KEYS    which algorithm to take, with the figures of NAME.csv for that many generated keys
-    crates              each crate with what it may use and what it promises, by crates.txt
     families            each family of crates with what it is for and what it promises, by crates.txt
     contents [all]      the headings of the page, with `all` those of the third level too
     reading CRATE MODULE NAME
@@ -137,8 +136,6 @@ def content(what: str, text: str) -> str:
             return (RESULTS / f"{name}.md").read_text()
         case ["choice", name, keys]:
             return choice(name, keys)
-        case ["crates"]:
-            return house.table_of_crates()
         case ["families"]:
             return house.table_of_families()
         case ["reading", crate, module, name]:
@@ -168,7 +165,7 @@ def drawn() -> str:
 def wanted() -> dict[Path, str]:
     """Each page, and the drawings, as they should be."""
     pages = {}
-    for path in [TOP / "README.md", *sorted((TOP / "docs").rglob("*.md"))]:
+    for path in [TOP / "README.md", TOP / "bench" / "notebook.md", *sorted((TOP / "docs").rglob("*.md"))]:
         try:
             pages[path] = page(path.read_text())
         except (Refused, house.Refused, OSError) as fault:

@@ -2,7 +2,7 @@
 """Runs the built programs on real files, pipes and devices, and compares status, outputs and files with what they must be.
 
     tests/edge.py [CMPH [JUDGE [FILTER [STORE [SHARDS]]]]]   the programs are those below crates/ if they are left out
-    tests/edge.py --list                    lists the cases, as docs/use/reliability.md has them
+    tests/edge.py --list                    lists the cases
 
 Each case runs in a folder of its own, as nobody if this runs as root. The last line is 'N passed, M failed'.
 """

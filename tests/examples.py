@@ -13,7 +13,7 @@ from pathlib import Path
 
 TOP = Path(__file__).resolve().parent.parent
 PROGRAMS = ["cmph", "cmph_judge", "cmph_filter", "cmph_store", "cmph_shards"]
-SECTIONS = [("README.md", "## A session", "## Install"), ("docs/believe/algorithms.md", "## Buckets", "## A worked example"),
+SECTIONS = [("README.md", "## A session", "## In a program"), ("docs/believe/algorithms.md", "## Buckets", "## A worked example"),
             ("docs/use/filters.md", "## A session", "## When to take which"), ("docs/use/stores.md", "## A session", "## When to take which"),
             ("docs/use/shards.md", "## A session", "## When to shard")]
 PRELUDE = 'ended() { local status=$?; printf "\\0"; return $status; }\n'

@@ -1,5 +1,5 @@
 #!/usr/bin/env python3
-"""A judge of reports in plain Python, written from docs/use/formats.md alone: it shares no line with the program. tests/judging.py compares both.
+"""A judge of reports in plain Python, written from docs/use/formats.md and man/cmph_judge.1 alone: it shares no line with the program. tests/judging.py compares both.
 
     tests/judge.py REPORT KEYS        says what is wrong with the report of a build without -b, -c, -k and -z
 """

@@ -234,6 +234,18 @@ def example(room):
     case("the example with another file", (left.returncode, left.stderr) != (1, "few is no function: code 3 at 0\n") and left)
 
 
+def lines_of_readme(room):
+    """The function of the README, in a program."""
+    (room / "number.c").write_text(f'#include "{CALLER.with_name("number.c")}"\n#include <stdio.h>\nuint8_t file[4096];\n'
+                                   'int main(void) { printf("%u\\n", number_of(file, fread(file, 1, sizeof file, stdin), (const uint8_t *)"b", 1)); }\n')
+    made = run("gcc", "-Wall", "-Wextra", "-Werror", f"-I{HEADER.parent}", room / "number.c", ARCHIVE, LIBC, "-o", room / "number")
+    case("gcc compiles the lines of the README", made.stderr)
+    for name, wanted in (("few_chm", "1"), ("few_bdz", answers(room, "few_bdz", "two")[1]), ("few", str(2**32 - 1))):
+        with open(room / name) as file:
+            left = run(room / "number", stdin=file)
+        case(f"the lines of the README over {name}", left.stdout != f"{wanted}\n" and left)
+
+
 def put_files(room):
     """Keys, and functions over them by each algorithm, one in version 1. By brz the words are in four buckets."""
     (room / "none").write_bytes(b"")
@@ -289,6 +301,7 @@ def main():
         cases(room, callers)
         if shutil.which("gcc"):
             example(room)
+            lines_of_readme(room)
     print(f"{passed} passed, {failed} failed")
     return 1 if failed or not passed else 0
 

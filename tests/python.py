@@ -143,7 +143,7 @@ def unit_tests(python, room, around):
         if " ... skipped " in line:
             print(f"{python}: {line}")
     case(f"{python}: unit tests", left.returncode and left.stderr)
-    for page in (PACKAGE / "README.md", TOP / "docs" / "use" / "python.md"):
+    for page in (PACKAGE / "README.md", TOP / "docs" / "use" / "python.md", TOP / "README.md"):
         left = run(python, "-m", "doctest", page, cwd=room, env=around)
         case(f"{python}: the sessions of {page.name}", left.returncode and left.stdout + left.stderr)
 
