@@ -17,7 +17,7 @@ A block stands in a page between `<!-- begin: WHAT -->` and `<!-- end -->`. WHAT
     reading CRATE MODULE NAME
                         the definitions that the clauses of a theorem reach (bench/reading.py)
     kit                 what the crates are proved with, by `rt version`
-    source FILE [PART]  a file of the repository as code, or the part of it between its comments `begin: PART` and `end: PART`
+    source FILE [TEXT]  a file of the repository as code, or of it the lines between two empty ones of which one begins with TEXT
 
 The bars in docs/measured/bench.svg are drawn from bench/results/latest.csv, and docs/believe/crates.svg from crates.txt (bench/house.py).
 """
@@ -101,15 +101,14 @@ def summary(name: str) -> str:
     return f"\nOver all sets of keys that were measured, {' and '.join(said)} of the C tool's processor time.\n"
 
 
-def source(path: str, part: str | None) -> str:
-    """A file as code, or the part of it between two comments, which stand on lines of their own."""
+def source(path: str, text: str) -> str:
+    """A file as code, or of it the lines between two empty ones of which one begins with a text."""
     code = (TOP / path).read_text()
-    if part:
-        mark, name = "^ *(?://|--)", re.escape(part)
-        found = re.search(f"{mark} begin: {name}$(.*?){mark} end: {name}$", code, re.MULTILINE | re.DOTALL)
-        if not found:
-            raise Refused(f"{path} has no part '{part}'")
-        code = found[1]
+    if text:
+        parts = [part for part in re.split(r"\n{2,}", code) if any(line.startswith(text) for line in part.split("\n"))]
+        if len(parts) != 1:
+            raise Refused(f"{path} has {len(parts)} parts in which a line begins with '{text}'")
+        code = parts[0]
     return f"```{FENCES.get(Path(path).suffix, '')}\n{code.strip()}\n```\n"
 
 
@@ -142,8 +141,8 @@ def content(what: str, text: str) -> str:
             return reading.table(crate, module, name)
         case ["kit"]:
             return f"Proved with `{subprocess.run(['rt', 'version'], capture_output=True, text=True, check=True).stdout.strip()}`.\n"
-        case ["source", path, *part] if len(part) < 2:
-            return source(path, *part or [None])
+        case ["source", path, *text]:
+            return source(path, " ".join(text))
     raise Refused(f"there is no block '{what}'")
 
 
