@@ -11,7 +11,6 @@ follow from others: from family to family, and within a family from crate to cra
 """
 
 import sys
-from collections.abc import Iterable
 from html import escape
 from pathlib import Path
 from typing import NamedTuple
@@ -85,15 +84,9 @@ def named_in(each: Family) -> None:
 
 
 def table_of_families() -> str:
-    """Each family with its crates, what it is for, and what it promises."""
-    lines = ["| Family | Crates | What it is for | What it promises |", "|---|---|---|---|"]
-    for each in read():
-        lines.append(f"| {each.name} | {listed(crate.name for crate in each.crates)} | {each.purpose} | {each.promise} |")
-    return "\n".join(lines) + "\n"
-
-
-def listed(names: Iterable[str]) -> str:
-    return ", ".join(f"`{name}`" for name in names)
+    """Each family with what it is for, and what it promises."""
+    rows = [f"| {each.name} | {each.purpose} | {each.promise} |" for each in read()]
+    return "\n".join(["| Family | What it is for | What it promises |", "|---|---|---|", *rows]) + "\n"
 
 
 # Which arrows don't follow from others

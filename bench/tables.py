@@ -10,7 +10,7 @@ and code from its file.
 
 A block stands in a page between `<!-- begin: WHAT -->` and `<!-- end -->`. WHAT is one of
 
-    bench NAME          all of bench/results/NAME.md
+    bench NAME [TEXT]   all of bench/results/NAME.md, or of its tables those rows alone that begin with TEXT
     choice NAME KEYS    which algorithm to take, with the figures of NAME.csv for that many generated keys
     families            each family of crates with what it is for and what it promises, by crates.txt
     contents [all]      the headings of the page, with `all` those of the third level too
@@ -101,6 +101,17 @@ def summary(name: str) -> str:
     return f"\nOver all sets of keys that were measured, {' and '.join(said)} of the C tool's processor time.\n"
 
 
+def results(name: str, text: str) -> str:
+    """What was measured; with a text, of the tables' rows only those that begin with it."""
+    lines = (RESULTS / f"{name}.md").read_text().splitlines()
+    heads = {at + step for at, line in enumerate(lines) if line.startswith("|---") for step in (-1, 0)}
+    rows = {at for at, line in enumerate(lines) if line.startswith("|")} - heads
+    dropped = {at for at in rows if not lines[at].startswith(f"| {text}")} if text else set()
+    if text and dropped == rows:
+        raise Refused(f"bench/results/{name}.md has no row that begins with '{text}'")
+    return "\n".join(line for at, line in enumerate(lines) if at not in dropped) + "\n"
+
+
 def source(path: str, text: str) -> str:
     """A file as code, or of it the lines between two empty ones of which one begins with a text."""
     code = (TOP / path).read_text()
@@ -131,8 +142,8 @@ def content(what: str, text: str) -> str:
             return contents(text, 2)
         case ["contents", "all"]:
             return contents(text, 3)
-        case ["bench", name]:
-            return (RESULTS / f"{name}.md").read_text()
+        case ["bench", name, *row]:
+            return results(name, " ".join(row))
         case ["choice", name, keys]:
             return choice(name, keys)
         case ["families"]:
