@@ -26,7 +26,10 @@
 #                 splits and queries of shards beside plain Rust and one function, and all steps beside cmph-shards
 # make bench-library
 #                 calls of the C library beside those of libcmph, in one process
-# make drawings   draws docs/believe/chm.svg and docs/use/shards.svg from real runs
+# make bench-sizes
+#                 builds and queries against the number of keys, beside the C tool: it needs five gigabytes of disk; SETS="1000 10000" for fewer
+#                 numbers, SETS="--merge 10000000" to keep what was measured of others
+# make drawings   makes every drawing of docs/ again: from real runs, from the results of measurements, and from crates.txt
 PREFIX ?= /usr/local
 SETS ?=
 NAME ?= latest
@@ -138,11 +141,13 @@ bench-shards: all
 bench-library: bin/cmph library
 	python3 bench/tables.py --record library python3 bench/library.py
 
+bench-sizes: bin/cmph
+	python3 bench/tables.py --record sizes python3 bench/sizes.py $(SETS)
+
 drawings: all
-	python3 bench/draw.py
-	python3 bench/draw_shards.py
+	python3 bench/drawings.py
 
 clean:
 	rm -rf bin lib out dist crates/*/out
 
-.PHONY: all library dist demo check install install-library uninstall bench bench-bits bench-peel bench-spill bench-bbhash bench-versions bench-most bench-judge bench-filter bench-store bench-shards bench-library drawings clean
+.PHONY: all library dist demo check install install-library uninstall bench bench-bits bench-peel bench-spill bench-bbhash bench-versions bench-most bench-judge bench-filter bench-store bench-shards bench-library bench-sizes drawings clean

@@ -74,7 +74,7 @@ def panel(rows: list[dict], algorithms: list[str], title: str, top: float, acros
     return marks, y
 
 
-def draw(results: Path, drawing: Path) -> None:
+def drawn(results: Path) -> str:
     rows = read(results)
     algorithms = list(dict.fromkeys(row["algorithm"] for row in rows))
     most = max(1.25, max(float(row["to_c"]) for row in rows))
@@ -114,10 +114,10 @@ def draw(results: Path, drawing: Path) -> None:
         *bars,
         "</svg>",
     ]
-    drawing.write_text("\n".join(lines) + "\n")
+    return "\n".join(lines) + "\n"
 
 
 if __name__ == "__main__":
     if len(sys.argv) != 3:
         sys.exit(__doc__)
-    draw(Path(sys.argv[1]), Path(sys.argv[2]))
+    Path(sys.argv[2]).write_text(drawn(Path(sys.argv[1])))

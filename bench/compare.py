@@ -135,13 +135,20 @@ def c_build(tool: str, algorithm: str, seed: int, function: Path, keys: Path) ->
     return [tool, "-g", "-a", algorithm, *buffer_of(algorithm, keys), "-m", function, "-s", seed, keys]
 
 
+def c_serves(build: list) -> bool | None:
+    """Whether this build by the C tool serves at its first try: it notes each that fails. Nothing if it ends in another way."""
+    words = list(map(str, build))
+    with subprocess.Popen(words, stdout=subprocess.DEVNULL, stderr=subprocess.PIPE) as running:
+        failed = any(b"failure" in line.lower() for line in running.stderr)
+        if failed:
+            running.kill()
+    return False if failed else True if running.returncode == 0 else None
+
+
 def c_seed(tool: str, algorithm: str, function: Path, keys: Path) -> int:
-    """A seed whose first graph or split serves the C tool, which notes each that doesn't."""
+    """A seed whose first graph or split serves the C tool."""
     for seed in range(1, 1000):
-        words = [tool, "-v", *c_build(tool, algorithm, seed, function, keys)[1:]]
-        with subprocess.Popen(list(map(str, words)), stdout=subprocess.DEVNULL, stderr=subprocess.PIPE) as build:
-            failed = any(b"failure" in line.lower() for line in build.stderr)
-        if not failed and build.returncode == 0:
+        if c_serves([tool, "-v", *c_build(tool, algorithm, seed, function, keys)[1:]]):
             return seed
     sys.exit(f"{algorithm}: no seed below 1000 serves the C tool")
 

@@ -15,7 +15,11 @@ import tempfile
 from pathlib import Path
 from typing import NamedTuple
 
+import svg
+from svg import spaced
+
 TOP = Path(__file__).resolve().parent.parent
+DRAWING = TOP / "docs" / "believe" / "chm.svg"
 KEYS = "ape duck hawk mouse owl ray toad zebra".split()
 STRANGER = "wolf"  # not among the keys
 SHOWN = "mouse"  # the key whose answer is drawn
@@ -105,9 +109,13 @@ class Function(NamedTuple):
     cells: list[int]
 
 
+class Differs(Exception):
+    """What of a run is not what this script works out."""
+
+
 def must(holds: bool, what: str) -> None:
     if not holds:
-        sys.exit(f"{what} differs")
+        raise Differs(f"{what} differs")
 
 
 def vertices(m: int) -> int:
@@ -171,7 +179,7 @@ STYLE = """
     text.core { fill: #ff7b72; }
   }
 """
-WIDTH, LEFT, STEP, BOX = 760, 22, 42, 34
+LEFT, STEP, BOX = 22, 42, 34
 
 
 class Page:
@@ -220,17 +228,7 @@ class Page:
         self.y += 42
 
     def svg(self) -> str:
-        high = f"{self.y + 18:g}"
-        return "\n".join(
-            [
-                f'<svg xmlns="http://www.w3.org/2000/svg" viewBox="0 0 {WIDTH} {high}" width="{WIDTH}" height="{high}" role="img">',
-                "<title>A build over eight words, and an answer, step by step</title>",
-                f"<style>{STYLE}</style>",
-                f'<rect class="card" x="0.5" y="0.5" width="{WIDTH - 1}" height="{self.y + 17:g}" rx="6"/>',
-                *self.marks,
-                "</svg>\n",
-            ]
-        )
+        return svg.page("A build over eight words, and an answer, step by step", self.y + 18, self.marks, STYLE)
 
 
 def middle(v: int) -> float:
@@ -251,11 +249,6 @@ def free_place(ends: tuple[int, int], base: float, names: list[tuple[float, floa
         if all(abs(x - u) > 42 or abs(y - v) > 13 for u, v in names):
             break
     return x, y
-
-
-def spaced(text: str) -> str:
-    """Text in which spaces stay as they are."""
-    return text.replace(" ", "\u00a0")
 
 
 def draw_hashes(page: Page, seeds: list[int], n: int) -> None:
@@ -324,8 +317,19 @@ def draw_answer(page: Page, key: str, seed: int, cells: list[int], answer: int, 
     page.say(spaced(f"{key:6}{w[0]:08x}  {w[1]:08x}  ends {u} and {v}: {sums}"), "")
 
 
-def main() -> None:
-    program = sys.argv[1] if len(sys.argv) > 1 else TOP / "bin" / "cmph"
+class Build(NamedTuple):
+    """A build that this script has worked out again."""
+
+    refused: list[int]  # the seeds before that of the function
+    function: Function
+    edges: list[tuple[int, int]]
+    rounds: list
+    steps: list[list[Setting]]
+    answers: dict[str, int]
+
+
+def checked(program: str) -> Build:
+    """What a real run leaves, which must be what is worked out here."""
     function, answered = real_run(os.path.abspath(program))
     m, n = len(KEYS), len(function.cells)
     must(function.m == m, "the number of keys")
@@ -341,8 +345,12 @@ def main() -> None:
         u, v = edge(key, function.seed, n)
         must(answered[key] == (cells[u] + cells[v]) % m, f"the answer to {key}")
     must([answered[key] for key in KEYS] == list(range(m)), "the order of the answers")
+    return Build(refused, function, edges, rounds, steps, answered)
 
-    page = Page()
+
+def drawn(program: str) -> str:
+    refused, function, edges, rounds, steps, answered = checked(program)
+    m, n, page = len(KEYS), len(function.cells), Page()
     draw_hashes(page, [*refused, function.seed], n)
     for seed in refused:
         draw_refused(page, seed, [edge(key, seed, n) for key in KEYS], n)
@@ -353,8 +361,16 @@ def main() -> None:
     page.say(f"The file holds the seed and the cells, and no keys: {stranger}", "say soft")
     page.y += 4
     for key in (SHOWN, STRANGER):
-        draw_answer(page, key, function.seed, cells, answered[key], m)
-    (TOP / "docs" / "believe" / "chm.svg").write_text(page.svg())
+        draw_answer(page, key, function.seed, function.cells, answered[key], m)
+    return page.svg()
+
+
+def main() -> None:
+    program = sys.argv[1] if len(sys.argv) > 1 else TOP / "bin" / "cmph"
+    try:
+        DRAWING.write_text(drawn(str(program)))
+    except Differs as fault:
+        sys.exit(str(fault))
 
 
 if __name__ == "__main__":

@@ -12,10 +12,14 @@ import sys
 import tempfile
 from pathlib import Path
 
+import svg
+from svg import WIDTH, box, text
+
 TOP = Path(__file__).resolve().parent.parent
 WORDS = TOP / "examples" / "words"
 SHARDS, SHOWN, FILES = 4, "Gold", 3
-WIDTH, HEIGHT, EDGE = 760, 486, 24
+HEIGHT, EDGE = 486, 24
+DRAWING = TOP / "docs" / "use" / "shards.svg"
 
 STYLE = """
   .card { fill: #ffffff; stroke: #d0d7de; }
@@ -52,21 +56,13 @@ def made(cmph, shards):
         return list(map(int, Path(at, "counts").read_text().split())), holds, int(said.split()[-1])
 
 
-def text(x, y, words, kind="", anchor="middle"):
-    return f'<text class="{kind}" x="{x:g}" y="{y:g}" text-anchor="{anchor}">{words}</text>'
-
-
-def box(x, y, width, height, kind="box"):
-    return f'<rect class="{kind}" x="{x:g}" y="{y:g}" width="{width:g}" height="{height:g}" rx="4"/>'
-
-
 def line(x1, y1, x2, y2, kind="line", tip=False):
     middle = (y1 + y2) / 2
     end = ' marker-end="url(#tip)"' if tip else ""
     return f'<path class="{kind}" d="M{x1:g} {y1:g}C{x1:g} {middle:g} {x2:g} {middle:g} {x2:g} {y2:g}"{end}/>'
 
 
-def drawn(counts, holds, number):
+def marks_of(counts, holds, number):
     inner = WIDTH - 2 * EDGE
     marks = [text(EDGE, 34, f"{sum(counts)} words in {SHARDS} shards, and the number of one", "head", "start")]
     middles = [EDGE + inner * (2 * shard + 1) / (2 * SHARDS) for shard in range(SHARDS)]
@@ -97,19 +93,14 @@ def drawn(counts, holds, number):
     return marks
 
 
+def drawn(cmph, shards):
+    marks = [svg.tip("tip", "#cf222e"), *marks_of(*made(cmph, shards))]
+    return svg.page("Keys are split into shards, each with a function, and a manifest numbers them all", HEIGHT, marks, STYLE)
+
+
 def main():
     cmph, shards = [Path(path).resolve() for path in (sys.argv[1:3] or (TOP / "bin" / "cmph", TOP / "bin" / "cmph_shards"))]
-    svg = [
-        f'<svg xmlns="http://www.w3.org/2000/svg" viewBox="0 0 {WIDTH} {HEIGHT}" width="{WIDTH}" height="{HEIGHT}" role="img">',
-        "<title>Keys are split into shards, each with a function, and a manifest numbers them all</title>",
-        f"<style>{STYLE}</style>",
-        '<defs><marker id="tip" viewBox="0 0 8 8" refX="7" refY="4" markerWidth="8" markerHeight="8" markerUnits="userSpaceOnUse" orient="auto">'
-        '<path fill="#cf222e" d="M0 0.5 8 4 0 7.5z"/></marker></defs>',
-        f'<rect class="card" x="0.5" y="0.5" width="{WIDTH - 1}" height="{HEIGHT - 1}" rx="6"/>',
-        *drawn(*made(cmph, shards)),
-        "</svg>",
-    ]
-    (TOP / "docs" / "use" / "shards.svg").write_text("\n".join(svg) + "\n")
+    DRAWING.write_text(drawn(cmph, shards))
 
 
 if __name__ == "__main__":

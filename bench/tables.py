@@ -2,7 +2,7 @@
 """Writes the measured tables of README.md, bench/notebook.md and docs/ from the files in bench/results, those of crates from crates.txt,
 and code from its file.
 
-    bench/tables.py                            writes every block, and the drawings docs/measured/bench.svg and docs/believe/crates.svg
+    bench/tables.py                            writes every block, and the drawings of results and of crates
     bench/tables.py --check                    writes nothing, and fails if a block or a drawing is not what it would write, if
                                                docs/believe/proofs.md has no row of a crate
     bench/tables.py --record NAME COMMAND ..   runs COMMAND, and first leaves what it prints in bench/results/NAME.md, with
@@ -19,7 +19,7 @@ A block stands in a page between `<!-- begin: WHAT -->` and `<!-- end -->`. WHAT
     kit                 what the crates are proved with, by `rt version`
     source FILE [TEXT]  a file of the repository as code, or of it the lines between two empty ones of which one begins with TEXT
 
-The bars in docs/measured/bench.svg are drawn from bench/results/latest.csv, and docs/believe/crates.svg from crates.txt (bench/house.py).
+The drawings in docs/measured are made from bench/results (bench/plots.py), and docs/believe/crates.svg from crates.txt (bench/house.py).
 """
 
 import csv
@@ -28,18 +28,16 @@ import re
 import shlex
 import subprocess
 import sys
-import tempfile
 from datetime import date
 from pathlib import Path
 
-import bars
 import compare
 import house
+import plots
 import reading
 
 TOP = Path(__file__).resolve().parent.parent
 RESULTS = TOP / "bench" / "results"
-BARS = TOP / "docs" / "measured" / "bench.svg"
 CRATES = TOP / "docs" / "believe" / "crates.svg"
 BLOCK = re.compile(r"^<!-- begin: ([^\n]*) -->\n(.*?)^<!-- end -->$", re.MULTILINE | re.DOTALL)
 MARKER = re.compile(r"^<!-- (begin: .*|end) -->$", re.MULTILINE)
@@ -165,13 +163,6 @@ def page(text: str) -> str:
     return BLOCK.sub(lambda block: f"<!-- begin: {block[1]} -->\n{content(block[1], text)}<!-- end -->", text)
 
 
-def drawn() -> str:
-    with tempfile.TemporaryDirectory() as folder:
-        drawing = Path(folder) / "bench.svg"
-        bars.draw(RESULTS / "latest.csv", drawing)
-        return drawing.read_text()
-
-
 def wanted() -> dict[Path, str]:
     """Each page, and the drawings, as they should be."""
     pages = {}
@@ -184,7 +175,7 @@ def wanted() -> dict[Path, str]:
         pages[CRATES] = house.drawn()
     except house.Refused as fault:
         sys.exit(f"{CRATES.relative_to(TOP)}: {fault}")
-    return {**pages, BARS: drawn()} if beside_c("latest") else pages
+    return pages | plots.drawings()
 
 
 def not_in_proofs() -> list[str]:
