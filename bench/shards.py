@@ -173,7 +173,7 @@ def queries(programs: Programs, files: Files, rounds: int) -> Iterator[Row]:
 
 
 def engine(programs: Programs, files: Files, workers: int) -> None:
-    words = [PYTHON, ENGINE, "--quiet", "--anew", "--shards", files.shards, "--workers", workers, "--out", files.folder / "engine", "--tmp", files.folder, "--block", 8]
+    words = [PYTHON, ENGINE, "--quiet", "--restart", "--shards", files.shards, "--workers", workers, "--out", files.folder / "engine", "--tmp", files.folder, "--block", 8]
     subprocess.run([str(word) for word in (*words, "--cmph", programs.cmph, "--cmph-shards", programs.shards, files.keys)], check=True)
 
 

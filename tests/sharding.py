@@ -25,6 +25,7 @@ import functions
 import judge
 import shards as plain
 from comparing import difference, put
+from room import Room, made_shim
 
 judge.hashes = functools.cache(judge.hashes)  # of the same keys, for thousands of runs
 functions.read = functools.cache(functions.read)
@@ -34,6 +35,7 @@ ENGINE = Path(__file__).resolve().parent.parent / "contrib" / "shards" / "cmph-s
 PYTHON = "/usr/bin/python3"  # that of the system, which has Debian's dask
 ALGORITHMS = ["chm", "bdz", "bdz_ph", "brz"]
 LONGEST = 65535  # bytes of a line
+BUFFER = 65536  # bytes that wait for a shard's file at most
 MANY = 200_000
 MOST_SETS = 40
 
@@ -408,6 +410,40 @@ def of_outputs(room):
             yield from difference(f"{words} with a full error output", started(room, words, stderr=err), (*wanted[:2], None))
 
 
+# Calls on the files
+
+
+def calls_on(room, shim, *words):
+    """The calls of a run on each path, in order."""
+    bend = {**os.environ, "LD_PRELOAD": shim, "EDGE_CALLS": str(room / "calls")}
+    yield from difference(f"{' '.join(words)}: the end", started(room, words, env=bend), (0, b"", b""))
+    calls = {}
+    for call, path in Room(room, SHARDS.parent, shim).calls():
+        calls.setdefault(path, []).append(call)
+    return calls
+
+
+def of_calls(room):
+    """A file that gets more bytes than a buffer has is opened and closed for each piece, and synced after its last byte; so is one that gets none."""
+    shim = made_shim(room)
+    if shim is None:
+        print("skipped: no C compiler")
+        return
+    put(room / "keys", text_of(many_keys(20000)))
+    (room / "d").mkdir()
+    calls = yield from calls_on(room, shim, "-n", "1", "-d", "d", "keys")
+    piece, made = ["open", "write", "close"], ["open", "close"]
+    many = (room / "d/shard-0000").stat().st_size // BUFFER
+    yield from difference("pieces before the last", (many > 2,), (True,))
+    yield from difference("the calls on a shard's file", (calls["d/shard-0000"],), (made + piece * many + ["open", "write", "fsync", "close"],))
+    yield from difference("the calls on the counts", (calls["d/counts"],), (made + ["open", "write", "fsync", "close"],))
+    yield from difference("the calls on the keys file", (calls["keys"],), (made,))
+    put(room / "one", b"key\n")
+    calls = yield from calls_on(room, shim, "-n", "9", "-d", "d", "one")
+    ends = sorted(calls[f"d/shard-{shard:04}"][2:] for shard in range(9))
+    yield from difference("the calls on the files of 9 shards after they are made", (ends,), ([["open", "fsync", "close"]] * 8 + [["open", "write", "fsync", "close"]],))
+
+
 # The engine
 
 
@@ -530,7 +566,7 @@ def cases(room):
     put(commands / "one.mph", dumps.BDZ_ONE)
     (commands / "d").mkdir()
     yield of_commands(commands)
-    for body in (of_small, of_manifests, of_functions, of_other_algorithms, of_names, of_equal_keys, of_full_disks, of_small_disk, of_outputs):
+    for body in (of_small, of_manifests, of_functions, of_other_algorithms, of_names, of_equal_keys, of_full_disks, of_small_disk, of_outputs, of_calls):
         yield case(body)
     if has_dask():
         yield case(of_engine)

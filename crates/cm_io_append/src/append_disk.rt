@@ -6,8 +6,8 @@ ghost use Rattle.cm_io_append.specs.Extending.{Extends};
 
 use cm_io::{Disk, DiskFault};
 
-/// A disk that can append to a file.
-pub trait AppendDisk: Disk {
+/// A disk that can append to a file. A writer may be let go: the file that `create` made for it stays as it is, and isn't synced.
+pub trait AppendDisk: Disk<Writer: Drop> {
     /// Appends a piece to the file of a path, which is there. `last` says that nothing more comes: the file is synced then. Returns
     /// `Failed` exactly if the count of write faults rises, and a prefix of the piece was appended then. If memory runs out, nothing was.
     fn append(&mut self, path: &str, piece: &[u8], last: bool) -> Result<(), DiskFault>

@@ -1,24 +1,14 @@
 -- The files of a split, created one after another.
-use Rattle.std.proofs.Common.{◌≡◌, ◌∙◌, ◌⊎◌, ℕ, ◌+◌, ◌<◌, List, [], length, replicate, Option, None, Some, Err, inl, inr, ap, sym, arith}
+use Rattle.std.proofs.Common.{◌≡◌, ◌∙◌, ℕ, ◌+◌, ◌<◌, List, [], length, replicate, Option, None, Some, ap, sym, arith}
 use Rattle.std.specs.FinMap as map
-use Rattle.std.proofs.Math.Seq.{take-nil}
 use Rattle.std.proofs.lemmas.List.{length-replicate, replicate_more}
 use Rattle.cm_io.specs.Files.{Files, with_file}
-use Rattle.cm_io.specs.declared.fault.DiskFault.{DiskFault}
-use Rattle.cm_io.specs.declared.fault.DiskFault.TheVariants as disk_fault
 use Rattle.cm_shards_split.specs.Names.{counts_path, shard_path}
 use Rattle.cm_shards_split.specs.Parts.{Written}
 use Rattle.cm_shards_split.specs.Placed.{placed}
 use Rattle.cm_shards_split.specs.PlacedLaws.{placed_next, placed_none}
-use Rattle.cm_tool_building.specs.Stores.{Stores}
 
--- a file that could not be created is as it was, or empty
-pub not_created : (path : List ℕ) (old new : Option Files) (fault : DiskFault) → Stores path [] old new (Err fault) → (new ≡ old) ⊎ (new ≡ with_file path [] old)
-not_created path old new disk_fault.Memory stores = stores
-not_created path old new disk_fault.Failed (inl same) = inl same
-not_created path old new disk_fault.Failed (inr part) = inr (part.1 ∙ ap (λ (l : List ℕ). with_file path l old) (take-nil part.0))
-
--- that of the counts
+-- that of the counts was created
 pub counts_created : (dir path : List ℕ) (old new : Option Files) → path ≡ counts_path dir → new ≡ with_file path [] old → Written dir old [] new
 counts_created dir path None new is created = created
 counts_created dir path (Some files) new is created = created ∙ ap (λ (p : List ℕ). Some (map.insert files p [])) is ∙ ap Some (placed_none dir [] files)

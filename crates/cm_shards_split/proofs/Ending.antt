@@ -8,7 +8,8 @@ use Rattle.cm_keys.specs.Streams.{LineStream}
 use Rattle.cm_route.specs.Routes.{Route}
 use Rattle.cm_shards_split.specs.Leaves.{IsToldOf, LeavesLines, LeavesSource, plan_of}
 use Rattle.cm_shards_split.specs.Parts.{AreNew, HavePaths, Stands, Written, waiting_of}
-use Rattle.cm_shards_split.specs.Streaming.{EndsTo, HasFrontsOf, HasSplitCause, IsStreaming, Plan}
+use Rattle.cm_shards_split.specs.Plans.{Plan, plan}
+use Rattle.cm_shards_split.specs.Streaming.{EndsTo, HasPrefixesOf, HasSplitCause, IsStreaming}
 use Rattle.cm_shards_split.specs.declared.part.Part.{Part}
 use Rattle.cm_shards_split.specs.declared.stop.SplitStop.{SplitStop}
 use Rattle.cm_shards_split.specs.declared.stop.SplitStop.TheVariants.{Memory, Read, TooLong, TooMany, Write}
@@ -20,14 +21,14 @@ pub new_paths : {dir : List ℕ} {shards : ℕ} {parts : List Part} → AreNew d
 new_paths new few = record { few = omega (arith, few, new.many); paths = new.paths }
 
 -- no line is split into files that were created
-pub stands_new : {dir : List ℕ} {parts : List Part} (base : Option Files) (route : Route) (end : ℕ) (files : Option Files) → AreNew dir route.shards parts → route.shards ≤ 4096 → Written dir base (replicate route.shards []) files → Stands dir base route end [] parts files
+pub stands_new : {dir : List ℕ} {parts : List Part} (base : Option Files) (route : Route) (end : ℕ) (files : Option Files) → AreNew dir route.shards parts → route.shards ≤ 4096 → Written dir base (replicate route.shards []) files → Stands (plan dir base route end) [] parts files
 stands_new {parts = parts} base route end files new few written = record {
   written = replicate route.shards [];
   files_are = written;
   paths = new_paths new few;
   split = record {
     many_written = length-replicate route.shards [];
-    many_waiting = length-map parts (λ (part : Part). part.buffer.items) ∙ new.many;
+    many_waiting = length-map parts (λ (part : Part). part.waiting) ∙ new.many;
     many_counts = length-map parts (λ (part : Part). part.count) ∙ new.many;
     bytes = λ k below. ap (λ (l : List ℕ). l ++ get_or (waiting_of parts) k []) (get_or-replicate route.shards k [] [] below) ∙ new.none k (omega (arith, below, new.many)) ∙ sym (share_none route end k);
     counts_are = λ k below. new.counts k (omega (arith, below, new.many)) ∙ sym (count_none route k);
@@ -43,15 +44,15 @@ streaming_new p stream files start new few written = record {
 }
 
 -- files that were created are prefixes of any shares
-pub created_fronts : (p : Plan) (told : Option Told) (files : Option Files) → (m : ℕ) × (m ≤ p.route.shards) × Written p.dir p.base (replicate m []) files → HasFrontsOf p told files
-created_fronts p told files created = λ t is.
+pub created_prefixes : (p : Plan) (told : Option Told) (files : Option Files) → (m : ℕ) × (m ≤ p.route.shards) × Written p.dir p.base (replicate m []) files → HasPrefixesOf p told files
+created_prefixes p told files created = λ t is.
     let m : ℕ = created.0 in
     let long : length (replicate {A = List ℕ} m []) ≡ m = length-replicate m [] in
     record {
       written = replicate m [];
       files_are = created.2;
       few = omega (arith, created.1, long);
-      fronts = λ k inside. (0, get_or-replicate m k [] [] (omega (arith, inside, long)));
+      prefixes = λ k inside. (0, get_or-replicate m k [] [] (omega (arith, inside, long)));
     }
 
 -- how the lines ended, as what they left
@@ -63,9 +64,9 @@ lines_left p told parts files (Err Write) ends = inr ends
 lines_left p told parts files (Err (TooLong line)) ends = ends
 lines_left p told parts files (Err TooMany) ends = ends
 
-not_split : (job : SplitJob) (base new : Option Files) (told : Option Told) → IsToldOf job base told → (new ≡ base) ⊎ HasFrontsOf (plan_of job base) told new → (new ≡ base) ⊎ ((told : Option Told) × IsToldOf job base told × HasFrontsOf (plan_of job base) told new)
+not_split : (job : SplitJob) (base new : Option Files) (told : Option Told) → IsToldOf job base told → (new ≡ base) ⊎ HasPrefixesOf (plan_of job base) told new → (new ≡ base) ⊎ ((told : Option Told) × IsToldOf job base told × HasPrefixesOf (plan_of job base) told new)
 not_split job base new told is (inl same) = inl same
-not_split job base new told is (inr fronts) = inr (told, is, fronts)
+not_split job base new told is (inr prefixes) = inr (told, is, prefixes)
 
 -- and that of an open file
 pub source_left : (job : SplitJob) (base : Option Files) (told : Option Told) (parts : List Part) (new : Option Files) (end : Result (Unit {0}) SplitStop) → IsToldOf job base told → LeavesLines (plan_of job base) told parts new end → LeavesSource job base parts new end

@@ -12,38 +12,38 @@ use Rattle.cm_io.specs.declared.key_pass.KeyFault.{KeyFault}
 use Rattle.cm_shards_split.specs.Leaves.{HasEndedOf, IsSplitInto, IsToldOf, LeavesFiles, plan_of, stop_from_disk}
 use Rattle.cm_shards_split.specs.Names.{counts_path}
 use Rattle.cm_shards_split.specs.Outcomes.{lines_of, route_of, told_of}
-use Rattle.cm_shards_split.specs.Parts.{HasFronts, Written, counts_of}
+use Rattle.cm_shards_split.specs.Parts.{HasPrefixes, Written, counts_of}
 use Rattle.cm_shards_split.specs.Placed.{placed}
 use Rattle.cm_shards_split.specs.PlacedLaws.{placed_text}
 use Rattle.cm_shards_split.specs.Shares.{counts_text, share_bytes, share_count, share_counts, shares}
 use Rattle.cm_shards_split.specs.Splits.{IsUnfinished}
-use Rattle.cm_shards_split.specs.Streaming.{HasFrontsOf}
+use Rattle.cm_shards_split.specs.Streaming.{HasPrefixesOf}
 use Rattle.cm_shards_split.specs.declared.part.Part.{Part}
 use Rattle.cm_shards_split.specs.declared.stop.SplitStop.{SplitStop}
 use Rattle.cm_shards_words.specs.declared.jobs.SplitJob.{SplitJob}
 use Rattle.cm_tool_building.specs.Stores.{Stores}
 
 -- prefixes of the shares of the lines of the keys file
-pub fronts_left : (job : SplitJob) (base new : Option Files) (files : Files) (told : Option Told) (status : ℕ) → base ≡ Some files → IsToldOf job base told → HasFrontsOf (plan_of job base) told new → IsUnfinished job files status new
-fronts_left job base new files told status known is fronts =
+pub prefixes_left : (job : SplitJob) (base new : Option Files) (files : Files) (told : Option Told) (status : ℕ) → base ≡ Some files → IsToldOf job base told → HasPrefixesOf (plan_of job base) told new → IsUnfinished job files status new
+prefixes_left job base new files told status known is prefixes =
     let source = is files known in
-    let has = fronts (told_of job source.0) source.2 in
+    let has = prefixes (told_of job source.0) source.2 in
     record {
       bytes = source.0;
       parts = has.written;
       text = [];
       there = source.1;
       files_are = has.files_are ∙ ap (option_map (placed job.dir has.written [])) known;
-      fronts = record { few = has.few; fronts = has.fronts };
+      prefixes = record { few = has.few; prefixes = has.prefixes };
       counts = inl refl;
       unread = λ _. refl;
     }
 
 -- those of lines that are split, which are those of the keys file
-pub ended_fronts : (job : SplitJob) (base new : Option Files) (files : Files) (fault : Option KeyFault) (parts : List Part) (old : Option Files) (status : ℕ) (ended : HasEndedOf job base fault parts old) → base ≡ Some files
-    → HasFronts job.dir base (route_of job) job.end ended.2.lines new → IsUnfinished job files status new
-ended_fronts job base new files fault parts old status ended known has =
-    fronts_left job base new files ended.0 status known ended.1 (λ t is. subst (λ (l : List (List ℕ)). HasFronts job.dir base (route_of job) job.end l new) (sym (ended.2.all t is).0) has)
+pub ended_prefixes : (job : SplitJob) (base new : Option Files) (files : Files) (fault : Option KeyFault) (parts : List Part) (old : Option Files) (status : ℕ) (ended : HasEndedOf job base fault parts old) → base ≡ Some files
+    → HasPrefixes (plan_of job base) ended.2.lines new → IsUnfinished job files status new
+ended_prefixes job base new files fault parts old status ended known has =
+    prefixes_left job base new files ended.0 status known ended.1 (λ t is. subst (λ (l : List (List ℕ)). HasPrefixes (plan_of job base) l new) (sym (ended.2.all t is).0) has)
 
 -- all is written but the counts
 pub all_written : (job : SplitJob) (base new : Option Files) (files : Files) (fault : Option KeyFault) (parts : List Part) (old : Option Files) (ended : HasEndedOf job base fault parts old) → base ≡ Some files
@@ -63,7 +63,7 @@ counts_are job base files fault parts old ended known bytes is =
 -- whole shares are prefixes of themselves, with a prefix of the counts
 whole_left : (job : SplitJob) (files : Files) (new : Option Files) (bytes text : List ℕ) (status : ℕ) → file_at files job.keys ≡ Some bytes → (told_of job bytes).fault ≡ None → new ≡ Some (placed job.dir (shares (route_of job) job.end (lines_of (told_of job bytes))) text files)
     → ((n : ℕ) × (text ≡ take n (counts_text (share_counts (route_of job) (lines_of (told_of job bytes)))))) → (status ≡ 4 → text ≡ []) → IsUnfinished job files status new
-whole_left job files new bytes text status there sound is front unread =
+whole_left job files new bytes text status there sound is prefix unread =
     let lines = lines_of (told_of job bytes) in
     let share : ℕ → List ℕ = share_bytes (route_of job) job.end lines in
     let long : length (shares (route_of job) job.end lines) ≡ job.shards = length-map-range_with_len share 0 job.shards in
@@ -73,11 +73,11 @@ whole_left job files new bytes text status there sound is front unread =
       text = text;
       there = there;
       files_are = is;
-      fronts = record {
+      prefixes = record {
         few = omega (arith, long);
-        fronts = λ k inside. (length (share k), get_or-map-range_with_len share 0 job.shards k k [] (omega (arith, inside, long)) (omega arith) ∙ sym (take_all (length (share k)) (share k) (omega arith)));
+        prefixes = λ k inside. (length (share k), get_or-map-range_with_len share 0 job.shards k k [] (omega (arith, inside, long)) (omega arith) ∙ sym (take_all (length (share k)) (share k) (omega arith)));
       };
-      counts = inr (sound, record { whole = refl; front = front });
+      counts = inr (sound, record { whole = refl; prefix = prefix });
       unread = unread;
     }
 
@@ -107,16 +107,16 @@ counts_left job files mid new path text (Err disk_fault.Failed) split is text_is
 
 -- what waited could not be written
 pub rest_left : (job : SplitJob) (base new : Option Files) (files : Files) (fault : Option KeyFault) (parts : List Part) (old : Option Files) (stop : SplitStop) (ended : HasEndedOf job base fault parts old) → base ≡ Some files → (disk : DiskFault) → stop ≡ stop_from_disk disk
-    → HasFronts job.dir base (route_of job) job.end ended.2.lines new → LeavesFiles job files new (Err stop)
-rest_left job base new files fault parts old stop ended known disk_fault.Memory is has = subst (λ (s : SplitStop). LeavesFiles job files new (Err s)) (sym is) (inr (ended_fronts job base new files fault parts old 6 ended known has))
+    → HasPrefixes (plan_of job base) ended.2.lines new → LeavesFiles job files new (Err stop)
+rest_left job base new files fault parts old stop ended known disk_fault.Memory is has = subst (λ (s : SplitStop). LeavesFiles job files new (Err s)) (sym is) (inr (ended_prefixes job base new files fault parts old 6 ended known has))
 rest_left job base new files fault parts old stop ended known disk_fault.Failed is has =
     let source = ended.1 files known in
-    subst (λ (s : SplitStop). LeavesFiles job files new (Err s)) (sym is) ((source.0, source.1), inr (ended_fronts job base new files fault parts old 5 ended known has))
+    subst (λ (s : SplitStop). LeavesFiles job files new (Err s)) (sym is) ((source.0, source.1), inr (ended_prefixes job base new files fault parts old 5 ended known has))
 
 -- what was left before all lines were split
-pub source_files : (job : SplitJob) (base new : Option Files) (files : Files) (status : ℕ) → base ≡ Some files → (new ≡ base) ⊎ ((told : Option Told) × IsToldOf job base told × HasFrontsOf (plan_of job base) told new) → (new ≡ Some files) ⊎ IsUnfinished job files status new
+pub source_files : (job : SplitJob) (base new : Option Files) (files : Files) (status : ℕ) → base ≡ Some files → (new ≡ base) ⊎ ((told : Option Told) × IsToldOf job base told × HasPrefixesOf (plan_of job base) told new) → (new ≡ Some files) ⊎ IsUnfinished job files status new
 source_files job base new files status known (inl same) = inl (same ∙ known)
-source_files job base new files status known (inr fronts) = inr (fronts_left job base new files fronts.0 status known fronts.1 fronts.2)
+source_files job base new files status known (inr prefixes) = inr (prefixes_left job base new files prefixes.0 status known prefixes.1 prefixes.2)
 
 -- all was written, and then the counts
 pub whole_written : (job : SplitJob) (base mid new : Option Files) (files : Files) (parts now : List Part) (old : Option Files) (path : List ℕ) (result : Result (Unit {0}) DiskFault) (ended : HasEndedOf job base None parts old) → base ≡ Some files

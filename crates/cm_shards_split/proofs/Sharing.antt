@@ -94,15 +94,15 @@ split_at {route = route} {end = end} {lines = lines} {written = written} {waitin
     }
 
 -- what is written of a share is a prefix of it, also with a prefix of what waits
-pub front_of : (xs ys bytes : List ℕ) → xs ++ ys ≡ bytes → (n : ℕ) × (xs ≡ take n bytes)
-front_of xs ys bytes is = (length xs, sym (take-append_seam xs ys) ∙ ap (take (length xs)) is)
+pub prefix_of : (xs ys bytes : List ℕ) → xs ++ ys ≡ bytes → (n : ℕ) × (xs ≡ take n bytes)
+prefix_of xs ys bytes is = (length xs, sym (take-append_seam xs ys) ∙ ap (take (length xs)) is)
 
-pub front_with : (xs ys bytes : List ℕ) (n : ℕ) → xs ++ ys ≡ bytes → (m : ℕ) × (xs ++ take n ys ≡ take m bytes)
-front_with xs ys bytes n is = (length xs + n, sym (take-append-add xs ys n) ∙ ap (take (length xs + n)) is)
+pub prefix_with : (xs ys bytes : List ℕ) (n : ℕ) → xs ++ ys ≡ bytes → (m : ℕ) × (xs ++ take n ys ≡ take m bytes)
+prefix_with xs ys bytes n is = (length xs + n, sym (take-append-add xs ys n) ∙ ap (take (length xs + n)) is)
 
 -- a prefix of the first of two pieces is one of both
-pub front_longer : (part xs ys : List ℕ) → ((n : ℕ) × (part ≡ take n xs)) → (m : ℕ) × (part ≡ take m (xs ++ ys))
-front_longer part xs ys front =
-    let m = min front.0 (length xs) in
+pub prefix_longer : (part xs ys : List ℕ) → ((n : ℕ) × (part ≡ take n xs)) → (m : ℕ) × (part ≡ take m (xs ++ ys))
+prefix_longer part xs ys prefix =
+    let m = min prefix.0 (length xs) in
     let inside : m ≤ length xs = omega arith in
-    (m, front.1 ∙ sym (take_min front.0 xs) ∙ sym (take-append-le m xs ys inside))
+    (m, prefix.1 ∙ sym (take_min prefix.0 xs) ∙ sym (take-append-le m xs ys inside))

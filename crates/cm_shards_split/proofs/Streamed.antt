@@ -6,10 +6,11 @@ use Rattle.cm_io.specs.Files.{Files}
 use Rattle.cm_io.specs.Passes.{Told}
 use Rattle.cm_keys.specs.Streams.{LineStream, told_by}
 use Rattle.cm_shards_split.specs.Outcomes.{lines_of}
-use Rattle.cm_shards_split.specs.Parts.{HasFronts, Stands}
-use Rattle.cm_shards_split.specs.Streaming.{HasFrontsOf, IsStreaming, Plan}
+use Rattle.cm_shards_split.specs.Parts.{HasPrefixes, Stands}
+use Rattle.cm_shards_split.specs.Plans.{Plan}
+use Rattle.cm_shards_split.specs.Streaming.{HasPrefixesOf, IsStreaming}
 use Rattle.cm_shards_split.specs.declared.part.Part.{Part}
-use Rattle.cm_shards_split.proofs.Putting.{fronts_more, fronts_of}
+use Rattle.cm_shards_split.proofs.Putting.{prefixes_more, prefixes_of}
 
 -- a line was read of those that are left
 abbrev pub HasRead : LineStream → ℕ → List ℕ → Type 0
@@ -26,7 +27,7 @@ left_after now key s read told is =
 
 -- it was put into its shard
 pub line_streamed : {p : Plan} {stream next : LineStream} {parts now : List Part} {old new : Option Files} (key : List ℕ) (s : IsStreaming p stream parts old) → told_by next ≡ told_by stream → next.count ≡ stream.count + 1 → HasRead stream next.count key
-    → Stands p.dir p.base p.route p.end (s.lines ++ key ∷ []) now new → IsStreaming p next now new
+    → Stands p (s.lines ++ key ∷ []) now new → IsStreaming p next now new
 line_streamed {next = next} key s told count read stands = record {
   lines = s.lines ++ key ∷ [];
   stands = stands;
@@ -36,11 +37,11 @@ line_streamed {next = next} key s told count read stands = record {
 
 -- it was not, and neither are those after it
 pub line_stopped : {p : Plan} {stream : LineStream} {parts : List Part} {old new : Option Files} (told : Option Told) (now : ℕ) (key : List ℕ) (s : IsStreaming p stream parts old) → told ≡ told_by stream → HasRead stream now key
-    → HasFronts p.dir p.base p.route p.end (s.lines ++ key ∷ []) new → HasFrontsOf p told new
+    → HasPrefixes p (s.lines ++ key ∷ []) new → HasPrefixesOf p told new
 line_stopped {p = p} {new = new} told now key s same read has = λ t is.
-    subst (λ (l : List (List ℕ)). HasFronts p.dir p.base p.route p.end l new) (sym (left_after now key s read t (sym same ∙ is))) (fronts_more (plain (drop now t.keys)) has)
+    subst (λ (l : List (List ℕ)). HasPrefixes p l new) (sym (left_after now key s read t (sym same ∙ is))) (prefixes_more (plain (drop now t.keys)) has)
 
 -- none was read
-pub read_stopped : {p : Plan} {stream : LineStream} {parts : List Part} {files : Option Files} (told : Option Told) (s : IsStreaming p stream parts files) → told ≡ told_by stream → HasFrontsOf p told files
+pub read_stopped : {p : Plan} {stream : LineStream} {parts : List Part} {files : Option Files} (told : Option Told) (s : IsStreaming p stream parts files) → told ≡ told_by stream → HasPrefixesOf p told files
 read_stopped {p = p} {stream = stream} {files = files} told s same = λ t is.
-    subst (λ (l : List (List ℕ)). HasFronts p.dir p.base p.route p.end l files) (sym (s.left t (sym same ∙ is))) (fronts_more (plain (drop stream.count t.keys)) (fronts_of s.stands))
+    subst (λ (l : List (List ℕ)). HasPrefixes p l files) (sym (s.left t (sym same ∙ is))) (prefixes_more (plain (drop stream.count t.keys)) (prefixes_of s.stands))

@@ -12,7 +12,8 @@ use Rattle.cm_shards_split.specs.Placed.{placed}
 use Rattle.cm_shards_split.specs.Shares.{counts_text, share_counts, shares}
 use Rattle.cm_shards_split.specs.Splits.{IsUnfinished}
 use Rattle.cm_shards_split.specs.Stops.{stop_status}
-use Rattle.cm_shards_split.specs.Streaming.{HasEnded, HasFrontsOf, Plan, plan}
+use Rattle.cm_shards_split.specs.Plans.{Plan, plan}
+use Rattle.cm_shards_split.specs.Streaming.{HasEnded, HasPrefixesOf}
 use Rattle.cm_shards_split.specs.declared.part.Part.{Part}
 use Rattle.cm_shards_split.specs.declared.stop.SplitStop.{SplitStop}
 use Rattle.cm_shards_split.specs.declared.stop.SplitStop.TheVariants.{Memory, TooLong, TooMany, Write}
@@ -32,7 +33,7 @@ abbrev pub LeavesLines : Plan → Option Told → List Part → Option Files →
 LeavesLines p told parts new (Ok _) = HasEnded p told None parts new
 LeavesLines p told parts new (Err (TooLong line)) = HasEnded p told (Some (key_fault.TooLong line)) parts new
 LeavesLines p told parts new (Err TooMany) = HasEnded p told (Some key_fault.TooMany) parts new
-LeavesLines p told parts new (Err stop) = (new ≡ p.base) ⊎ HasFrontsOf p told new
+LeavesLines p told parts new (Err stop) = (new ≡ p.base) ⊎ HasPrefixesOf p told new
 
 -- these are the lines of the keys file, if the files are known
 abbrev pub IsToldOf : SplitJob → Option Files → Option Told → Type 0
@@ -51,8 +52,8 @@ abbrev pub LeavesSource : SplitJob → Option Files → List Part → Option Fil
 LeavesSource job base parts new (Ok _) = HasEndedOf job base None parts new
 LeavesSource job base parts new (Err (TooLong line)) = HasEndedOf job base (Some (key_fault.TooLong line)) parts new
 LeavesSource job base parts new (Err TooMany) = HasEndedOf job base (Some key_fault.TooMany) parts new
-LeavesSource job base parts new (Err Write) = IsKeysThere job base × ((new ≡ base) ⊎ ((told : Option Told) × IsToldOf job base told × HasFrontsOf (plan_of job base) told new))
-LeavesSource job base parts new (Err stop) = (new ≡ base) ⊎ ((told : Option Told) × IsToldOf job base told × HasFrontsOf (plan_of job base) told new)
+LeavesSource job base parts new (Err Write) = IsKeysThere job base × ((new ≡ base) ⊎ ((told : Option Told) × IsToldOf job base told × HasPrefixesOf (plan_of job base) told new))
+LeavesSource job base parts new (Err stop) = (new ≡ base) ⊎ ((told : Option Told) × IsToldOf job base told × HasPrefixesOf (plan_of job base) told new)
 
 -- the lines of the keys file with the fault at their end are split, and this is the text of the counts
 abbrev pub IsSplitInto : SplitJob → Files → Option Files → Option KeyFault → (List (List ℕ) → List ℕ) → Type 0

@@ -4,6 +4,7 @@ pub mod Shares
 pub mod Placed
 pub mod PlacedLaws
 pub mod Outcomes
+pub mod Plans
 pub mod Parts
 pub mod Streaming
 pub mod Stops

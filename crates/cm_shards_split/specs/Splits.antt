@@ -14,18 +14,18 @@ use Rattle.cm_tool_stops.specs.Ending.{LacksFile, Reaches}
 use Rattle.cm_tool_stops.specs.Ends.{Says}
 
 -- a prefix of bytes
-abbrev pub IsFront : List ℕ → List ℕ → Type 0
-IsFront bytes part = (n : ℕ) × (part ≡ take n bytes)
+abbrev pub IsPrefix : List ℕ → List ℕ → Type 0
+IsPrefix bytes part = (n : ℕ) × (part ≡ take n bytes)
 
 -- The first shards have a prefix of their share each, the others have no file yet.
-pub record AreFronts (job : SplitJob) (lines parts : List (List ℕ)) : Type 0 where
+pub record ArePrefixes (job : SplitJob) (lines parts : List (List ℕ)) : Type 0 where
   pub few : length parts ≤ job.shards
-  pub fronts : (k : ℕ) → k < length parts → IsFront (share_bytes (route_of job) job.end lines k) (slice_index_or parts k [])
+  pub prefixes : (k : ℕ) → k < length parts → IsPrefix (share_bytes (route_of job) job.end lines k) (slice_index_or parts k [])
 
 -- all shares are whole, and the file of the counts has a prefix of its text
 pub record AreWhole (job : SplitJob) (lines parts : List (List ℕ)) (text : List ℕ) : Type 0 where
   pub whole : parts ≡ shares (route_of job) job.end lines
-  pub front : IsFront (counts_text (share_counts (route_of job) lines)) text
+  pub prefix : IsPrefix (counts_text (share_counts (route_of job) lines)) text
 
 -- A split that stopped left prefixes of the shares of the lines. The file of the counts is empty, unless all shares are whole.
 pub record IsUnfinished (job : SplitJob) (files : Files) (status : ℕ) (new : Option Files) : Type 0 where
@@ -34,7 +34,7 @@ pub record IsUnfinished (job : SplitJob) (files : Files) (status : ℕ) (new : O
   pub text : List ℕ
   pub there : file_at files job.keys ≡ Some bytes
   pub files_are : new ≡ Some (placed job.dir parts text files)
-  pub fronts : AreFronts job (lines_of (told_of job bytes)) parts
+  pub prefixes : ArePrefixes job (lines_of (told_of job bytes)) parts
   pub counts : (text ≡ []) ⊎ (((told_of job bytes).fault ≡ None) × AreWhole job (lines_of (told_of job bytes)) parts text)
   pub unread : status ≡ 4 → text ≡ []
 

@@ -4,30 +4,22 @@ use Rattle.std.specs.Option.{ForSome}
 use Rattle.cm_io.specs.Causes.{Rose}
 use Rattle.cm_io.specs.Files.{Files}
 use Rattle.cm_io.specs.Passes.{Told}
+use Rattle.cm_io.specs.declared.fault.DiskFault.{DiskFault}
 use Rattle.cm_io.specs.declared.key_pass.KeyFault.{KeyFault}
 use Rattle.cm_io.specs.declared.key_pass.KeyFault.TheVariants as key_fault
 use Rattle.cm_keys.specs.Streams.{LineStream, told_by}
 use Rattle.cm_route.specs.Routes.{Route}
 use Rattle.cm_shards_split.specs.Outcomes.{lines_of}
-use Rattle.cm_shards_split.specs.Parts.{HasFronts, Stands}
+use Rattle.cm_shards_split.specs.Parts.{HasPrefixes, Stands}
+use Rattle.cm_shards_split.specs.Plans.{Plan, plan}
 use Rattle.cm_shards_split.specs.declared.part.Part.{Part}
 use Rattle.cm_shards_split.specs.declared.stop.SplitStop.{SplitStop}
 use Rattle.cm_shards_split.specs.declared.stop.SplitStop.TheVariants.{Memory, Read, TooLong, TooMany, Write}
 
--- where lines are split to: a folder, the files before, the route, and the byte that ends a line
-pub record Plan : Type 0 where
-  pub dir : List ℕ
-  pub base : Option Files
-  pub route : Route
-  pub end : ℕ
-
-abbrev pub plan : List ℕ → Option Files → Route → ℕ → Plan
-plan dir base route end = record { dir = dir; base = base; route = route; end = end }
-
 -- the lines that were read are split, and the others are left
 pub record IsStreaming (p : Plan) (stream : LineStream) (parts : List Part) (files : Option Files) : Type 0 where
   pub lines : List (List ℕ)
-  pub stands : Stands p.dir p.base p.route p.end lines parts files
+  pub stands : Stands p lines parts files
   pub long : length lines ≡ stream.count
   pub left : ForSome (told_by stream) (λ told. lines_of told ≡ lines ++ map (λ line. line.1) (drop stream.count told.keys))
 
@@ -40,18 +32,18 @@ pub record IsSplitting (route : Route) (end : ℕ) (stream : LineStream) (parts 
 -- All lines are split, and this is the fault at their end.
 pub record HasEnded (p : Plan) (told : Option Told) (fault : Option KeyFault) (parts : List Part) (files : Option Files) : Type 0 where
   pub lines : List (List ℕ)
-  pub stands : Stands p.dir p.base p.route p.end lines parts files
+  pub stands : Stands p lines parts files
   pub all : ForSome told (λ t. (lines_of t ≡ lines) × (t.fault ≡ fault))
 
 -- the files of shards have prefixes of the shares of all lines
-abbrev pub HasFrontsOf : Plan → Option Told → Option Files → Type 0
-HasFrontsOf p told files = ForSome told (λ t. HasFronts p.dir p.base p.route p.end (lines_of t) files)
+abbrev pub HasPrefixesOf : Plan → Option Told → Option Files → Type 0
+HasPrefixesOf p told files = ForSome told (λ t. HasPrefixes p (lines_of t) files)
 
 -- what is left by why lines are split no further
 abbrev pub StopsTo : Plan → Option Told → List Part → Option Files → SplitStop → Type 0
-StopsTo p told parts files Memory = HasFrontsOf p told files
-StopsTo p told parts files Read = HasFrontsOf p told files
-StopsTo p told parts files Write = HasFrontsOf p told files
+StopsTo p told parts files Memory = HasPrefixesOf p told files
+StopsTo p told parts files Read = HasPrefixesOf p told files
+StopsTo p told parts files Write = HasPrefixesOf p told files
 StopsTo p told parts files (TooLong line) = HasEnded p told (Some (key_fault.TooLong line)) parts files
 StopsTo p told parts files TooMany = HasEnded p told (Some key_fault.TooMany) parts files
 
@@ -60,6 +52,11 @@ abbrev pub StepsTo : Plan → LineStream → List Part → Option Files → Resu
 StepsTo p stream parts files (Ok true) = IsStreaming p stream parts files
 StepsTo p stream parts files (Ok false) = HasEnded p (told_by stream) None parts files
 StepsTo p stream parts files (Err stop) = StopsTo p (told_by stream) parts files stop
+
+-- the same of a line that is put only if it is buffered: if it isn't, nothing more is known
+abbrev pub StepsBuffered : Plan → LineStream → List Part → Option Files → Result Bool DiskFault → Type 0
+StepsBuffered p stream parts files (Ok _) = IsStreaming p stream parts files
+StepsBuffered p stream parts files (Err fault) = HasPrefixesOf p (told_by stream) files
 
 -- and all lines
 abbrev pub EndsTo : Plan → Option Told → List Part → Option Files → Result (Unit {0}) SplitStop → Type 0

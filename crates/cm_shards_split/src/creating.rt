@@ -1,37 +1,36 @@
 //! The files of a split, created empty.
 ghost use Rattle.std.specs.Prelude.{◌≡◌, [], ℕ, List, Option, length, replicate};
-ghost use Rattle.cm_io.specs.Causes.{HasCause, HasDiskCause};
-ghost use Rattle.cm_io.specs.Files.{Files};
-ghost use Rattle.cm_io.specs.Writing.{Writes};
+ghost use Rattle.cm_io.specs.Causes.{HasDiskCause};
+ghost use Rattle.cm_io.specs.Files.{Creates as IsCreated, Files};
 ghost use Rattle.cm_shards_split.specs.Names.{counts_path};
 ghost use Rattle.cm_shards_split.specs.Parts.{Creates, CreatesParts, HavePaths, Written};
 
 use crate::part::Part;
-use cm_io::{Disk, DiskFault, Failed, Sink};
-use cm_tool_building::{Saved, store_file};
+use cm_io::DiskFault;
+use cm_io_append::AppendDisk;
 
-/// No bytes.
-#[derive(Clone, Copy)]
-struct NoBytes;
-
-impl Saved for NoBytes {
-    ghost bytes = { λ _. [] };
-
-    fn save<O: Sink>(&self, out: &mut O) -> Result<(), Failed> {
-        let _ = out;
-        Ok(())
+/// Makes the path hold no bytes. It isn't synced: the append that comes last syncs it.
+fn create_empty<D: AppendDisk>(path: &str, disk: &mut D) -> Result<(), DiskFault>
+    ensures files { IsCreated path.now (D.state disk.old).files (D.state disk.new).files result }
+    ensures spilled { (D.state disk.new).spilled ≡ (D.state disk.old).spilled }
+    ensures read_faults { (D.state disk.new).read_faults ≡ (D.state disk.old).read_faults }
+    ensures cause { HasDiskCause (D.state disk.old).write_faults (D.state disk.new).write_faults result }
+{
+    match disk.create(path) {
+        Ok(_) => Ok(()),
+        Err(fault) => Err(fault),
     }
 }
 
 /// Creates the file of each shard, in order.
-fn create_parts<D: Disk>(parts: &[Part], disk: &mut D) -> Result<(), DiskFault>
+fn create_parts<D: AppendDisk>(parts: &[Part], disk: &mut D) -> Result<(), DiskFault>
     ensures creates { (dir : List ℕ) (base : Option Files) → HavePaths dir parts.now → Written dir base [] (D.state disk.old).files → CreatesParts dir base (length parts.now) (D.state disk.new).files result }
     ensures spilled { (D.state disk.new).spilled ≡ (D.state disk.old).spilled }
     ensures read_faults { (D.state disk.new).read_faults ≡ (D.state disk.old).read_faults }
     ensures cause { HasDiskCause (D.state disk.old).write_faults (D.state disk.new).write_faults result }
 {
     for i in 0..parts.len() {
-        match store_file(parts[i].path.as_str(), &NoBytes, disk) {
+        match create_empty(parts[i].path.as_str(), disk) {
             Ok(()) => {}
             Err(fault) => return Err(fault),
         }
@@ -40,7 +39,7 @@ fn create_parts<D: Disk>(parts: &[Part], disk: &mut D) -> Result<(), DiskFault>
 }
 
 /// Creates the file of the counts, and then that of each shard.
-pub(crate) fn create_files<D: Disk>(
+pub(crate) fn create_files<D: AppendDisk>(
     counts: &str,
     parts: &[Part],
     disk: &mut D,
@@ -50,7 +49,7 @@ pub(crate) fn create_files<D: Disk>(
     ensures read_faults { (D.state disk.new).read_faults ≡ (D.state disk.old).read_faults }
     ensures cause { HasDiskCause (D.state disk.old).write_faults (D.state disk.new).write_faults result }
 {
-    match store_file(counts, &NoBytes, disk) {
+    match create_empty(counts, disk) {
         Ok(()) => create_parts(parts, disk),
         Err(fault) => Err(fault),
     }

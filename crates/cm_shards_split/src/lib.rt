@@ -14,6 +14,7 @@ mod reporting;
 mod splitting;
 mod stop;
 mod streaming;
+mod waiting;
 
 pub use crate::driving::split_job;
 pub use crate::stop::SplitStop;

@@ -3,8 +3,8 @@ ghost use Rattle.std.specs.Prelude.{◌≡◌, ◌<◌, ◌≤◌, ◌-◌, ◌^
 ghost use Rattle.cm_io.specs.Causes.{HasDiskCause};
 ghost use Rattle.cm_io.specs.Files.{Files};
 ghost use Rattle.cm_io.specs.declared.key_pass.TheConstants.{MAX_KEY_LEN};
-ghost use Rattle.cm_route.specs.Routes.{Route as RouteView};
 ghost use Rattle.cm_shards_split.specs.Parts.{AreHeld, AreNew, Flushes, IsOpen, PutsLine, Stands, counts_of};
+ghost use Rattle.cm_shards_split.specs.Plans.{Plan, plan};
 
 use crate::part::{Part, flush, new_part, put};
 use cm_io::DiskFault;
@@ -33,8 +33,8 @@ pub(crate) fn put_line<D: AppendDisk>(
 ) -> Result<(), DiskFault>
     requires open { IsOpen route.now end parts.old (D.state disk.old).files }
     requires short { length line.now ≤ MAX_KEY_LEN }
-    ensures puts { (dir : List ℕ) (base : Option Files) (lines : List (List ℕ)) → Stands dir base route.now end lines parts.old (D.state disk.old).files
-        → PutsLine dir base route.now end (lines ++ line.now ∷ []) parts.new (D.state disk.new).files result }
+    ensures puts { (dir : List ℕ) (base : Option Files) (lines : List (List ℕ)) → Stands (plan dir base route.now end) lines parts.old (D.state disk.old).files
+        → PutsLine (plan dir base route.now end) (lines ++ line.now ∷ []) parts.new (D.state disk.new).files result }
     ensures spilled { (D.state disk.new).spilled ≡ (D.state disk.old).spilled }
     ensures read_faults { (D.state disk.new).read_faults ≡ (D.state disk.old).read_faults }
     ensures cause { HasDiskCause (D.state disk.old).write_faults (D.state disk.new).write_faults result }
@@ -46,8 +46,8 @@ pub(crate) fn put_line<D: AppendDisk>(
 /// Appends all that waits. Nothing more comes.
 pub(crate) fn flush_parts<D: AppendDisk>(parts: &mut [Part], disk: &mut D) -> Result<(), DiskFault>
     requires held { AreHeld parts.old (D.state disk.old).files }
-    ensures flushes { (dir : List ℕ) (base : Option Files) (route : RouteView) (end : ℕ) (lines : List (List ℕ)) → Stands dir base route end lines parts.old (D.state disk.old).files
-        → Flushes dir base route end lines (D.state disk.new).files result }
+    ensures flushes { (p : Plan) (lines : List (List ℕ)) → Stands p lines parts.old (D.state disk.old).files
+        → Flushes p lines (D.state disk.new).files result }
     ensures counts { OnOk result (counts_of parts.new ≡ counts_of parts.old) }
     ensures spilled { (D.state disk.new).spilled ≡ (D.state disk.old).spilled }
     ensures read_faults { (D.state disk.new).read_faults ≡ (D.state disk.old).read_faults }

@@ -2,7 +2,7 @@ use Rattle.std.proofs.Common.{inl, inr, Result, Ok, Err, List, ℕ, Option, arit
 use Rattle.cm_io.specs.Files.{Files}
 use Rattle.cm_io.specs.declared.fault.DiskFault.{DiskFault}
 use Rattle.cm_shards_split.specs.Parts.{Creates, CreatesParts}
-use Rattle.cm_shards_split.proofs.Created.{counts_created, not_created}
+use Rattle.cm_shards_split.proofs.Created.{counts_created}
 use Rattle.cm_shards_split.proofs.creating.create_files.Goals as goal
 
 after_counts : (dir : List ℕ) (old new : Option Files) (n : ℕ) (result : Result (Unit {0}) DiskFault) → CreatesParts dir old n new result → Creates dir n old new result
@@ -15,7 +15,7 @@ returns-in-Ok-clause-creates g c = λ dir path have.
 
 pub returns-in-Err-clause-creates : goal.returns-in-Err-clause-creates
 returns-in-Err-clause-creates g c = λ dir path have.
-    elim (not_created c.args.counts.now _ _ c.in-Err.fault c.in-Err.ensures.files) [
+    elim c.in-Err.ensures.files [
       | inl same ↦ inl same
       | inr empty ↦ inr (0, omega arith, counts_created dir _ _ _ path empty)
     ]

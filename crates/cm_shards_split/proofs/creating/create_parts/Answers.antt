@@ -2,7 +2,7 @@ use Rattle.std.proofs.Common.{◌≡◌, ◌∙◌, ◌<◌, ◌+◌, ℕ, [], l
 use Rattle.std.proofs.lemmas.List.{get_or-map}
 use Rattle.cm_shards_split.specs.Names.{shard_path}
 use Rattle.cm_shards_split.specs.declared.part.Part.{Part}
-use Rattle.cm_shards_split.proofs.Created.{not_created, shard_created}
+use Rattle.cm_shards_split.proofs.Created.{shard_created}
 use Rattle.cm_shards_split.proofs.creating.create_parts.Goals as goal
 
 pub returns-in-Err-clause-creates : goal.returns-in-Err-clause-creates
@@ -11,7 +11,7 @@ returns-in-Err-clause-creates g c = λ dir base have before.
     let inside : i < length c.args.parts.now = omega (arith, c.loop-i-test.true, c.loop-i.invariant.end) in
     let written = c.loop-i.invariant.created dir base have before in
     let path : c.as_str.result.now ≡ shard_path dir i = c.as_str.ensures.bytes ∙ sym (get_or-map (λ (part : Part). part.path) c.args.parts.now i c.index-parts-i.result [] inside) ∙ have.paths i inside in
-    elim (not_created c.as_str.result.now _ _ c.in-Err.fault c.in-Err.ensures.files) [
+    elim c.in-Err.ensures.files [
       | inl same ↦ (i, omega (arith, inside), same ∙ written)
       | inr empty ↦ (i + 1, omega (arith, inside), shard_created dir base i _ _ _ written path (omega (arith, inside, have.few)) empty)
     ]

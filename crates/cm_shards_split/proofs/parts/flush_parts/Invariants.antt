@@ -1,14 +1,13 @@
-use Rattle.std.proofs.Common.{◌≡◌, ℕ, List, Option, length}
-use Rattle.cm_io.specs.Files.{Files}
+use Rattle.std.proofs.Common.{◌≡◌, ℕ, List, length}
 use Rattle.cm_io.specs.States.{DiskState}
-use Rattle.cm_route.specs.Routes.{Route}
 use Rattle.cm_shards_split.specs.Parts.{Stands, StandsTo, counts_of}
+use Rattle.cm_shards_split.specs.Plans.{Plan}
 use Rattle.cm_shards_split.specs.declared.part.Part.{Part}
 use Rattle.cm_shards_split.proofs.parts.flush_parts.Given as goal
 
 -- nothing waits for the first shards, and nothing else has changed
 pub record Flushed (old_parts parts : List Part) (old now : DiskState) (i : ℕ) : Type 0 where
-  pub stands : (dir : List ℕ) (base : Option Files) (route : Route) (end : ℕ) (lines : List (List ℕ)) → Stands dir base route end lines old_parts old.files → StandsTo dir base route end lines i parts now.files
+  pub stands : (p : Plan) (lines : List (List ℕ)) → Stands p lines old_parts old.files → StandsTo p lines i parts now.files
   pub many : length parts ≡ length old_parts
   pub counts : counts_of parts ≡ counts_of old_parts
   pub spilled : now.spilled ≡ old.spilled

@@ -3,7 +3,8 @@ use Rattle.cm_keys.specs.Streams.{told_by}
 use Rattle.cm_route.specs.Routes.{Route}
 use Rattle.cm_shards_split.specs.Leaves.{plan_of}
 use Rattle.cm_shards_split.specs.Parts.{Written}
-use Rattle.cm_shards_split.specs.Streaming.{EndsTo, IsSplitting, IsStreaming, plan}
+use Rattle.cm_shards_split.specs.Plans.{plan}
+use Rattle.cm_shards_split.specs.Streaming.{EndsTo, IsSplitting, IsStreaming}
 use Rattle.cm_shards_split.proofs.Ending.{lines_left, new_paths, streaming_new}
 use Rattle.cm_shards_split.proofs.splitting.split_lines.Goals as goal
 

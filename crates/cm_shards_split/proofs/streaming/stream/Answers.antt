@@ -1,7 +1,8 @@
 use Rattle.std.proofs.Common.{◌∙◌, Bool, Option, Ok, None, subst}
 use Rattle.cm_io.specs.Passes.{Told}
 use Rattle.cm_keys.specs.Streams.{told_by}
-use Rattle.cm_shards_split.specs.Streaming.{HasEnded, StepsTo, plan}
+use Rattle.cm_shards_split.specs.Plans.{plan}
+use Rattle.cm_shards_split.specs.Streaming.{HasEnded, StepsTo}
 use Rattle.cm_shards_split.proofs.streaming.stream.Goals as goal
 
 pub returns-in-Ok-false-clause-ends : goal.returns-in-Ok-false-clause-ends

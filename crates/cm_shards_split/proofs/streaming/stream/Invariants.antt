@@ -1,7 +1,8 @@
 use Rattle.std.proofs.Common.{◌≡◌, ℕ, List, Option, true}
 use Rattle.cm_io.specs.Files.{Files}
 use Rattle.cm_keys.specs.Streams.{told_by}
-use Rattle.cm_shards_split.specs.Streaming.{IsStreaming, plan}
+use Rattle.cm_shards_split.specs.Plans.{plan}
+use Rattle.cm_shards_split.specs.Streaming.{IsStreaming}
 use Rattle.cm_shards_split.proofs.streaming.stream.Given as goal
 
 abbrev pub invariant-loop-i : goal.invariant-loop-i

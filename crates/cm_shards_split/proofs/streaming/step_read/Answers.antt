@@ -1,8 +1,8 @@
 use Rattle.std.proofs.Common.{◌≡◌, ◌+◌, List, ℕ, Bool, cond, Ok, sym, subst}
 use Rattle.cm_keys.specs.Streams.{GivesLine}
-use Rattle.cm_shards_split.specs.Streaming.{plan}
+use Rattle.cm_shards_split.specs.Plans.{plan}
 use Rattle.cm_shards_split.proofs.Streamed.{HasRead, line_stopped, line_streamed, read_stopped}
-use Rattle.cm_shards_split.proofs.streaming.step.Goals as goal
+use Rattle.cm_shards_split.proofs.streaming.step_read.Goals as goal
 
 pub returns-in-Err-Read-clause-steps : goal.returns-in-Err-Read-clause-steps
 returns-in-Err-Read-clause-steps g c = λ dir base streaming. read_stopped {p = plan dir base c.args.route.now c.args.end} _ streaming c.next.ensures.told
