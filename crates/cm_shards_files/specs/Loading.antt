@@ -8,6 +8,7 @@ use Rattle.cm_func.specs.Functions.{span_by}
 use Rattle.cm_func.specs.declared.function.Func.{Func}
 use Rattle.cm_io.specs.Causes.{Rose}
 use Rattle.cm_io.specs.Files.{Files, file_at}
+use Rattle.cm_io.specs.States.{DiskState}
 use Rattle.cm_shards_files.specs.FunctionFiles.{function_file_in, is_by, keys_by}
 use Rattle.cm_shards_files.specs.Shards.{Sharded}
 use Rattle.cm_shards_files.specs.declared.fault.ShardsFault.{ShardsFault}
@@ -18,6 +19,12 @@ use Rattle.cm_shards_manifest.specs.Manifests.{Manifest}
 use Rattle.cm_shards_manifest.specs.Paths.{path_of}
 use Rattle.cm_shards_manifest.specs.declared.fault.ManifestFault.{ManifestFault}
 use Rattle.cm_shards_manifest.specs.declared.shard.Shard.{Shard}
+
+-- A step that reads a disk changes no file.
+pub record ChangesNoFile (old new : DiskState) : Type 0 where
+  pub files : new.files ≡ old.files
+  pub spilled : new.spilled ≡ old.spilled
+  pub write_faults : new.write_faults ≡ old.write_faults
 
 -- a function file is the one that a manifest speaks of: its algorithm, its number of keys, its span, its length and its digest are
 abbrev pub is_of : Algorithm → Shard → FunctionFile → Bool

@@ -3,6 +3,7 @@ ghost use Rattle.std.specs.Prelude.{◌≡◌, ◌≤◌, ℕ, IfOk};
 ghost use Rattle.std.specs.Option.{ForSome};
 ghost use Rattle.cm_func.specs.Functions.{IsFunction};
 ghost use Rattle.cm_shards_files.specs.FunctionFiles.{algorithm_by, function_file_in, is_by, keys_by};
+ghost use Rattle.cm_shards_files.specs.Loading.{ChangesNoFile};
 ghost use Rattle.cm_spec.specs.declared.limits.TheConstants.{MAX_KEYS};
 ghost use Rattle.cm_tool_asking.specs.Loads.{HasLoadCause, IsSpelled, Loads};
 
@@ -92,9 +93,7 @@ pub fn read_function<D: Disk>(
     path: &str,
     disk: &mut D,
 ) -> Result<FunctionFile, Unloaded<LoadFault>>
-    ensures files { (D.state disk.new).files ≡ (D.state disk.old).files }
-    ensures spilled { (D.state disk.new).spilled ≡ (D.state disk.old).spilled }
-    ensures write_faults { (D.state disk.new).write_faults ≡ (D.state disk.old).write_faults }
+    ensures disk { ChangesNoFile (D.state disk.old) (D.state disk.new) }
     ensures cause { HasLoadCause (D.state disk.old).read_faults (D.state disk.new).read_faults result }
     ensures loads { ForSome (D.state disk.old).files (λ files. Loads function_file_in files path.now result) }
     ensures valid { IfOk result (λ file. IsFunction file.function) }

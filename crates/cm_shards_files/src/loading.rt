@@ -2,7 +2,7 @@
 ghost use Rattle.std.specs.Prelude.{◌≡◌, All, IfOk, MatchResult, Ok, Err, Result, length};
 ghost use Rattle.std.specs.Option.{ForSome};
 ghost use Rattle.cm_func.specs.Functions.{IsFunction};
-ghost use Rattle.cm_shards_files.specs.Loading.{HasShardsCause, LoadsShards, is_of};
+ghost use Rattle.cm_shards_files.specs.Loading.{ChangesNoFile, HasShardsCause, LoadsShards, is_of};
 ghost use Rattle.cm_shards_files.specs.Shards.{IsSharded};
 ghost use Rattle.cm_shards_files.specs.Steps.{LoadsFunction, LoadsFunctions, ReadsManifest, fault_unread, taken};
 ghost use Rattle.cm_shards_manifest.specs.Manifests.{IsManifest};
@@ -34,9 +34,7 @@ fn unread(fault: ManifestUnread) -> ShardsFault
 
 /// The manifest of a path.
 fn manifest_of<D: Disk>(alloc: Global, path: &str, disk: &mut D) -> Result<Manifest, ShardsFault>
-    ensures files { (D.state disk.new).files ≡ (D.state disk.old).files }
-    ensures spilled { (D.state disk.new).spilled ≡ (D.state disk.old).spilled }
-    ensures write_faults { (D.state disk.new).write_faults ≡ (D.state disk.old).write_faults }
+    ensures disk { ChangesNoFile (D.state disk.old) (D.state disk.new) }
     ensures cause { HasShardsCause (D.state disk.old).read_faults (D.state disk.new).read_faults result }
     ensures reads { ForSome (D.state disk.old).files (λ files. ReadsManifest files path.now result) }
     ensures valid { IfOk result IsManifest }
@@ -89,9 +87,7 @@ fn load_function<D: Disk>(
     shard: &Shard,
     disk: &mut D,
 ) -> Result<Func, ShardsFault>
-    ensures files { (D.state disk.new).files ≡ (D.state disk.old).files }
-    ensures spilled { (D.state disk.new).spilled ≡ (D.state disk.old).spilled }
-    ensures write_faults { (D.state disk.new).write_faults ≡ (D.state disk.old).write_faults }
+    ensures disk { ChangesNoFile (D.state disk.old) (D.state disk.new) }
     ensures cause { HasShardsCause (D.state disk.old).read_faults (D.state disk.new).read_faults result }
     ensures loads { ForSome (D.state disk.old).files (λ files. LoadsFunction files manifest.now algorithm shard.now result) }
     ensures valid { IfOk result IsFunction }
@@ -113,9 +109,7 @@ fn load_functions<D: Disk>(
     shards: &[Shard],
     disk: &mut D,
 ) -> Result<Vec<Func>, ShardsFault>
-    ensures files { (D.state disk.new).files ≡ (D.state disk.old).files }
-    ensures spilled { (D.state disk.new).spilled ≡ (D.state disk.old).spilled }
-    ensures write_faults { (D.state disk.new).write_faults ≡ (D.state disk.old).write_faults }
+    ensures disk { ChangesNoFile (D.state disk.old) (D.state disk.new) }
     ensures cause { HasShardsCause (D.state disk.old).read_faults (D.state disk.new).read_faults result }
     ensures loads { ForSome (D.state disk.old).files (λ files. LoadsFunctions (λ v. v.items) files manifest.now algorithm shards.now result) }
     ensures valid { IfOk result (λ v. All IsFunction v.items) }
@@ -143,9 +137,7 @@ pub fn load_shards<D: Disk>(
     manifest: &str,
     disk: &mut D,
 ) -> Result<Shards, ShardsFault>
-    ensures files { (D.state disk.new).files ≡ (D.state disk.old).files }
-    ensures spilled { (D.state disk.new).spilled ≡ (D.state disk.old).spilled }
-    ensures write_faults { (D.state disk.new).write_faults ≡ (D.state disk.old).write_faults }
+    ensures disk { ChangesNoFile (D.state disk.old) (D.state disk.new) }
     ensures cause { HasShardsCause (D.state disk.old).read_faults (D.state disk.new).read_faults result }
     ensures loads { ForSome (D.state disk.old).files (λ files. LoadsShards files manifest.now result) }
     ensures valid { IfOk result IsSharded }

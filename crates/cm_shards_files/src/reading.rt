@@ -3,6 +3,7 @@ ghost use Rattle.std.specs.Prelude.{◌≡◌, IfOk, Some};
 ghost use Rattle.std.specs.Option.{ForSome};
 ghost use Rattle.cm_io.specs.Causes.{HasDiskCause};
 ghost use Rattle.cm_io.specs.Files.{file_at};
+ghost use Rattle.cm_shards_files.specs.Loading.{ChangesNoFile};
 
 use cm_io::{Disk, DiskFault};
 use cm_io_append::read_whole;
@@ -10,9 +11,7 @@ use std::alloc::Global;
 
 /// All bytes of the file of a path. Returns `Failed` exactly if it can't be opened or read, and the count of read faults rises then.
 pub fn read_file<D: Disk>(alloc: Global, path: &str, disk: &mut D) -> Result<Vec<u8>, DiskFault>
-    ensures files { (D.state disk.new).files ≡ (D.state disk.old).files }
-    ensures spilled { (D.state disk.new).spilled ≡ (D.state disk.old).spilled }
-    ensures write_faults { (D.state disk.new).write_faults ≡ (D.state disk.old).write_faults }
+    ensures disk { ChangesNoFile (D.state disk.old) (D.state disk.new) }
     ensures cause { HasDiskCause (D.state disk.old).read_faults (D.state disk.new).read_faults result }
     ensures whole { IfOk result (λ v. ForSome (D.state disk.old).files (λ files. file_at files path.now ≡ Some v.items)) }
 {

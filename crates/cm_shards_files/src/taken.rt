@@ -1,5 +1,5 @@
 //! Keys that are looked up together.
-ghost use Rattle.std.specs.Prelude.{◌≡◌, ◌<◌, ◌≤◌, ◌++◌, [], ◌∷◌, ℕ, List, true, false, length, slice_index_or};
+ghost use Rattle.std.specs.Prelude.{◌≡◌, ◌<◌, ◌≤◌, ◌++◌, ◌↔◌, [], ◌∷◌, ℕ, List, true, false, length, slice_index_or};
 ghost use Rattle.cm_shards_files.specs.Shards.{HasRoom};
 
 use arrayvec::ArrayVec;
@@ -59,7 +59,7 @@ impl ShardKeys {
 
     /// Whether one more key of any length has room. If it has none, there are keys.
     pub fn has_room(&self) -> bool
-        ensures room { result ≡ true → HasRoom self.now }
+        ensures room { (result ≡ true) ↔ HasRoom self.now }
         ensures some { result ≡ false → 0 < length self.now }
     {
         !self.spots.is_full() && self.bytes.len() <= MAX_KEY_LEN

@@ -3,3 +3,4 @@ pub mod CountLemmas
 pub mod TakeLemmas
 pub mod Ends
 pub mod Promises
+mod ExampleLemmas

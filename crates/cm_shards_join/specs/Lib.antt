@@ -5,3 +5,4 @@ pub mod Texts
 pub mod Outcomes
 pub mod Leaves
 pub mod Joins
+pub mod Examples

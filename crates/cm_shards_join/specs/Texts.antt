@@ -1,20 +1,11 @@
 -- What is said of a join that stopped.
-use Rattle.std.specs.Prelude.{ℕ, List, [], ◌∷◌, codes, decimal, Result, Ok, Err}
-use Rattle.cm_io.specs.Writing.{joined}
+use Rattle.std.specs.Prelude.{ℕ, List, [], codes, Result, Ok, Err}
 use Rattle.cm_shards_join.specs.declared.stop.JoinStop.{JoinStop}
 use Rattle.cm_shards_join.specs.declared.stop.JoinStop.TheVariants as stop
+use Rattle.cm_shards_words.specs.Messages.{file_message, line_message}
 use Rattle.cm_shards_words.specs.Program.{program}
 use Rattle.cm_shards_words.specs.declared.jobs.JoinJob.{JoinJob}
 use Rattle.cm_tool_stops.specs.Messages.{bad_dump, cannot_read, cannot_write, out_of_memory}
-
-abbrev pub bad_name : List ℕ → List ℕ
-bad_name path = joined (program ∷ codes ": " ∷ path ∷ codes ": bad name\n" ∷ [])
-
-abbrev pub another_algorithm : List ℕ → List ℕ
-another_algorithm path = joined (program ∷ codes ": " ∷ path ∷ codes ": another algorithm\n" ∷ [])
-
-abbrev pub another_count : List ℕ → ℕ → List ℕ
-another_count path line = joined (program ∷ codes ": " ∷ path ∷ codes ": another count at line " ∷ decimal line ∷ codes "\n" ∷ [])
 
 -- the status of a join that stopped
 abbrev pub status_of : JoinStop → ℕ
@@ -30,10 +21,10 @@ status_of stop.Write = 5
 abbrev pub message_of : JoinJob → JoinStop → List ℕ
 message_of job stop.Memory = out_of_memory program
 message_of job (stop.Read path) = cannot_read program path
-message_of job (stop.BadName path) = bad_name path
+message_of job (stop.BadName path) = file_message path (codes ": bad name\n")
 message_of job (stop.BadDump path fault) = bad_dump program path fault
-message_of job (stop.Another path) = another_algorithm path
-message_of job (stop.BadCounts path line) = another_count path line
+message_of job (stop.Another path) = file_message path (codes ": another algorithm\n")
+message_of job (stop.BadCounts path line) = line_message path (codes ": another count at line ") line (codes "\n")
 message_of job stop.Write = cannot_write program job.manifest
 
 -- the status of an end, and what is said of it

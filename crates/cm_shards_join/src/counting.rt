@@ -1,6 +1,7 @@
 //! The counts of a split, compared with the keys of functions.
 ghost use Rattle.std.specs.Prelude.{◌≡◌, ◌+◌, ◌<◌, ◌≤◌, ◌^◌, IfErr, IfOk, OnOk, Some, Ok};
 ghost use Rattle.std.specs.Option.{ForSome};
+ghost use Rattle.cm_shards_files.specs.Loading.{ChangesNoFile};
 ghost use Rattle.cm_shards_join.specs.Counts.{line_apart, next_line};
 ghost use Rattle.cm_shards_join.specs.Leaves.{HasReadCause, NamesCounts, NamesPath, Refuses};
 ghost use Rattle.cm_shards_join.specs.Taking.{compare_counts, keys_text};
@@ -73,9 +74,7 @@ fn compare_in<D: Disk>(
     shards: &[Shard],
     disk: &mut D,
 ) -> Result<(), JoinStop>
-    ensures files { (D.state disk.new).files ≡ (D.state disk.old).files }
-    ensures spilled { (D.state disk.new).spilled ≡ (D.state disk.old).spilled }
-    ensures write_faults { (D.state disk.new).write_faults ≡ (D.state disk.old).write_faults }
+    ensures disk { ChangesNoFile (D.state disk.old) (D.state disk.new) }
     ensures cause { HasReadCause (D.state disk.old).read_faults (D.state disk.new).read_faults result }
     ensures same { OnOk result (ForSome (D.state disk.old).files (λ files. compare_counts files (Some dir.now) shards.now ≡ Some (Ok tt))) }
     ensures refused { IfErr result (λ stop. ForSome (D.state disk.old).files (λ files. Refuses (compare_counts files (Some dir.now) shards.now) stop)) }
@@ -107,9 +106,7 @@ pub(crate) fn compare<D: Disk>(
     shards: &[Shard],
     disk: &mut D,
 ) -> Result<(), JoinStop>
-    ensures files { (D.state disk.new).files ≡ (D.state disk.old).files }
-    ensures spilled { (D.state disk.new).spilled ≡ (D.state disk.old).spilled }
-    ensures write_faults { (D.state disk.new).write_faults ≡ (D.state disk.old).write_faults }
+    ensures disk { ChangesNoFile (D.state disk.old) (D.state disk.new) }
     ensures cause { HasReadCause (D.state disk.old).read_faults (D.state disk.new).read_faults result }
     ensures same { OnOk result (ForSome (D.state disk.old).files (λ files. compare_counts files dir.now shards.now ≡ Some (Ok tt))) }
     ensures refused { IfErr result (λ stop. ForSome (D.state disk.old).files (λ files. Refuses (compare_counts files dir.now shards.now) stop)) }

@@ -3,6 +3,7 @@
 
 mod counting;
 mod driving;
+pub mod examples;
 mod making;
 mod reporting;
 mod stop;

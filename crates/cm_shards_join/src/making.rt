@@ -1,6 +1,7 @@
 //! The manifest of a job.
 ghost use Rattle.std.specs.Prelude.{◌≡◌, IfOk};
 ghost use Rattle.std.specs.Option.{ForSome};
+ghost use Rattle.cm_shards_files.specs.Loading.{ChangesNoFile};
 ghost use Rattle.cm_shards_join.specs.Leaves.{EndsJoin, HasReadCause};
 ghost use Rattle.cm_shards_join.specs.Taking.{algorithm_or, manifest_of};
 ghost use Rattle.cm_shards_join.specs.Takings.{taken_by};
@@ -35,9 +36,7 @@ pub(crate) fn make<D: Disk>(
     disk: &mut D,
 ) -> Result<Manifest, JoinStop>
     requires job { IsJoinJob job.now }
-    ensures files { (D.state disk.new).files ≡ (D.state disk.old).files }
-    ensures spilled { (D.state disk.new).spilled ≡ (D.state disk.old).spilled }
-    ensures write_faults { (D.state disk.new).write_faults ≡ (D.state disk.old).write_faults }
+    ensures disk { ChangesNoFile (D.state disk.old) (D.state disk.new) }
     ensures cause { HasReadCause (D.state disk.old).read_faults (D.state disk.new).read_faults result }
     ensures ends { ForSome (D.state disk.old).files (λ files. EndsJoin job.now files result) }
 {

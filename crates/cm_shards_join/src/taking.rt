@@ -3,6 +3,7 @@ ghost use Rattle.std.specs.Prelude.{◌≡◌, ◌+◌, ◌<◌, ◌≤◌, ℕ,
 ghost use Rattle.std.specs.Option.{ForSome};
 ghost use Rattle.cm_func.specs.Functions.{IsFunction};
 ghost use Rattle.cm_route.specs.declared.route.TheConstants.{MAX_SHARDS};
+ghost use Rattle.cm_shards_files.specs.Loading.{ChangesNoFile};
 ghost use Rattle.cm_shards_join.specs.Leaves.{HasReadCause, NamesFunction, NamesPath, Refuses};
 ghost use Rattle.cm_shards_join.specs.Taking.{fits, is_name, nothing, shard_by, take_all, take_function, take_loaded};
 ghost use Rattle.cm_shards_join.specs.Takings.{IsTaking, taken_by};
@@ -117,9 +118,7 @@ fn take_function<D: Disk>(
 ) -> Result<(), JoinStop>
     requires taking { IsTaking taking.old }
     requires room { length taking.old.shards.items < MAX_SHARDS }
-    ensures files { (D.state disk.new).files ≡ (D.state disk.old).files }
-    ensures spilled { (D.state disk.new).spilled ≡ (D.state disk.old).spilled }
-    ensures write_faults { (D.state disk.new).write_faults ≡ (D.state disk.old).write_faults }
+    ensures disk { ChangesNoFile (D.state disk.old) (D.state disk.new) }
     ensures cause { HasReadCause (D.state disk.old).read_faults (D.state disk.new).read_faults result }
     ensures taking { OnOk result (IsTaking taking.new) }
     ensures count { OnOk result (length taking.new.shards.items ≡ length taking.old.shards.items + 1) }
@@ -154,9 +153,7 @@ pub(crate) fn take_all<D: Disk>(
     disk: &mut D,
 ) -> Result<Taking, JoinStop>
     requires job { IsJoinJob job.now }
-    ensures files { (D.state disk.new).files ≡ (D.state disk.old).files }
-    ensures spilled { (D.state disk.new).spilled ≡ (D.state disk.old).spilled }
-    ensures write_faults { (D.state disk.new).write_faults ≡ (D.state disk.old).write_faults }
+    ensures disk { ChangesNoFile (D.state disk.old) (D.state disk.new) }
     ensures cause { HasReadCause (D.state disk.old).read_faults (D.state disk.new).read_faults result }
     ensures taking { IfOk result IsTaking }
     ensures count { IfOk result (λ t. length t.shards.items ≡ length job.now.functions) }

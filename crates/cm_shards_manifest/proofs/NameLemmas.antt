@@ -1,11 +1,10 @@
 -- Names that are read: texts.
-use Rattle.std.proofs.Common.{◌≡◌, ℕ, List, Bool, true, false, sym, refl, Result, Ok, Err, if◌then◌else◌}
+use Rattle.std.proofs.Common.{◌≡◌, ℕ, List, Bool, true, false, refl, Ok, Err}
 use Rattle.std.specs.Prelude.{IsUtf8}
 use Rattle.std.specs.Str.{is_utf8}
 use Rattle.std.proofs.lemmas.Str.{IsUtf8-from_is_utf8, is_utf8-from_IsUtf8}
-use Rattle.cm_dump_items.specs.declared.fault.LoadFault.{LoadFault}
 use Rattle.cm_dump_items.specs.declared.fault.LoadFault.TheVariants as faults
-use Rattle.cm_dump_items.specs.Reading.{◌>>=◌, item_at}
+use Rattle.cm_dump_items.specs.Reading.{item_at}
 use Rattle.cm_shards_manifest.specs.ManifestItems.{name_at}
 
 not_utf8 : (t : Bool) (item : List ℕ) → is_utf8 item ≡ t → (IsUtf8 item → ⊥) → t ≡ false

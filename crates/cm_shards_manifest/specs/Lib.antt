@@ -1,3 +1,4 @@
+pub mod Fields
 pub mod Manifests
 pub mod ManifestBytes
 pub mod ManifestItems

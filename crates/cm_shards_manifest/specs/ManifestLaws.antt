@@ -1,7 +1,6 @@
 -- Lemmas about shards one after another, which the proofs of those who make manifests cite. No contract needs them.
 use Rattle.std.proofs.Common.{◌≡◌, ◌∙◌, ℕ, zero, suc, ◌+◌, ◌*◌, ◌<◌, ◌≤◌, List, [], ◌∷◌, ◌++◌, length, take, get_or, ap, sym, arith, append_assoc, append-nil}
 use Rattle.std.proofs.lemmas.List.{take_more}
-use Rattle.std.specs.List.{sum_by}
 use Rattle.std.proofs.lemmas.List.Sums.{sum_by-cons, sum_by_push}
 use Rattle.cm_spec.specs.declared.limits.TheConstants.{MAX_VERTICES}
 use Rattle.cm_shards_manifest.specs.ManifestBytes.{shard_bytes, shard_len, shards_bytes, shards_len}

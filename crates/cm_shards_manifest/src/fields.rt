@@ -1,78 +1,25 @@
 //! The fields of a file whose bytes are lent, each read at its offset and checked.
-ghost use Rattle.std.specs.Prelude.{◌≡◌, ◌+◌, ◌<◌, ◌≤◌, ◌^◌, IfOk, IsUtf8, OnOk, length};
-ghost use Rattle.std.specs.Int.{w8, w16, w32, w64};
+ghost use Rattle.std.specs.Prelude.{◌≡◌, ◌+◌, ◌<◌, ◌≤◌, ◌^◌, IfOk, IsTrue, IsUtf8, OnOk, length};
 ghost use Rattle.cm_dump_items.specs.Reading.{Answers, field_at, item_at};
+ghost use Rattle.cm_shards_manifest.specs.Fields.{is_width, width_of};
 ghost use Rattle.cm_shards_manifest.specs.ManifestItems.{name_at};
 
 use cm_dump_items::{LoadFault, lent_item};
 use std::str;
 
-/// The byte at an offset of a file. Returns `BadField` if it is not from `low` to `high`, and `Truncated` if the file ends before it.
+/// The number in `n` bytes at an offset of a file, which are 1, 2, 4 or 8; the lowest byte comes first. Returns `BadField` if it is not from
+/// `low` to `high`, and `Truncated` if the file ends before it does.
 #[tactic(auto, unfolding(cm_dump_items::specs::Reading::field_at))]
-pub(crate) fn byte(file: &[u8], at: u64, low: u8, high: u8) -> Result<u8, LoadFault>
+pub(crate) fn field(file: &[u8], at: u64, n: u64, low: u64, high: u64) -> Result<u64, LoadFault>
     requires room { at < 2 ^ 62 }
-    ensures inside { OnOk result (at + 1 ≤ length file.now) }
+    requires width { IsTrue (is_width n) }
+    ensures inside { OnOk result (at + n ≤ length file.now) }
     ensures range { IfOk result (λ x. (low ≤ x) × (x ≤ high)) }
-    ensures exact { Answers (λ x. x) result (field_at w8 file.now at low high) }
+    ensures exact { Answers (λ x. x) result (field_at (width_of n) file.now at low high) }
 {
-    let item = lent_item(file, at, 1)?;
-    let x = item[0];
-    if low <= x && x <= high {
-        Ok(x)
-    } else {
-        Err(LoadFault::BadField { at })
-    }
-}
-
-/// The number in two bytes at an offset of a file; the lowest byte comes first. Returns `BadField` if it is not from `low` to `high`, and
-/// `Truncated` if the file ends before it does.
-#[tactic(auto, unfolding(cm_dump_items::specs::Reading::field_at))]
-pub(crate) fn short(file: &[u8], at: u64, low: u16, high: u16) -> Result<u16, LoadFault>
-    requires room { at < 2 ^ 62 }
-    ensures inside { OnOk result (at + 2 ≤ length file.now) }
-    ensures range { IfOk result (λ x. (low ≤ x) × (x ≤ high)) }
-    ensures exact { Answers (λ x. x) result (field_at w16 file.now at low high) }
-{
-    let mut buf = [0; 2];
-    buf.copy_from_slice(lent_item(file, at, 2)?);
-    let x = u16::from_le_bytes(buf);
-    if low <= x && x <= high {
-        Ok(x)
-    } else {
-        Err(LoadFault::BadField { at })
-    }
-}
-
-/// The number in four bytes at an offset of a file; the lowest byte comes first. Returns `BadField` if it is not from `low` to `high`, and
-/// `Truncated` if the file ends before it does.
-#[tactic(auto, unfolding(cm_dump_items::specs::Reading::field_at))]
-pub(crate) fn number(file: &[u8], at: u64, low: u32, high: u32) -> Result<u32, LoadFault>
-    requires room { at < 2 ^ 62 }
-    ensures inside { OnOk result (at + 4 ≤ length file.now) }
-    ensures range { IfOk result (λ x. (low ≤ x) × (x ≤ high)) }
-    ensures exact { Answers (λ x. x) result (field_at w32 file.now at low high) }
-{
-    let mut buf = [0; 4];
-    buf.copy_from_slice(lent_item(file, at, 4)?);
-    let x = u32::from_le_bytes(buf);
-    if low <= x && x <= high {
-        Ok(x)
-    } else {
-        Err(LoadFault::BadField { at })
-    }
-}
-
-/// The number in eight bytes at an offset of a file; the lowest byte comes first. Returns `BadField` if it is not from `low` to `high`,
-/// and `Truncated` if the file ends before it does.
-#[tactic(auto, unfolding(cm_dump_items::specs::Reading::field_at))]
-pub(crate) fn long(file: &[u8], at: u64, low: u64, high: u64) -> Result<u64, LoadFault>
-    requires room { at < 2 ^ 62 }
-    ensures inside { OnOk result (at + 8 ≤ length file.now) }
-    ensures range { IfOk result (λ x. (low ≤ x) × (x ≤ high)) }
-    ensures exact { Answers (λ x. x) result (field_at w64 file.now at low high) }
-{
+    let item = lent_item(file, at, n)?;
     let mut buf = [0; 8];
-    buf.copy_from_slice(lent_item(file, at, 8)?);
+    buf[..n as usize].copy_from_slice(item);
     let x = u64::from_le_bytes(buf);
     if low <= x && x <= high {
         Ok(x)

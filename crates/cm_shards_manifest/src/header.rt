@@ -6,7 +6,7 @@ ghost use Rattle.cm_shards_manifest.specs.ManifestBytes.{algorithm_number};
 ghost use Rattle.cm_shards_manifest.specs.ManifestItems.{algorithm_of, header_at, magic_at};
 ghost use Rattle.cm_shards_manifest.specs.declared.header.TheConstants.{HEADER_LEN};
 
-use crate::fields::{byte, number};
+use crate::fields::field;
 use cm_algo_names::Algorithm;
 use cm_dump_items::{LoadFault, lent_item};
 use cm_route::MAX_SHARDS;
@@ -72,9 +72,9 @@ fn read_magic(file: &[u8]) -> Result<(), LoadFault>
 fn read_zeros(file: &[u8]) -> Result<(), LoadFault>
     ensures exact { Answers (λ x. x) result (zeros_at file.now 9 3) }
 {
-    byte(file, 9, 0, 0)?;
-    byte(file, 10, 0, 0)?;
-    byte(file, 11, 0, 0)?;
+    field(file, 9, 1, 0, 0)?;
+    field(file, 10, 1, 0, 0)?;
+    field(file, 11, 1, 0, 0)?;
     Ok(())
 }
 
@@ -86,12 +86,12 @@ pub(crate) fn read_header(file: &[u8]) -> Result<Header, LoadFault>
     ensures exact { Answers (λ h. h) result (header_at file.now) }
 {
     read_magic(file)?;
-    let number_of_it = byte(file, 8, 1, 4)?;
+    let number = field(file, 8, 1, 1, 4)? as u8;
     read_zeros(file)?;
-    let seed = number(file, 12, 0, u32::MAX)?;
-    let shards = number(file, 16, 1, MAX_SHARDS)?;
+    let seed = field(file, 12, 4, 0, u32::MAX as u64)? as u32;
+    let shards = field(file, 16, 4, 1, MAX_SHARDS as u64)? as u32;
     Ok(Header {
-        algorithm: algorithm_of(number_of_it),
+        algorithm: algorithm_of(number),
         seed,
         shards,
     })

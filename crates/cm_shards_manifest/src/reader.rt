@@ -12,7 +12,7 @@ ghost use Rattle.cm_shards_manifest.specs.declared.header.TheConstants.{HEADER_L
 ghost use Rattle.cm_shards_manifest.specs.declared.limits.TheConstants.{MAX_NAME};
 
 use crate::fault::{ManifestFault, ManifestUnread, named};
-use crate::fields::{digest, long, number, short, text};
+use crate::fields::{digest, field, text};
 use crate::header::{HEADER_LEN, read_header};
 use crate::{MAX_NAME, Manifest, Shard};
 use cm_dump_items::{LoadFault, lent_end};
@@ -33,10 +33,10 @@ fn read_rest(file: &[u8], at: u64, before: u64, name: Text) -> Result<Shard, Loa
     ensures valid { IfOk result IsShard }
     ensures exact { Answers (λ s. s) result (rest_at file.now at before name) }
 {
-    let keys = number(file, at, 1, MAX_KEYS)?;
-    let span = number(file, at + 4, 1, MAX_VERTICES)?;
-    let offset = long(file, at + 8, before, before)?;
-    let len = long(file, at + 16, 0, u64::MAX)?;
+    let keys = field(file, at, 4, 1, MAX_KEYS as u64)? as u32;
+    let span = field(file, at + 4, 4, 1, MAX_VERTICES as u64)? as u32;
+    let offset = field(file, at + 8, 8, before, before)?;
+    let len = field(file, at + 16, 8, 0, u64::MAX)?;
     let digest = digest(file, at + 24)?;
     Ok(Shard {
         name,
@@ -57,7 +57,7 @@ fn read_shard(alloc: Global, file: &[u8], at: u64, before: u64) -> Result<Shard,
     ensures valid { IfOk result IsShard }
     ensures exact { Answers (λ s. s) result (shard_at file.now at before) }
 {
-    let n = short(file, at, 1, MAX_NAME)? as u64;
+    let n = field(file, at, 2, 1, MAX_NAME as u64)?;
     let name = match copy(alloc, text(file, at + 2, n)?) {
         Ok(name) => name,
         Err(_) => return Err(LoadFault::Memory),

@@ -1,11 +1,13 @@
 -- From the steps of a job to how it ends.
 use Rattle.std.proofs.Common.{◌≡◌, List, [], ℕ, Option, Some, Result, Ok, Err, Bool, true, false, refl, sym, subst}
 use Rattle.cm_io.specs.Files.{Files, file_at}
+use Rattle.cm_io.specs.NotingLaws.{noted_nothing}
 use Rattle.cm_io.specs.Passes.{Told}
+use Rattle.cm_io.specs.States.{SinkState}
 use Rattle.cm_io.specs.WritingLaws.{then_nothing}
 use Rattle.cm_shards_files.specs.Loading.{shards_of}
 use Rattle.cm_shards_files.specs.Shards.{Sharded}
-use Rattle.cm_shards_query.specs.Leaves.{EndsJob, EndsKeys, EndsLines, IsPartBefore, lines_there}
+use Rattle.cm_shards_query.specs.Leaves.{EndsJob, EndsKeys, EndsLines, IsPartBefore, LeavesErr, lines_there}
 use Rattle.cm_shards_query.specs.Outcomes.{lines_of}
 use Rattle.cm_shards_query.specs.Written.{Numbers, numbers_of}
 use Rattle.cm_shards_query.specs.declared.stop.AskStop.{AskStop}
@@ -27,6 +29,10 @@ ends_keys job s files bytes w (Err TooMany) there ends = (bytes, there, ends)
 pub part_none : (test : Bool) (end : ℕ) (n : Numbers) (told : Told) (old : Option (List ℕ)) → IsPartBefore test end n told (wrote old old [])
 part_none true end n told old = (refl, refl)
 part_none false end n told old = (0, record { out = then_nothing old; notes_are = refl })
+
+-- nothing is noted
+pub err_none : (failed : Bool) (err : SinkState) → LeavesErr failed failed err err
+err_none failed err = record { sent = λ before fine. before fine; says = ([], noted_nothing failed err) }
 
 -- a job whose functions were loaded
 pub with_loaded : (job : AskJob) (s : Sharded) (files : Files) (w : Wrote) (result : Result Bool AskStop) → shards_of files job.manifest ≡ Some (Ok s) → EndsKeys job s files w result → EndsJob job files w result

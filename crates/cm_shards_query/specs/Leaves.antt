@@ -1,8 +1,10 @@
 -- What each end of a query or a test leaves.
-use Rattle.std.specs.Prelude.{◌≡◌, ◌≤◌, ◌+◌, ℕ, List, [], take, Option, None, Some, Bool, true, false, Result, Ok, Err}
+use Rattle.std.specs.Prelude.{◌≡◌, ◌≤◌, ◌+◌, ℕ, List, [], take, Option, None, Some, Bool, true, false, Result, Ok, Err, IfErr}
 use Rattle.cm_io.specs.Causes.{Rose}
 use Rattle.cm_io.specs.Files.{Files, file_at}
+use Rattle.cm_io.specs.Noting.{Noted}
 use Rattle.cm_io.specs.Passes.{Told}
+use Rattle.cm_io.specs.States.{IsSent, SinkState}
 use Rattle.cm_io.specs.Writing.{then_bytes}
 use Rattle.cm_io.specs.declared.key_pass.KeyFault.{KeyFault}
 use Rattle.cm_io.specs.declared.key_pass.KeyFault.TheVariants as key_fault
@@ -11,13 +13,14 @@ use Rattle.cm_keys.specs.declared.lines.LineFault.TheVariants as line_fault
 use Rattle.cm_shards_files.specs.Loading.{IsShardsCause, LoadsShards, shards_of}
 use Rattle.cm_shards_files.specs.Shards.{Sharded}
 use Rattle.cm_shards_query.specs.Outcomes.{lines_of}
-use Rattle.cm_shards_query.specs.Texts.{line_fault_message, load_message, load_status}
+use Rattle.cm_shards_query.specs.Texts.{load_message, load_status}
 use Rattle.cm_shards_query.specs.Written.{Numbers, Reply, number_replies, numbers_of, reply_by, test_end, test_reply}
 use Rattle.cm_shards_query.specs.declared.stop.AskStop.{AskStop}
 use Rattle.cm_shards_query.specs.declared.stop.AskStop.TheVariants.{Load, Memory, Read, TooLong, TooMany, Write}
 use Rattle.cm_shards_query.specs.declared.stop.LinesStop.{LinesStop}
 use Rattle.cm_shards_query.specs.declared.stop.LinesStop.TheVariants as lines_stop
 use Rattle.cm_shards_query.specs.declared.verdict.Verdict.{Verdict}
+use Rattle.cm_shards_words.specs.Messages.{line_fault_message}
 use Rattle.cm_shards_words.specs.Program.{program}
 use Rattle.cm_shards_words.specs.declared.jobs.AskJob.{AskJob}
 use Rattle.cm_tool_asking.specs.Asking.{status_by}
@@ -78,6 +81,16 @@ IsStopCause r r' o o' TooMany = (r' ≡ r) × (o' ≡ o)
 abbrev pub HasStopCause : {T : Type 0} → ℕ → ℕ → ℕ → ℕ → Result T AskStop → Type 0
 HasStopCause r r' o o' (Ok x) = (r' ≡ r) × (o' ≡ o)
 HasStopCause r r' o o' (Err stop) = IsStopCause r r' o o' stop
+
+-- What a step leaves on out: nothing if memory runs out. If the buffer of out was empty before, it is empty after it, or out failed.
+pub record LeavesOut (old new : SinkState) (result : Result Bool AskStop) : Type 0 where
+  pub memory : IfErr result (λ stop. stop_status stop ≡ 6 → new.written ≡ old.written)
+  pub sent : old.waits ≡ 0 → IsSent old new
+
+-- What a step leaves on err: notes. If the buffer of err was empty before, it is empty after it, unless a note has failed.
+pub record LeavesErr (had_failed failed : Bool) (old new : SinkState) : Type 0 where
+  pub sent : (had_failed ≡ false → old.waits ≡ 0) → failed ≡ false → new.waits ≡ 0
+  pub says : (text : List ℕ) × Noted had_failed failed old new text
 
 -- how the known lines of a query ended
 abbrev pub EndsQuery : Replies → Told → Wrote → Result Bool LinesStop → Type 0

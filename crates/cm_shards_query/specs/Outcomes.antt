@@ -8,8 +8,9 @@ use Rattle.cm_keys.specs.Streams.{stream_in}
 use Rattle.cm_shards_files.specs.Loading.{shards_of}
 use Rattle.cm_shards_files.specs.Shards.{Sharded}
 use Rattle.cm_shards_files.specs.declared.fault.ShardsFault.{ShardsFault}
-use Rattle.cm_shards_query.specs.Texts.{line_fault_message, load_message}
+use Rattle.cm_shards_query.specs.Texts.{load_message}
 use Rattle.cm_shards_query.specs.Written.{Reply, numbers_of, reply_by}
+use Rattle.cm_shards_words.specs.Messages.{line_fault_message}
 use Rattle.cm_shards_words.specs.declared.jobs.AskJob.{AskJob}
 use Rattle.cm_tool_stops.specs.Ending.{Outcome, refusal}
 

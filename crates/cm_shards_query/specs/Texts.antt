@@ -1,16 +1,15 @@
 -- What is written on out and said on err.
 use Rattle.std.specs.Prelude.{ℕ, List, [], ◌∷◌, Option, None, Some, codes, decimal}
 use Rattle.cm_io.specs.Writing.{joined}
-use Rattle.cm_io.specs.declared.key_pass.KeyFault.{KeyFault}
-use Rattle.cm_io.specs.declared.key_pass.KeyFault.TheVariants.{Read, TooLong, TooMany}
 use Rattle.cm_shards_files.specs.declared.fault.ShardsFault.{ShardsFault}
 use Rattle.cm_shards_files.specs.declared.fault.ShardsFault.TheVariants as shards_fault
 use Rattle.cm_shards_manifest.specs.declared.fault.ManifestFault.{ManifestFault}
 use Rattle.cm_shards_manifest.specs.declared.fault.ManifestFault.TheVariants as manifest_fault
 use Rattle.cm_shards_query.specs.declared.verdict.Verdict.{Verdict}
 use Rattle.cm_shards_query.specs.declared.verdict.Verdict.TheVariants.{Count, Holds, Repeated, Unknown}
+use Rattle.cm_shards_words.specs.Messages.{file_message}
 use Rattle.cm_shards_words.specs.Program.{program}
-use Rattle.cm_tool_stops.specs.Messages.{bad_dump, cannot_read, line_too_long, out_of_memory, place_text}
+use Rattle.cm_tool_stops.specs.Messages.{bad_dump, cannot_read, out_of_memory, place_text}
 
 -- the note of a line without a number
 abbrev pub unknown_note : ℕ → List ℕ
@@ -27,16 +26,6 @@ verdict_text Holds = codes "true\n"
 verdict_text (Unknown line) = joined (codes "false: line " ∷ decimal line ∷ codes ": key is unknown\n" ∷ [])
 verdict_text (Repeated line value) = joined (codes "false: line " ∷ decimal line ∷ codes ": value " ∷ decimal value ∷ codes " is repeated\n" ∷ [])
 verdict_text (Count lines keys) = joined (codes "false: " ∷ decimal lines ∷ codes " keys, not " ∷ decimal keys ∷ codes "\n" ∷ [])
-
--- what is said of more lines than are read
-abbrev pub too_many_lines : List ℕ → List ℕ → List ℕ
-too_many_lines program file = joined (program ∷ codes ": " ∷ file ∷ codes ": too many lines\n" ∷ [])
-
--- what is said of the fault at the end of the lines of a file
-abbrev pub line_fault_message : List ℕ → KeyFault → List ℕ
-line_fault_message file Read = cannot_read program file
-line_fault_message file (TooLong line) = line_too_long program file line
-line_fault_message file TooMany = too_many_lines program file
 
 -- what is wrong with bytes that are no manifest
 abbrev pub manifest_words : ManifestFault → List ℕ
@@ -57,10 +46,6 @@ manifest_place manifest_fault.Trailing = None
 abbrev pub bad_manifest : List ℕ → ManifestFault → List ℕ
 bad_manifest file fault = joined (program ∷ codes ": " ∷ file ∷ codes ": bad manifest: " ∷ manifest_words fault ∷ place_text (manifest_place fault) ∷ codes "\n" ∷ [])
 
--- what is said of a function file that is not the one that the manifest speaks of
-abbrev pub another_function : List ℕ → List ℕ
-another_function file = joined (program ∷ codes ": " ∷ file ∷ codes ": not the function of the manifest\n" ∷ [])
-
 -- why the functions of the manifest of a path were not loaded
 abbrev pub load_message : List ℕ → ShardsFault → List ℕ
 load_message manifest shards_fault.Memory = out_of_memory program
@@ -68,7 +53,7 @@ load_message manifest shards_fault.NoManifest = cannot_read program manifest
 load_message manifest (shards_fault.BadManifest fault) = bad_manifest manifest fault
 load_message manifest (shards_fault.NoFunction path) = cannot_read program path
 load_message manifest (shards_fault.BadFunction path fault) = bad_dump program path fault
-load_message manifest (shards_fault.Another path) = another_function path
+load_message manifest (shards_fault.Another path) = file_message path (codes ": not the function of the manifest\n")
 
 -- the status of that
 abbrev pub load_status : ShardsFault → ℕ

@@ -1,10 +1,10 @@
 //! The files of a query or a test, and its steps.
-ghost use Rattle.std.specs.Prelude.{◌≡◌, ℕ, List, [], IfErr, IsTrue, true, false};
+ghost use Rattle.std.specs.Prelude.{◌≡◌, ℕ, List, [], IsTrue, true};
 ghost use Rattle.std.specs.Option.{ForSome};
 ghost use Rattle.cm_io.specs.Noting.{Noted};
-ghost use Rattle.cm_io.specs.States.{IsSent};
 ghost use Rattle.cm_keys.specs.Streams.{told_by};
-ghost use Rattle.cm_shards_query.specs.Leaves.{EndsJob, EndsKeys, EndsLines, HasStopCause, stop_from_lines, stop_status};
+ghost use Rattle.cm_shards_files.specs.Loading.{ChangesNoFile};
+ghost use Rattle.cm_shards_query.specs.Leaves.{EndsJob, EndsKeys, EndsLines, HasStopCause, LeavesErr, LeavesOut, stop_from_lines};
 ghost use Rattle.cm_shards_query.specs.Verdicts.{verdict_status};
 ghost use Rattle.cm_shards_query.specs.Written.{numbers_of};
 ghost use Rattle.cm_shards_words.specs.Limits.{IsAskJob};
@@ -22,6 +22,13 @@ use cm_keys::Lines;
 use cm_shards_files::{Shards, load_shards};
 use cm_shards_words::AskJob;
 use std::alloc::Global;
+
+/// What is asked: the functions of a manifest, for the lines of a job.
+#[derive(Clone, Copy)]
+struct Question<'a> {
+    shards: &'a Shards,
+    job: &'a AskJob,
+}
 
 /// Why lines that were not all answered stop a job.
 fn stop_of_lines(stop: LinesStop) -> AskStop
@@ -57,8 +64,7 @@ fn test_lines<S: Source, O: Sink>(
     requires usable { IsTrue lines.old.usable }
     requires start { lines.old.count ≡ 0 }
     ensures cause { HasStopCause lines.old.faults lines.new.faults (O.state out.old).faults (O.state out.new).faults result }
-    ensures memory { IfErr result (λ stop. stop_status stop ≡ 6 → (O.state out.new).written ≡ (O.state out.old).written) }
-    ensures sent { (O.state out.old).waits ≡ 0 → IsSent (O.state out.old) (O.state out.new) }
+    ensures out { LeavesOut (O.state out.old) (O.state out.new) result }
     ensures ends { ForSome (told_by lines.old) (λ told. (end : ℕ) → EndsLines true end (numbers_of shards.now) told (wrote (O.state out.old).written (O.state out.new).written []) result) }
 {
     let mut marks = match Marks::new(alloc, shards.total()) {
@@ -74,11 +80,11 @@ fn test_lines<S: Source, O: Sink>(
     }
 }
 
-/// Writes the numbers of lines.
-fn query_lines<S: Source, O: Sink, E: Sink>(
-    shards: &Shards,
+/// Tests lines, or writes their numbers.
+fn answer_lines<S: Source, O: Sink, E: Sink>(
+    alloc: Global,
+    question: &Question<'_>,
     lines: &mut Lines<S>,
-    end: u8,
     out: &mut O,
     err: &mut E,
     notes: &mut Notes,
@@ -86,74 +92,45 @@ fn query_lines<S: Source, O: Sink, E: Sink>(
     requires usable { IsTrue lines.old.usable }
     requires start { lines.old.count ≡ 0 }
     ensures cause { HasStopCause lines.old.faults lines.new.faults (O.state out.old).faults (O.state out.new).faults result }
-    ensures memory { IfErr result (λ stop. stop_status stop ≡ 6 → (O.state out.new).written ≡ (O.state out.old).written) }
-    ensures sent { (O.state out.old).waits ≡ 0 → IsSent (O.state out.old) (O.state out.new) }
-    ensures notes_sent { (notes.old ≡ false → (E.state err.old).waits ≡ 0) → notes.new ≡ false → (E.state err.new).waits ≡ 0 }
-    ensures says { (text : List ℕ) × Noted notes.old notes.new (E.state err.old) (E.state err.new) text }
+    ensures out { LeavesOut (O.state out.old) (O.state out.new) result }
+    ensures err { LeavesErr notes.old notes.new (E.state err.old) (E.state err.new) }
     ensures ends { ForSome (told_by lines.old) (λ told. (text : List ℕ) × Noted notes.old notes.new (E.state err.old) (E.state err.new) text
-        × EndsLines false end (numbers_of shards.now) told (wrote (O.state out.old).written (O.state out.new).written text) result) }
+        × EndsLines question.now.job.now.test question.now.job.now.end (numbers_of question.now.shards.now) told (wrote (O.state out.old).written (O.state out.new).written text) result) }
 {
-    match write_numbers(shards, lines, end, out, err, notes) {
+    if question.job.test {
+        return test_lines(alloc, question.shards, lines, out);
+    }
+    match write_numbers(question.shards, lines, question.job.end, out, err, notes) {
         Ok(complete) => Ok(complete),
         Err(stop) => Err(stop_of_lines(stop)),
     }
 }
 
-/// Tests lines, or writes their numbers.
-fn answer_lines<S: Source, O: Sink, E: Sink>(
-    alloc: Global,
-    shards: &Shards,
-    job: &AskJob,
-    lines: &mut Lines<S>,
-    out: &mut O,
-    err: &mut E,
-    notes: &mut Notes,
-) -> Result<bool, AskStop>
-    requires usable { IsTrue lines.old.usable }
-    requires start { lines.old.count ≡ 0 }
-    ensures cause { HasStopCause lines.old.faults lines.new.faults (O.state out.old).faults (O.state out.new).faults result }
-    ensures memory { IfErr result (λ stop. stop_status stop ≡ 6 → (O.state out.new).written ≡ (O.state out.old).written) }
-    ensures sent { (O.state out.old).waits ≡ 0 → IsSent (O.state out.old) (O.state out.new) }
-    ensures notes_sent { (notes.old ≡ false → (E.state err.old).waits ≡ 0) → notes.new ≡ false → (E.state err.new).waits ≡ 0 }
-    ensures says { (text : List ℕ) × Noted notes.old notes.new (E.state err.old) (E.state err.new) text }
-    ensures ends { ForSome (told_by lines.old) (λ told. (text : List ℕ) × Noted notes.old notes.new (E.state err.old) (E.state err.new) text
-        × EndsLines job.now.test job.now.end (numbers_of shards.now) told (wrote (O.state out.old).written (O.state out.new).written text) result) }
-{
-    if job.test {
-        return test_lines(alloc, shards, lines, out);
-    }
-    query_lines(shards, lines, job.end, out, err, notes)
-}
-
 /// Asks the functions of shards for the lines of the keys file.
 fn ask_keys<D: Disk, O: Sink, E: Sink>(
     alloc: Global,
-    shards: &Shards,
-    job: &AskJob,
+    question: &Question<'_>,
     disk: &mut D,
     out: &mut O,
     err: &mut E,
     notes: &mut Notes,
 ) -> Result<bool, AskStop>
-    requires job { IsAskJob job.now }
-    ensures files { (D.state disk.new).files ≡ (D.state disk.old).files }
-    ensures spilled { (D.state disk.new).spilled ≡ (D.state disk.old).spilled }
-    ensures write_faults { (D.state disk.new).write_faults ≡ (D.state disk.old).write_faults }
+    requires job { IsAskJob question.now.job.now }
+    ensures disk { ChangesNoFile (D.state disk.old) (D.state disk.new) }
     ensures cause { HasStopCause (D.state disk.old).read_faults (D.state disk.new).read_faults (O.state out.old).faults (O.state out.new).faults result }
-    ensures memory { IfErr result (λ stop. stop_status stop ≡ 6 → (O.state out.new).written ≡ (O.state out.old).written) }
-    ensures sent { (O.state out.old).waits ≡ 0 → IsSent (O.state out.old) (O.state out.new) }
-    ensures notes_sent { (notes.old ≡ false → (E.state err.old).waits ≡ 0) → notes.new ≡ false → (E.state err.new).waits ≡ 0 }
-    ensures says { (text : List ℕ) × Noted notes.old notes.new (E.state err.old) (E.state err.new) text }
+    ensures out { LeavesOut (O.state out.old) (O.state out.new) result }
+    ensures err { LeavesErr notes.old notes.new (E.state err.old) (E.state err.new) }
     ensures told { ForSome (D.state disk.old).files (λ files. (text : List ℕ) × Noted notes.old notes.new (E.state err.old) (E.state err.new) text
-        × EndsKeys job.now shards.now files (wrote (O.state out.old).written (O.state out.new).written text) result) }
+        × EndsKeys question.now.job.now question.now.shards.now files (wrote (O.state out.old).written (O.state out.new).written text) result) }
 {
+    let job = question.job;
     let reader = match disk.open(job.keys.as_str()) {
         Ok(reader) => reader,
         Err(DiskFault::Memory) => return Err(AskStop::Memory),
         Err(DiskFault::Failed) => return Err(AskStop::Read),
     };
     let mut lines = Lines::new(reader, job.first, job.end);
-    let asked = answer_lines(alloc, shards, job, &mut lines, out, err, notes);
+    let asked = answer_lines(alloc, question, &mut lines, out, err, notes);
     disk.shut(lines.into_source());
     asked
 }
@@ -168,19 +145,21 @@ pub(crate) fn ask_files<D: Disk, O: Sink, E: Sink>(
     notes: &mut Notes,
 ) -> Result<bool, AskStop>
     requires job { IsAskJob job.now }
-    ensures files { (D.state disk.new).files ≡ (D.state disk.old).files }
-    ensures spilled { (D.state disk.new).spilled ≡ (D.state disk.old).spilled }
-    ensures write_faults { (D.state disk.new).write_faults ≡ (D.state disk.old).write_faults }
+    ensures disk { ChangesNoFile (D.state disk.old) (D.state disk.new) }
     ensures cause { HasStopCause (D.state disk.old).read_faults (D.state disk.new).read_faults (O.state out.old).faults (O.state out.new).faults result }
-    ensures memory { IfErr result (λ stop. stop_status stop ≡ 6 → (O.state out.new).written ≡ (O.state out.old).written) }
-    ensures sent { (O.state out.old).waits ≡ 0 → IsSent (O.state out.old) (O.state out.new) }
-    ensures notes_sent { (notes.old ≡ false → (E.state err.old).waits ≡ 0) → notes.new ≡ false → (E.state err.new).waits ≡ 0 }
-    ensures says { (text : List ℕ) × Noted notes.old notes.new (E.state err.old) (E.state err.new) text }
+    ensures out { LeavesOut (O.state out.old) (O.state out.new) result }
+    ensures err { LeavesErr notes.old notes.new (E.state err.old) (E.state err.new) }
     ensures told { ForSome (D.state disk.old).files (λ files. (text : List ℕ) × Noted notes.old notes.new (E.state err.old) (E.state err.new) text
         × EndsJob job.now files (wrote (O.state out.old).written (O.state out.new).written text) result) }
 {
     match load_shards(alloc, job.manifest.as_str(), disk) {
-        Ok(shards) => ask_keys(alloc, &shards, job, disk, out, err, notes),
+        Ok(shards) => {
+            let question = Question {
+                shards: &shards,
+                job,
+            };
+            ask_keys(alloc, &question, disk, out, err, notes)
+        }
         Err(fault) => Err(AskStop::Load(fault)),
     }
 }

@@ -4,10 +4,11 @@ ghost use Rattle.cm_io.specs.declared.key_pass.KeyFault.TheVariants.{TooLong};
 ghost use Rattle.cm_shards_files.specs.declared.fault.ShardsFault.TheVariants.{Another, BadManifest};
 ghost use Rattle.cm_shards_manifest.specs.declared.fault.ManifestFault.TheVariants.{BadMagic, Truncated};
 ghost use Rattle.cm_shards_query.specs.Examples.{a_twice, by_length, told_of, two_keys, with_abc};
-ghost use Rattle.cm_shards_query.specs.Texts.{line_fault_message, load_message, unknown_note, verdict_text};
+ghost use Rattle.cm_shards_query.specs.Texts.{load_message, unknown_note, verdict_text};
 ghost use Rattle.cm_shards_query.specs.Verdicts.{verdict_of};
 ghost use Rattle.cm_shards_query.specs.Written.{reply_by, test_end};
 ghost use Rattle.cm_shards_query.specs.declared.verdict.Verdict.TheVariants.{Count, Holds, Repeated, Unknown};
+ghost use Rattle.cm_shards_words.specs.Messages.{line_fault_message};
 
 /// The texts of verdicts, and what is said on err.
 pub fn worked_texts()

@@ -3,17 +3,18 @@ ghost use Rattle.std.specs.Prelude.{◌≡◌, [], ◌∷◌, codes, false};
 ghost use Rattle.cm_io.specs.Noting.{Noted};
 ghost use Rattle.cm_io.specs.Writing.{joined};
 ghost use Rattle.cm_shards_query.specs.Leaves.{stop_message, stop_status};
-ghost use Rattle.cm_shards_query.specs.Texts.{another_function, bad_manifest, load_message, load_status, manifest_place, manifest_words, too_many_lines};
+ghost use Rattle.cm_shards_query.specs.Texts.{bad_manifest, load_message, load_status, manifest_place, manifest_words};
 ghost use Rattle.cm_shards_words.specs.Program.{program};
-ghost use Rattle.cm_tool_stops.specs.Messages.{bad_dump, cannot_read, cannot_write_out, line_too_long, out_of_memory};
+ghost use Rattle.cm_tool_stops.specs.Messages.{cannot_write_out};
 
 use crate::stop::AskStop;
-use cm_dump_items::LoadFault;
 use cm_io::{Notes, Sink};
 use cm_shards_files::ShardsFault;
 use cm_shards_manifest::ManifestFault;
-use cm_shards_words::{AskJob, PROGRAM};
-use cm_tool_stops::{Explained, Names};
+use cm_shards_words::{
+    AskJob, PROGRAM, note_bad_dump, note_file, note_long_line, note_many_lines, note_no_memory,
+    note_unread,
+};
 use itoa::Buffer;
 
 /// Notes why a query or a test stopped, and returns its status.
@@ -79,16 +80,11 @@ fn explain_load<E: Sink>(fault: &ShardsFault, manifest: &str, err: &mut E, notes
         ShardsFault::BadFunction { path, fault } => {
             note_bad_dump(path.as_str(), *fault, err, notes);
         }
-        ShardsFault::Another { path } => note_another(path.as_str(), err, notes),
+        ShardsFault::Another { path } => {
+            let what = b": not the function of the manifest\n";
+            note_file(path.as_str(), what, err, notes);
+        }
     }
-}
-
-/// Notes that memory ran out.
-fn note_no_memory<E: Sink>(err: &mut E, notes: &mut Notes)
-    ensures noted { Noted notes.old notes.new (E.state err.old) (E.state err.new) (out_of_memory program) }
-    ensures sent { notes.new ≡ false → (E.state err.new).waits ≡ 0 }
-{
-    notes.note_pieces(err, &[PROGRAM.as_bytes(), b": out of memory\n"]);
 }
 
 /// Notes that out can't be written.
@@ -100,87 +96,6 @@ fn note_out_fault<E: Sink>(err: &mut E, notes: &mut Notes)
         err,
         &[PROGRAM.as_bytes(), b": cannot write standard output\n"],
     );
-}
-
-/// Notes that there are more lines than are read.
-fn note_many_lines<E: Sink>(file: &str, err: &mut E, notes: &mut Notes)
-    ensures noted { Noted notes.old notes.new (E.state err.old) (E.state err.new) (too_many_lines program file.now) }
-    ensures sent { notes.new ≡ false → (E.state err.new).waits ≡ 0 }
-{
-    notes.note_pieces(
-        err,
-        &[
-            PROGRAM.as_bytes(),
-            b": ",
-            file.as_bytes(),
-            b": too many lines\n",
-        ],
-    );
-}
-
-/// Notes that a function file is not the one that the manifest speaks of.
-fn note_another<E: Sink>(file: &str, err: &mut E, notes: &mut Notes)
-    ensures noted { Noted notes.old notes.new (E.state err.old) (E.state err.new) (another_function file.now) }
-    ensures sent { notes.new ≡ false → (E.state err.new).waits ≡ 0 }
-{
-    notes.note_pieces(
-        err,
-        &[
-            PROGRAM.as_bytes(),
-            b": ",
-            file.as_bytes(),
-            b": not the function of the manifest\n",
-        ],
-    );
-}
-
-/// Notes that a file can't be opened or read.
-fn note_unread<E: Sink>(file: &str, err: &mut E, notes: &mut Notes)
-    ensures noted { Noted notes.old notes.new (E.state err.old) (E.state err.new) (cannot_read program file.now) }
-    ensures sent { notes.new ≡ false → (E.state err.new).waits ≡ 0 }
-{
-    notes.note_pieces(
-        err,
-        &[
-            PROGRAM.as_bytes(),
-            b": ",
-            file.as_bytes(),
-            b": cannot read\n",
-        ],
-    );
-}
-
-/// Notes that a line is too long.
-fn note_long_line<E: Sink>(file: &str, line: u64, err: &mut E, notes: &mut Notes)
-    ensures noted { Noted notes.old notes.new (E.state err.old) (E.state err.new) (line_too_long program file.now line) }
-    ensures sent { notes.new ≡ false → (E.state err.new).waits ≡ 0 }
-{
-    let mut buffer = Buffer::new();
-    let digits = buffer.format(line).as_bytes();
-    notes.note_pieces(
-        err,
-        &[
-            PROGRAM.as_bytes(),
-            b": ",
-            file.as_bytes(),
-            b": line ",
-            digits,
-            b" is too long\n",
-        ],
-    );
-}
-
-/// Notes what is wrong with the bytes of a function file.
-fn note_bad_dump<E: Sink>(path: &str, fault: LoadFault, err: &mut E, notes: &mut Notes)
-    ensures noted { Noted notes.old notes.new (E.state err.old) (E.state err.new) (bad_dump program path.now fault) }
-    ensures sent { notes.new ≡ false → (E.state err.new).waits ≡ 0 }
-{
-    let names = Names {
-        program: PROGRAM,
-        keys: "",
-        function: path,
-    };
-    fault.explain(&names, err, notes);
 }
 
 /// Notes what is wrong with the bytes of a manifest.

@@ -1,8 +1,8 @@
 -- The statuses and messages of splits.
 use Rattle.std.specs.Prelude.{ℕ, List, [], ◌∷◌, Result, Ok, Err}
-use Rattle.cm_shards_split.specs.Outcomes.{too_many_lines}
 use Rattle.cm_shards_split.specs.declared.stop.SplitStop.{SplitStop}
 use Rattle.cm_shards_split.specs.declared.stop.SplitStop.TheVariants.{Memory, Read, TooLong, TooMany, Write}
+use Rattle.cm_shards_words.specs.Messages.{too_many_lines}
 use Rattle.cm_shards_words.specs.Program.{program}
 use Rattle.cm_shards_words.specs.declared.jobs.SplitJob.{SplitJob}
 use Rattle.cm_tool_stops.specs.Messages.{cannot_read, cannot_write, line_too_long, out_of_memory}
@@ -25,7 +25,7 @@ stop_message job Memory = out_of_memory program
 stop_message job Read = cannot_read program job.keys
 stop_message job Write = cannot_write program job.dir
 stop_message job (TooLong line) = line_too_long program job.keys line
-stop_message job TooMany = too_many_lines program job.keys
+stop_message job TooMany = too_many_lines job.keys
 
 -- the status of an end, and what is said of it
 abbrev pub end_status : Result (Unit {0}) SplitStop → ℕ

@@ -5,3 +5,4 @@ pub mod Limits
 pub mod Meaning
 pub mod Examples
 pub mod Program
+pub mod Messages

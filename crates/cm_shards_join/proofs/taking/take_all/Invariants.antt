@@ -1,5 +1,6 @@
 use Rattle.std.proofs.Common.{◌≡◌, List, ℕ, length, take, Some, Ok}
 use Rattle.std.specs.Option.{ForSome}
+use Rattle.cm_shards_files.specs.Loading.{ChangesNoFile}
 use Rattle.cm_shards_join.specs.Taking.{nothing, take_all}
 use Rattle.cm_shards_join.specs.Takings.{IsTaking, taken_by}
 use Rattle.cm_shards_join.proofs.taking.take_all.Given as goal
@@ -7,9 +8,7 @@ use Rattle.cm_shards_join.proofs.taking.take_all.Given as goal
 -- the functions of the first arguments are taken, and no file is changed
 abbrev pub invariant-loop-function : goal.invariant-loop-function
 invariant-loop-function g l = record {
-  files : (g.D.Disk.state l.disk).files ≡ (g.D.Disk.state l.fn.disk).files;
-  spilled : (g.D.Disk.state l.disk).spilled ≡ (g.D.Disk.state l.fn.disk).spilled;
-  write_faults : (g.D.Disk.state l.disk).write_faults ≡ (g.D.Disk.state l.fn.disk).write_faults;
+  disk : ChangesNoFile (g.D.Disk.state l.fn.disk) (g.D.Disk.state l.disk);
   read_faults : (g.D.Disk.state l.disk).read_faults ≡ (g.D.Disk.state l.fn.disk).read_faults;
   taking : IsTaking l.taking;
   count : length l.taking.shards.items ≡ l.function-index;

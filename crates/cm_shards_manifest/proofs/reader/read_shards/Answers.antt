@@ -1,7 +1,7 @@
-use Rattle.std.proofs.Common.{◌≡◌, ◌∙◌, ℕ, ◌+◌, ◌-◌, ◌<◌, ◌≤◌, ◌*◌, List, [], ◌∷◌, ◌++◌, length, length-append, ap, sym, subst, arith, suc}
+use Rattle.std.proofs.Common.{◌≡◌, ◌∙◌, ℕ, ◌+◌, ◌-◌, List, [], ◌∷◌, ◌++◌, length, length-append, ap, sym, subst, arith, suc}
 use Rattle.cm_dump_items.specs.Reading.{Fails}
 use Rattle.cm_shards_manifest.specs.ManifestBytes.{shard_len, shards_len}
-use Rattle.cm_shards_manifest.specs.ManifestItems.{shard_at, shards_at}
+use Rattle.cm_shards_manifest.specs.ManifestItems.{shards_at}
 use Rattle.cm_shards_manifest.specs.ManifestLaws.{len_push, shards_push, spans_push}
 use Rattle.cm_shards_manifest.specs.Manifests.{AreShards, IsShard, spans}
 use Rattle.cm_shards_manifest.specs.declared.shard.Shard.{Shard}

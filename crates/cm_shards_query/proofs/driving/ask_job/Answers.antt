@@ -18,21 +18,21 @@ returns-in-Ok g c =
     record {
       asks = record {
         status = rw status (done_status complete);
-        files = c.ask_files.ensures.files;
-        spilled = c.ask_files.ensures.spilled;
-        write_faults = c.ask_files.ensures.write_faults;
+        files = c.ask_files.ensures.disk.files;
+        spilled = c.ask_files.ensures.disk.spilled;
+        write_faults = c.ask_files.ensures.disk.write_faults;
         read = λ _. (λ four. absurd (omega (arith, status, low, four)), λ rose. absurd (omega (arith, left.cause.0, rose)));
         write = λ _. (λ five. absurd (omega (arith, status, low, five)), λ rose. absurd (omega (arith, left.cause.1, rose)));
         outcome = λ _ _ _ files is.
             let told = left.told files is in
-            rw status (done job files old new told.0 complete told.2 (says_more (noted_first fresh told.1)) (c.ask_files.ensures.files ∙ is));
+            rw status (done job files old new told.0 complete told.2 (says_more (noted_first fresh told.1)) (c.ask_files.ensures.disk.files ∙ is));
         truth = λ test _ files is. let told = left.told files is in rw status (tested job files _ complete test told.2);
         missing = λ files is none. absurd (none_done job files _ complete (left.told files is).2 none);
         cut = λ either. absurd (omega (arith, status, low, either));
         memory = λ six. absurd (omega (arith, status, low, six));
-        sent = c.ask_files.ensures.sent;
-        err_sent = λ empty. noted_sent (noted_first fresh left.says.1) (c.ask_files.ensures.notes_sent (λ _. empty));
-        err = (Ok complete, record { notes = left.says.0; status_is = status; says = says_more (noted_first fresh left.says.1) });
+        sent = c.ask_files.ensures.out.sent;
+        err_sent = λ empty. noted_sent (noted_first fresh c.ask_files.ensures.err.says.1) (c.ask_files.ensures.err.sent (λ _. empty));
+        err = (Ok complete, record { notes = c.ask_files.ensures.err.says.0; status_is = status; says = says_more (noted_first fresh c.ask_files.ensures.err.says.1) });
       };
     }
 
@@ -50,24 +50,24 @@ returns-in-Err g c =
     record {
       asks = record {
         status = rw status (stop_listed stop);
-        files = c.ask_files.ensures.files;
-        spilled = c.ask_files.ensures.spilled;
-        write_faults = c.ask_files.ensures.write_faults;
+        files = c.ask_files.ensures.disk.files;
+        spilled = c.ask_files.ensures.disk.spilled;
+        write_faults = c.ask_files.ensures.disk.write_faults;
         read = λ low. rw status (stop_read stop _ _ _ _ left.cause low);
         write = λ low. rw status (stop_write stop _ _ _ _ left.cause low);
         outcome = λ four five six files is.
             let told = left.told files is in
-            rw status (stopped job files old new told.0 stop told.2 (says_all (noted_next (noted_first fresh told.1) noted)) (rw status at four) (rw status at five) (rw status at six) (c.ask_files.ensures.files ∙ is));
+            rw status (stopped job files old new told.0 stop told.2 (says_all (noted_next (noted_first fresh told.1) noted)) (rw status at four) (rw status at five) (rw status at six) (c.ask_files.ensures.disk.files ∙ is));
         truth = λ test either. absurd (omega (arith, status, high, either));
         missing = λ files is none.
             let told = left.told files is in
-            rw status (lacking job files old new told.0 stop told.2 c.ask_files.ensures.files none);
+            rw status (lacking job files old new told.0 stop told.2 c.ask_files.ensures.disk.files none);
         cut = λ either files is.
             let told = left.told files is in
             rw status (cut_short job files old new told.0 stop told.2 (says_all (noted_next (noted_first fresh told.1) noted)) (rw status at either));
-        memory = λ six. left.memory (sym status ∙ six);
-        sent = c.ask_files.ensures.sent;
-        err_sent = λ _. noted_sent (noted_next (noted_first fresh left.says.1) noted) c.report_stop.ensures.sent;
-        err = (Err stop, record { notes = left.says.0; status_is = status; says = says_all (noted_next (noted_first fresh left.says.1) noted) });
+        memory = λ six. left.out.memory (sym status ∙ six);
+        sent = c.ask_files.ensures.out.sent;
+        err_sent = λ _. noted_sent (noted_next (noted_first fresh c.ask_files.ensures.err.says.1) noted) c.report_stop.ensures.sent;
+        err = (Err stop, record { notes = c.ask_files.ensures.err.says.0; status_is = status; says = says_all (noted_next (noted_first fresh c.ask_files.ensures.err.says.1) noted) });
       };
     }

@@ -1,6 +1,6 @@
 use Rattle.std.proofs.Common.{rules, ◌≡◌}
 use Rattle.cm_shards_words.specs.Program.{program}
-use Rattle.cm_shards_query.proofs.reporting.note_many_lines.Goals as goal
+use Rattle.cm_shards_words.proofs.noting.note_file.Goals as goal
 
 pub returns-clause-noted : goal.returns-clause-noted
 returns-clause-noted g c =
