@@ -15,7 +15,7 @@ use Rattle.cm_shards_split.specs.Stops.{statuses, stop_message, stop_status}
 use Rattle.cm_shards_split.specs.Streaming.{HasSplitCause}
 use Rattle.cm_shards_split.specs.declared.stop.SplitStop.{SplitStop}
 use Rattle.cm_shards_split.specs.declared.stop.SplitStop.TheVariants.{Memory, Read, TooLong, TooMany, Write}
-use Rattle.cm_shards_words.specs.Program.{program}
+use Rattle.cm_shards_words.specs.Messages.{line_fault_message}
 use Rattle.cm_shards_words.specs.declared.jobs.SplitJob.{SplitJob}
 use Rattle.cm_spec.specs.Lists.{has}
 use Rattle.cm_tool_stops.specs.EndLaws.{says_all}
@@ -88,7 +88,7 @@ stop_write (TooLong line) r r' w w' cause low = (λ five. absurd (omega (arith, 
 stop_write TooMany r r' w w' cause low = (λ five. absurd (omega (arith, five)), λ rose. absurd (omega (arith, rose, cause.1)))
 
 -- a fault of the lines is the outcome
-stop_reaches : (job : SplitJob) (files : Files) (old new : Outside) (fault : KeyFault) → IsSplitInto job files new.disk.files (Some fault) (λ lines. []) → Says old.err new.err (outcomes.fault_message program job.keys fault) → new.out.written ≡ old.out.written → Reaches old new (outcome_of job files) 8
+stop_reaches : (job : SplitJob) (files : Files) (old new : Outside) (fault : KeyFault) → IsSplitInto job files new.disk.files (Some fault) (λ lines. []) → Says old.err new.err (line_fault_message job.keys fault) → new.out.written ≡ old.out.written → Reaches old new (outcome_of job files) 8
 stop_reaches job files old new fault split says out = record {
   outcome = splitting job files (lines_of (told_of job split.0)) (Some fault);
   is = outcome_is job files split.0 (Some fault) split.1 split.2;

@@ -1,20 +1,17 @@
 -- What a split comes to, by the files.
-use Rattle.std.specs.Prelude.{ℕ, List, [], ◌∷◌, map, Option, None, Some, codes}
+use Rattle.std.specs.Prelude.{ℕ, List, [], map, Option, None, Some}
 use Rattle.std.specs.Option.{option_map}
 use Rattle.cm_io.specs.Files.{Files, file_at}
 use Rattle.cm_io.specs.Passes.{Told}
-use Rattle.cm_io.specs.Writing.{joined}
 use Rattle.cm_io.specs.declared.key_pass.KeyFault.{KeyFault}
-use Rattle.cm_io.specs.declared.key_pass.KeyFault.TheVariants.{Read, TooLong, TooMany}
 use Rattle.cm_keys.specs.Streams.{stream_in}
 use Rattle.cm_route.specs.Routes.{Route}
 use Rattle.cm_route.specs.declared.route.TheConstants.{ROUTE_SEED}
 use Rattle.cm_shards_split.specs.Placed.{placed}
 use Rattle.cm_shards_split.specs.Shares.{counts_text, share_counts, shares}
-use Rattle.cm_shards_words.specs.Program.{program}
+use Rattle.cm_shards_words.specs.Messages.{line_fault_message}
 use Rattle.cm_shards_words.specs.declared.jobs.SplitJob.{SplitJob}
 use Rattle.cm_tool_stops.specs.Ending.{Outcome}
-use Rattle.cm_tool_stops.specs.Messages.{cannot_read, line_too_long}
 
 -- the route of the lines of a job
 abbrev pub route_of : SplitJob → Route
@@ -28,16 +25,6 @@ told_of job bytes = stream_in job.first job.end bytes
 abbrev pub lines_of : Told → List (List ℕ)
 lines_of told = map (λ line. line.1) told.keys
 
--- what is said of more lines than are read
-abbrev pub too_many_lines : List ℕ → List ℕ → List ℕ
-too_many_lines program file = joined (program ∷ codes ": " ∷ file ∷ codes ": too many lines\n" ∷ [])
-
--- what is said of the fault at the end of the lines
-abbrev pub fault_message : List ℕ → List ℕ → KeyFault → List ℕ
-fault_message program file Read = cannot_read program file
-fault_message program file (TooLong line) = line_too_long program file line
-fault_message program file TooMany = too_many_lines program file
-
 -- The outcome of these lines with the fault at their end: each shard has its share of the lines before the fault. The counts are those
 -- of the shares, and the file of the counts is empty if there is a fault.
 abbrev pub splitting : SplitJob → Files → List (List ℕ) → Option KeyFault → Outcome
@@ -50,7 +37,7 @@ splitting job files lines None = record {
 splitting job files lines (Some fault) = record {
   status = 8;
   out = [];
-  err = fault_message program job.keys fault;
+  err = line_fault_message job.keys fault;
   files = placed job.dir (shares (route_of job) job.end lines) [] files;
 }
 
