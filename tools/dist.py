@@ -141,6 +141,12 @@ def control(root, version):
             " function of them is proved to meet its contract.\n")
 
 
+def overrides(root):
+    """What lintian is told of the package: programs and library are packed byte by byte as they were built after their proofs, with their symbols."""
+    whole = [*sorted((root / "usr/bin").iterdir()), *sorted(root.glob("usr/lib/*/*.so.*"))]
+    return "".join(f"{PACKAGE}: unstripped-binary-or-object [{path.relative_to(root)}]\n" for path in whole)
+
+
 def debian(folder, built, library, version, said, when):
     """The tree of the Debian package."""
     root = folder / "deb"
@@ -165,6 +171,7 @@ def debian(folder, built, library, version, said, when):
     put(docs / "changelog", 0o644, f"{PACKAGE} ({version}) unstable; urgency=medium\n\n  * CHANGELOG.md of the sources says what changed.\n\n"
         f" -- Lumpedris maintainers <maintainers@users.noreply.lumpedris.example>  {day}\n")
     compressed(docs / "changelog", when)
+    put(root / "usr/share/lintian/overrides" / PACKAGE, 0o644, overrides(root))
     put(root / "DEBIAN/control", 0o644, control(root, version))
     put(root / "DEBIAN/shlibs", 0o644, f"libcmph_c 1 {PACKAGE}\n")
     put(root / "DEBIAN/triggers", 0o644, "activate-noawait ldconfig\n")
