@@ -136,12 +136,16 @@ LABEL = 14  # the height of a label
 
 
 def last_values(plot: Plot, panel: Panel, lines: list[tuple[Line, str]]) -> list[str]:
-    """The last value of each line beside its end. Those that would lie on each other are moved apart."""
+    """The last value of each line: to the right of its end, apart from that of another; or to the left, if the other line goes on."""
     ends_of = sorted((panel.up.at(line[-1][1]), line[-1], kind) for line, kind in lines if line)
-    marks, before = [], -math.inf
+    most, marks, before = max((count for _, (count, _), _ in ends_of), default=0), [], -math.inf
     for y, (count, value), kind in ends_of:
-        before = max(y, before + LABEL)
-        marks.append(text(round(panel.across.at(count) + 8, 1), round(before + 4, 1), plot.shown(value), f"halo {kind}", "start"))
+        x, shown = panel.across.at(count), plot.shown(value)
+        if count < most:
+            marks.append(text(round(x - 8, 1), round(y - 4, 1), shown, f"halo {kind}", "end"))
+        else:
+            before = max(y, before + LABEL)
+            marks.append(text(round(x + 8, 1), round(before + 4, 1), shown, f"halo {kind}", "start"))
     return marks
 
 
