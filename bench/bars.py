@@ -74,7 +74,17 @@ def panel(rows: list[dict], algorithms: list[str], title: str, top: float, acros
     return marks, y
 
 
+def legend(algorithms: list[str]) -> list[str]:
+    """The colour of each algorithm."""
+    marks = []
+    for at, name in enumerate(algorithms):
+        marks.append(f'<rect class="a{at % 4}" x="{LEFT + 90 * at}" y="52" width="10" height="10" rx="1.5"/>')
+        marks.append(f'<text x="{LEFT + 90 * at + 16}" y="61">{escape(name)}</text>')
+    return marks
+
+
 def drawn(results: Path) -> str:
+    """The drawing of all measures."""
     rows = read(results)
     algorithms = list(dict.fromkeys(row["algorithm"] for row in rows))
     most = max(1.25, max(float(row["to_c"]) for row in rows))
@@ -97,10 +107,6 @@ def drawn(results: Path) -> str:
         kind = "one" if ratio == 1 else "grid"
         grid.append(f'<line class="{kind}" x1="{across(ratio):.1f}" y1="78" x2="{across(ratio):.1f}" y2="{foot}"/>')
         grid.append(f'<text class="soft" x="{across(ratio):.1f}" y="{foot + 16}" text-anchor="middle">{ratio:g}</text>')
-    legend = []
-    for at, name in enumerate(algorithms):
-        legend.append(f'<rect class="a{at % 4}" x="{LEFT + 90 * at}" y="52" width="10" height="10" rx="1.5"/>')
-        legend.append(f'<text x="{LEFT + 90 * at + 16}" y="61">{escape(name)}</text>')
     lines = [
         f'<svg xmlns="http://www.w3.org/2000/svg" viewBox="0 0 {WIDTH} {high}" width="{WIDTH}" height="{high}" role="img">',
         "<title>This program beside the C tool: ratios of time, memory and size</title>",
@@ -109,7 +115,7 @@ def drawn(results: Path) -> str:
         '<text class="title" x="16" y="26">This program beside the C tool</text>',
         '<text class="soft" x="16" y="44">Ratios: the C tool is 1, and a shorter bar is better.</text>',
         f'<text class="soft" x="{across(1):.1f}" y="72" text-anchor="middle">C = 1</text>',
-        *legend,
+        *legend(algorithms),
         *grid,
         *bars,
         "</svg>",
