@@ -56,7 +56,7 @@ impl<'a> Answers for LentBdz<'a> {
         rank_of(self, chosen_among(&self.cells(), place))
     }
 
-    // The cells of all places come first, and then the ranks, as in `Bdz`.
+    // The cells of all places come first, and then the ranks.
     fn answer_all(&self, places: &[Place], answers: &mut [Option<u32>]) {
         let mut vertices = [0; MOST_PLACES];
         chosen_by_all(&self.cells(), places, &mut vertices);

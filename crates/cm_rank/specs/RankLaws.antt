@@ -82,16 +82,25 @@ sample_is t cells k stands inside =
 pub sample_there : (t : Samples) (cells : List ℕ) (i : ℕ) → StandsFor t cells → i < length cells → i / 2 ^ t.shift < length t.ranks
 sample_there t cells i stands inside = omega (arith, place_lt (2 ^ t.shift) (length cells) i (pow_pos t.shift) inside, length-samples t cells stands)
 
+-- the rank of the first cell of a block is no higher than that of a cell in it
+rank_in_block : (idle step : ℕ) (cells : List ℕ) (i : ℕ) → i < length cells → rank_of idle cells (i / step * step) ≤ rank_of idle cells i
+rank_in_block idle step cells i inside =
+    let first : ℕ = i / step * step in
+    let before : first ≤ i = div-mul-le_self i step in
+    let place : first + (i - first) ≡ i = omega (arith, before) in
+    rw place at (rank_rises idle cells first (i - first) (rw place (omega (arith, inside))))
+
+-- that rank, and what is counted after it
+pub rank_from_block : (idle shift : ℕ) (cells : List ℕ) (i rank : ℕ) → length cells ≤ MAX_CELLS → i < length cells
+    → rank ≡ min (2 ^ 32 - 1) (rank_of idle cells (i / 2 ^ shift * 2 ^ shift) + (rank_of idle cells i - rank_of idle cells (i / 2 ^ shift * 2 ^ shift))) → rank ≡ rank_of idle cells i
+rank_from_block idle shift cells i rank few inside is = omega (arith, is, rank_in_block idle (2 ^ shift) cells i inside, rank_fits idle cells i few)
+
 -- ranks that stand for the cells give the rank of each cell
 pub sampled_rank-stands : (t : Samples) (cells : List ℕ) (i : ℕ) → StandsFor t cells → i < length cells → sampled_rank t cells i ≡ rank_of t.idle cells i
 unfolding sampled_rank
 sampled_rank-stands t cells i stands inside =
     let step : ℕ = 2 ^ t.shift in
-    let first : ℕ = i / step * step in
-    let before : first ≤ i = div-mul-le_self i step in
-    let place : first + (i - first) ≡ i = omega (arith, before) in
-    let rises : rank_of t.idle cells first ≤ rank_of t.idle cells i = rw place at (rank_rises t.idle cells first (i - first) (rw place (omega (arith, inside)))) in
-    omega (arith, sample_is t cells (i / step) stands (sample_there t cells i stands inside), rises)
+    omega (arith, sample_is t cells (i / step) stands (sample_there t cells i stands inside), rank_in_block t.idle step cells i inside)
 
 -- and it fits in four bytes
 pub sampled_rank-least : (t : Samples) (cells : List ℕ) (i : ℕ) → length cells ≤ MAX_CELLS → StandsFor t cells → i < length cells → min (2 ^ 32 - 1) (sampled_rank t cells i) ≡ rank_of t.idle cells i

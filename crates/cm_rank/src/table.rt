@@ -1,5 +1,5 @@
 //! Ranks by samples.
-ghost use Rattle.std.specs.Prelude.{◌≡◌, ℕ, List, ◌+◌, ◌*◌, ◌^◌, ◌<◌, ◌≤◌, count_by, length, slice_index, IfOk};
+ghost use Rattle.std.specs.Prelude.{◌≡◌, ℕ, List, ◌+◌, ◌*◌, ◌/◌, ◌^◌, ◌<◌, ◌≤◌, count_by, length, slice_index, IfOk};
 ghost use Rattle.std.specs.Int.{div_ceil};
 ghost use Rattle.cm_rank.specs.Ranks.{rank_of, StandsFor};
 ghost use Rattle.cm_spec.specs.Cells.{is_busy};
@@ -65,8 +65,26 @@ impl RankTable {
         requires index { i < length (C.cells cells.now) }
         ensures rank { result ≡ rank_of self.now.idle (C.cells cells.now) i }
     {
+        self.rank_by(cells, self.sample(i), i)
+    }
+
+    /// The sample for cell i: the rank of the first cell of its block.
+    pub fn sample(&self, i: u32) -> u32
+        requires there { i / 2 ^ self.now.shift < length self.now.ranks }
+        ensures sample { result ≡ slice_index self.now.ranks (i / 2 ^ self.now.shift) }
+        ensures cells { (cells : List ℕ) → StandsFor self.now cells → result ≡ rank_of self.now.idle cells (i / 2 ^ self.now.shift * 2 ^ self.now.shift) }
+    {
         let block = i / (1 << self.b);
-        rank_after(cells, self.idle, self.b, self.ranks[block as usize], i)
+        self.ranks[block as usize]
+    }
+
+    /// `rank`, by the sample for cell i. If samples of many cells are read first, their cache misses overlap.
+    pub fn rank_by<C: Counted>(&self, cells: &C, sample: u32, i: u32) -> u32
+        requires index { i < length (C.cells cells.now) }
+        requires sample { sample ≡ rank_of self.now.idle (C.cells cells.now) (i / 2 ^ self.now.shift * 2 ^ self.now.shift) }
+        ensures rank { result ≡ rank_of self.now.idle (C.cells cells.now) i }
+    {
+        rank_after(cells, self.idle, self.b, sample, i)
     }
 
     /// How many cells are not idle. Reads at most `2^b` cells.

@@ -1,10 +1,6 @@
-use Rattle.std.proofs.Common.{rules, ◌∙◌, ℕ, length, slice_index}
-use Rattle.std.specs.Prelude.{slice_index_or}
+use Rattle.std.proofs.Common.{rules}
 use Rattle.cm_algo_scheme.specs.AnsweringLaws.{answers_more}
-use Rattle.cm_bdz.specs.Functions.{bdz_answer}
-use Rattle.cm_bdz.specs.Places.{bdz_place}
 use Rattle.cm_bdz.proofs.ChoiceLemmas.{answer_of_key, places_of_keys}
-use Rattle.cm_spec.specs.Lookup2.{words}
 use Rattle.cm_bdz.proofs.answers.BdzAnswers.answer_all.Goals as goal
 
 pub chosen_by_all-requires-clause-places : goal.chosen_by_all-requires-clause-places
