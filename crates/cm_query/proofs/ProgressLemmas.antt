@@ -1,6 +1,5 @@
 -- What a query has done after some keys.
-use Rattle.std.proofs.Common.{◌≡◌, ◌∙◌, ℕ, ◌+◌, ◌-◌, ◌<◌, ◌≤◌, List, [], ◌∷◌, ◌++◌, length, take, drop, replicate, Option, None, Bool, Err, ap, sym, subst, arith}
-use Rattle.std.specs.Prelude.{IfSome}
+use Rattle.std.proofs.Common.{◌≡◌, ◌∙◌, ℕ, ◌+◌, ◌-◌, ◌≤◌, List, [], ◌∷◌, ◌++◌, length, take, drop, Option, None, Bool, Err, ap, sym, subst, arith}
 use Rattle.std.proofs.lemmas.List.{length-drop, take_all}
 use Rattle.std.proofs.Math.Seq.{take-add}
 use Rattle.cm_io.specs.WritingLaws.{then_twice}
@@ -11,12 +10,10 @@ use Rattle.cm_io.specs.Writing.{then_bytes}
 use Rattle.cm_io.specs.declared.key_pass.KeyFault.{KeyFault}
 use Rattle.cm_io.specs.declared.key_pass.KeyFault.TheVariants.{Read, TooLong, TooMany}
 use Rattle.cm_query.proofs.EarlierLemmas.{notes_of-more, tally_of-more}
-use Rattle.cm_query.proofs.MarkLemmas.{AreMarks, is_marked-same, marks_more, none_marked}
 use Rattle.cm_io.specs.NotingLaws.{noted_more}
 use Rattle.cm_query.proofs.TextLemmas.{text_of-more, text_of-one}
 use Rattle.cm_io.specs.NotingLaws.{noted_nothing}
 use Rattle.cm_io.specs.WritingLaws.{then_nothing}
-use Rattle.cm_query.specs.Marks.{is_marked, marked}
 use Rattle.cm_query.specs.Repeats.{is_repeated}
 use Rattle.cm_query_batch.specs.Stops.{StopsAt, TextAfter}
 use Rattle.cm_query.specs.Tallies.{counted, tally_of}
@@ -24,24 +21,22 @@ use Rattle.cm_query.specs.Texts.{line_of, note_of, notes_of, text_of}
 use Rattle.cm_query_batch.specs.declared.fault.QueryFault.TheVariants.{Key, Write}
 use Rattle.cm_query.specs.declared.tally.Tally.{Tally}
 
--- the keys given so far are answered: their text on out, their notes on err, their marks and their tally
-pub record SoFar (end : ℕ) (f : List ℕ → Option ℕ) (given : List (ℕ × List ℕ)) (marks : List ℕ) (tally : Tally) (out_old out_new : Option (List ℕ)) (had failed : Bool) (err_old err_new : SinkState) : Type 0 where
+-- the keys given so far are answered: their text on out, their notes on err, and their tally
+pub record SoFar (end : ℕ) (f : List ℕ → Option ℕ) (given : List (ℕ × List ℕ)) (tally : Tally) (out_old out_new : Option (List ℕ)) (had failed : Bool) (err_old err_new : SinkState) : Type 0 where
   pub out : out_new ≡ then_bytes out_old (text_of end f given)
   pub notes : Noted had failed err_old err_new (notes_of f given)
-  pub marks_are : AreMarks f given marks
   pub tally_is : tally ≡ tally_of f given
 
-pub so_far_none : (end : ℕ) (f : List ℕ → Option ℕ) (marks : List ℕ) (n : ℕ) (tally : Tally) (out : Option (List ℕ)) (failed : Bool) (err : SinkState)
-    → marks ≡ replicate n 0 → tally ≡ tally_of f [] → SoFar end f [] marks tally out out failed failed err err
-so_far_none end f marks n tally out failed err is zero = record {
+pub so_far_none : (end : ℕ) (f : List ℕ → Option ℕ) (tally : Tally) (out : Option (List ℕ)) (failed : Bool) (err : SinkState)
+    → tally ≡ tally_of f [] → SoFar end f [] tally out out failed failed err err
+so_far_none end f tally out failed err zero = record {
   out = then_nothing out;
   notes = noted_nothing failed err;
-  marks_are = none_marked f marks n is;
   tally_is = zero;
 }
 
 -- the keys given so far, with the next
-take_next : (keys : List (ℕ × List ℕ)) (place : ℕ) (k : ℕ × List ℕ) → drop place keys ≡ k ∷ drop (place + 1) keys → take (place + 1) keys ≡ take place keys ++ k ∷ []
+pub take_next : (keys : List (ℕ × List ℕ)) (place : ℕ) (k : ℕ × List ℕ) → drop place keys ≡ k ∷ drop (place + 1) keys → take (place + 1) keys ≡ take place keys ++ k ∷ []
 take_next keys place k is = take-add place 1 keys ∙ ap (λ (l : List (ℕ × List ℕ)). take place keys ++ take 1 l) is
 
 pub next_within : (keys : List (ℕ × List ℕ)) (place : ℕ) (k : ℕ × List ℕ) → drop place keys ≡ k ∷ drop (place + 1) keys → place + 1 ≤ length keys
@@ -50,16 +45,16 @@ next_within keys place k is =
     omega (arith, length-drop place keys)
 
 -- one key more, with its answer
-pub so_far_next : (end : ℕ) (f : List ℕ → Option ℕ) (keys : List (ℕ × List ℕ)) (place : ℕ) (k : ℕ × List ℕ) (a : Option ℕ) (repeated : Bool) (marks marks' : List ℕ) (tally tally' : Tally) (out_old out_mid out_new : Option (List ℕ))
+pub so_far_next : (end : ℕ) (f : List ℕ → Option ℕ) (keys : List (ℕ × List ℕ)) (place : ℕ) (k : ℕ × List ℕ) (a : Option ℕ) (repeated : Bool) (tally tally' : Tally) (out_old out_mid out_new : Option (List ℕ))
     (had failed failed' : Bool) (err_old err_mid err_new : SinkState)
-    → drop place keys ≡ k ∷ drop (place + 1) keys → f k.1 ≡ a → IfSome a (λ v. v < length marks) → SoFar end f (take place keys) marks tally out_old out_mid had failed err_old err_mid
-    → out_new ≡ then_bytes out_mid (line_of end k.1 a) → repeated ≡ is_marked marks a → marks' ≡ marked marks a
+    → drop place keys ≡ k ∷ drop (place + 1) keys → f k.1 ≡ a → SoFar end f (take place keys) tally out_old out_mid had failed err_old err_mid
+    → out_new ≡ then_bytes out_mid (line_of end k.1 a) → repeated ≡ is_repeated f (take place keys) (f k.1)
     → Noted failed failed' err_mid err_new (note_of k.0 a repeated) → tally' ≡ counted tally a repeated
-    → SoFar end f (take (place + 1) keys) marks' tally' out_old out_new had failed' err_old err_new
-so_far_next end f keys place k a repeated marks marks' tally tally' out_old out_mid out_new had failed failed' err_old err_mid err_new next is inside so_far wrote seen set noted more =
+    → SoFar end f (take (place + 1) keys) tally' out_old out_new had failed' err_old err_new
+so_far_next end f keys place k a repeated tally tally' out_old out_mid out_new had failed failed' err_old err_mid err_new next is so_far wrote seen noted more =
     let old = take place keys in
     let given = take_next keys place k next in
-    let again : repeated ≡ is_repeated f old a = seen ∙ is_marked-same f old marks a so_far.marks_are inside in
+    let again : repeated ≡ is_repeated f old a = seen ∙ ap (is_repeated f old) is in
     let text : out_new ≡ then_bytes out_old (text_of end f (old ++ k ∷ [])) =
     wrote ∙ ap (λ (o : Option (List ℕ)). then_bytes o (line_of end k.1 a)) so_far.out ∙ then_twice out_old (text_of end f old) (line_of end k.1 a)
     ∙ ap (λ (o : Option ℕ). then_bytes out_old (text_of end f old ++ line_of end k.1 o)) (sym is) ∙ ap (then_bytes out_old) (sym (text_of-more end f old k)) in
@@ -69,15 +64,14 @@ so_far_next end f keys place k a repeated marks marks' tally tally' out_old out_
     subst (Noted had failed' err_old err_new) (ap (λ (t : List ℕ). notes_of f old ++ t) note ∙ sym (notes_of-more f old k)) (noted_more so_far.notes noted) in
     let tallied : tally' ≡ tally_of f (old ++ k ∷ []) =
     more ∙ ap (λ (t : Tally). counted t a repeated) so_far.tally_is ∙ ap (counted (tally_of f old) a) again ∙ tally_of-more f old k a is in
-    let are : AreMarks f (old ++ k ∷ []) marks' = subst (AreMarks f (old ++ k ∷ [])) (sym set) (marks_more f old marks k a is so_far.marks_are inside) in
-    subst (λ (ks : List (ℕ × List ℕ)). SoFar end f ks marks' tally' out_old out_new had failed' err_old err_new) (sym given)
-    (record { out = text; notes = notes; marks_are = are; tally_is = tallied })
+    subst (λ (ks : List (ℕ × List ℕ)). SoFar end f ks tally' out_old out_new had failed' err_old err_new) (sym given)
+    (record { out = text; notes = notes; tally_is = tallied })
 
 -- at the end of the keys
-pub so_far_all : (end : ℕ) (f : List ℕ → Option ℕ) (told : Told) (place : ℕ) (marks : List ℕ) (tally : Tally) (out_old out_new : Option (List ℕ)) (had failed : Bool) (err_old err_new : SinkState)
-    → Ends told place None → SoFar end f (take place told.keys) marks tally out_old out_new had failed err_old err_new → SoFar end f told.keys marks tally out_old out_new had failed err_old err_new
-so_far_all end f told place marks tally out_old out_new had failed err_old err_new ends so_far =
-    subst (λ (ks : List (ℕ × List ℕ)). SoFar end f ks marks tally out_old out_new had failed err_old err_new) (take_all place told.keys (omega (arith, ends.all))) so_far
+pub so_far_all : (end : ℕ) (f : List ℕ → Option ℕ) (told : Told) (place : ℕ) (tally : Tally) (out_old out_new : Option (List ℕ)) (had failed : Bool) (err_old err_new : SinkState)
+    → Ends told place None → SoFar end f (take place told.keys) tally out_old out_new had failed err_old err_new → SoFar end f told.keys tally out_old out_new had failed err_old err_new
+so_far_all end f told place tally out_old out_new had failed err_old err_new ends so_far =
+    subst (λ (ks : List (ℕ × List ℕ)). SoFar end f ks tally out_old out_new had failed err_old err_new) (take_all place told.keys (omega (arith, ends.all))) so_far
 
 -- where the pass refused
 pub stops_at_key : (told : Told) (place now line : ℕ) (key : List ℕ) (fault : KeyFault) → place ≤ length told.keys → GivesKey told place now line key (Err fault) → StopsAt told place (Key fault)

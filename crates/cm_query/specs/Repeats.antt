@@ -13,6 +13,10 @@ abbrev pub is_repeated : (List ℕ → Option ℕ) → List (ℕ × List ℕ) �
 is_repeated f earlier None = false
 is_repeated f earlier (Some v) = list_any (λ k. is_number v (f k.1)) earlier
 
--- whether the answer of each key is that of an earlier one
+-- whether the answer of each key is that of an earlier one, some of which are given first
+abbrev pub repeats_after : (List ℕ → Option ℕ) → List (ℕ × List ℕ) → List (ℕ × List ℕ) → List Bool
+repeats_after f before keys = with_earlier (λ earlier k. is_repeated f earlier (f k.1)) before keys
+
+-- the same, with none given first
 abbrev pub repeats_of : (List ℕ → Option ℕ) → List (ℕ × List ℕ) → List Bool
-repeats_of f keys = with_earlier (λ earlier k. is_repeated f earlier (f k.1)) [] keys
+repeats_of f keys = repeats_after f [] keys

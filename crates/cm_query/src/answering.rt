@@ -8,15 +8,21 @@ ghost use Rattle.cm_query_batch.specs.Stops.{HasQueryCause, HasQueryFailure, IsR
 ghost use Rattle.cm_query.specs.Tallies.{tally_of};
 ghost use Rattle.cm_query.specs.Texts.{text_of, notes_of};
 
-use crate::marks::mark;
+use crate::marks::Marks;
 use crate::tally::Tally;
 use crate::writing::{note_key, write_line};
 use cm_algo_scheme::Answers;
-use cm_bits::{Bits, Cells};
 use cm_io::{Failed, KeyBuf, KeyPass, Notes, Sink};
 use cm_query_batch::{Batch, QueryFault};
 use itoa::Buffer;
 use std::alloc::Global;
+
+/// An answer as a number of 64 bits.
+fn widened(answer: Option<u32>) -> Option<u64>
+    ensures same { result ≡ answer }
+{
+    answer.map(|number| u64::from(number))
+}
 
 /// Looks up each key of a pass that stands at its start. If it has an answer, its line goes to out; if it has none, or one that an earlier
 /// key has, a note goes to err. A line on out ends with the byte `end`, which is a line feed or 0, and a note with a line feed. One bit
@@ -66,7 +72,7 @@ pub fn query<A: Answers, P: KeyPass, O: Sink, E: Sink>(
         × TextAfter (text_of end (A.answer_of function.now)) told.keys reached (O.state out.old).written (O.state out.new).written fault
         × Noted notes.old notes.new (E.state err.old) (E.state err.new) (notes_of (A.answer_of function.now) (noted_keys told.keys reached fault)))) }
 {
-    let Ok(mut marks) = Bits::zeroed(alloc, function.span(), 2) else {
+    let Ok(mut marks) = Marks::new(alloc, function.span()) else {
         return Err(QueryFault::Memory);
     };
     let mut tally = Tally {
@@ -85,11 +91,11 @@ pub fn query<A: Answers, P: KeyPass, O: Sink, E: Sink>(
         }
         let answer = batch.answer();
         let sends = batch.reads_next(keys);
-        match write_line(out, batch.key(), answer, end, sends, &mut buffer) {
+        match write_line(out, batch.key(), widened(answer), end, sends, &mut buffer) {
             Ok(()) => {}
             Err(Failed) => return Err(QueryFault::Write),
         }
-        let repeated = mark(&mut marks, answer);
+        let repeated = marks.mark_first(batch.answers());
         note_key(err, notes, batch.line(), answer, repeated);
         tally.count(answer, repeated);
         batch.pass();

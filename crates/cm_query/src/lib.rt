@@ -12,4 +12,5 @@ pub use crate::answering::query;
 pub use crate::laws::{front_of_text, noted_exactly, worked_rows};
 pub use crate::summing::sum_answers;
 pub use crate::tally::Tally;
+pub use crate::writing::write_line;
 pub use cm_query_batch::QueryFault;

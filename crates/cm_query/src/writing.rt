@@ -14,7 +14,7 @@ use itoa::Buffer;
 const SHORT_LINE: usize = 256;
 
 /// The length of the longest key of such a line.
-const SHORT_KEY: usize = 241;
+const SHORT_KEY: usize = 231;
 
 /// Appends a part for which there is room.
 fn append<const N: usize>(line: &mut ArrayVec<u8, N>, part: &[u8])
@@ -29,11 +29,11 @@ fn append<const N: usize>(line: &mut ArrayVec<u8, N>, part: &[u8])
 /// Appends what follows a key in its line: an arrow, the number in decimal, and the byte that ends the line.
 fn append_tail<const N: usize>(
     line: &mut ArrayVec<u8, N>,
-    number: u32,
+    number: u64,
     end: u8,
     buffer: &mut Buffer,
 )
-    requires room { length line.old.items + 15 ≤ N }
+    requires room { length line.old.items + 25 ≤ N }
     ensures tail { line.new.items ≡ line.old.items ++ joined (codes " -> " ∷ decimal number ∷ (end ∷ []) ∷ []) }
 {
     let digits = buffer.format(number).as_bytes();
@@ -46,7 +46,7 @@ fn append_tail<const N: usize>(
 fn write_short<O: Sink>(
     out: &mut O,
     key: &[u8],
-    number: u32,
+    number: u64,
     end: u8,
     buffer: &mut Buffer,
 ) -> Result<(), Failed>
@@ -60,45 +60,45 @@ fn write_short<O: Sink>(
     out.write(line.as_slice())
 }
 
-/// Writes the line of a key, if it has an answer, and then flushes the sink, if `sends`. Fails exactly if the sink does, which has then
-/// taken a prefix of the line.
-pub(crate) fn write_line<O: Sink>(
+/// Writes the line of a key, if it has a number: the key, an arrow, the number in decimal, and the byte `end`. Then flushes the sink, if
+/// `sends`. Fails exactly if the sink does, which has then taken a prefix of the line. `buffer` is room for the digits.
+pub fn write_line<O: Sink>(
     out: &mut O,
     key: &[u8],
-    answer: Option<u32>,
+    number: Option<u64>,
     end: u8,
     sends: bool,
     buffer: &mut Buffer,
 ) -> Result<(), Failed>
-    ensures line { Writes (O.state out.old).written (O.state out.new).written (line_of end key.now answer) result }
+    ensures line { Writes (O.state out.old).written (O.state out.new).written (line_of end key.now number) result }
     ensures sent { OnOk result (sends ≡ true → (O.state out.new).waits ≡ 0) }
     ensures cause { HasCause (O.state out.old).faults (O.state out.new).faults result }
 {
-    put_line(out, key, answer, end, buffer)?;
+    put_line(out, key, number, end, buffer)?;
     if sends {
         return out.write(&[]);
     }
     Ok(())
 }
 
-/// Writes the line of a key, if it has an answer.
+/// Writes the line of a key, if it has a number.
 fn put_line<O: Sink>(
     out: &mut O,
     key: &[u8],
-    answer: Option<u32>,
+    number: Option<u64>,
     end: u8,
     buffer: &mut Buffer,
 ) -> Result<(), Failed>
-    ensures line { Writes (O.state out.old).written (O.state out.new).written (line_of end key.now answer) result }
+    ensures line { Writes (O.state out.old).written (O.state out.new).written (line_of end key.now number) result }
     ensures cause { HasCause (O.state out.old).faults (O.state out.new).faults result }
 {
-    let Some(number) = answer else {
+    let Some(number) = number else {
         return Ok(());
     };
     if key.len() <= SHORT_KEY {
         return write_short(out, key, number, end, buffer);
     }
-    let mut tail = ArrayVec::<u8, 15>::new();
+    let mut tail = ArrayVec::<u8, 25>::new();
     append_tail(&mut tail, number, end, buffer);
     write_pieces(out, &[key, tail.as_slice()])
 }

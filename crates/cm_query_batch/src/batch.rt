@@ -2,28 +2,29 @@
 ghost use Rattle.std.specs.Prelude.{◌≡◌, ◌⊎◌, ◌<◌, ◌≤◌, ℕ, List, [], length, drop, slice_index_or, Option, Ok, true, false, IsTrue, ◌↔◌, OnOk, OnErr, Some, IfErr};
 ghost use Rattle.std.specs.Option.{ForSome};
 ghost use Rattle.cm_io.specs.Passes.{HasKeyCause};
+ghost use Rattle.cm_query_batch.specs.declared.taken.TheConstants.{MOST_KEYS};
 ghost use Rattle.cm_query_batch.specs.Waiting.{AreAnswers, FillsBatch, Refills, RefillsBy, WaitingKeys};
 
-use crate::taken::{MOST, Taken};
+use crate::taken::{MOST_KEYS, Taken};
 use arrayvec::ArrayVec;
 use cm_algo_scheme::Answers;
 use cm_io::{KeyBuf, KeyFault, KeyPass, MAX_KEYS};
 use std::marker::Model;
 
-/// Keys of a pass that were taken and looked up together, 32 at most. They wait until they are passed, one after another in the order of
-/// the pass: `refill`, read `key`, `line` and `answer` of the first that waits, and `pass`. No call allocates memory: a batch has room
-/// for twice `MAX_KEY_LEN` bytes in itself. Clauses see the keys that wait, with their lines, and their answers.
+/// Keys of a pass that were taken and looked up together, `MOST_KEYS` at most. They wait until they are passed, one after another in the
+/// order of the pass: `refill`, read `key`, `line` and `answer` of the first that waits, and `pass`. No call allocates memory: a batch
+/// has room for twice `MAX_KEY_LEN` bytes in itself. Clauses see the keys that wait, with their lines, and their answers.
 #[derive(Drop)]
 pub struct Batch {
     taken: Taken,
-    answers: ArrayVec<Option<u32>, MOST>,
+    answers: ArrayVec<Option<u32>, MOST_KEYS>,
     next: usize,
 }
 
 impl Model for Batch {
     ghost use Rattle.std.specs.Prelude.{◌≡◌, ◌≤◌, length, drop};
     ghost use Rattle.cm_query_batch.specs.Waiting.{WaitingKeys};
-    ghost use Rattle.cm_query_batch.specs.declared.taken.TheConstants.{MOST};
+    ghost use Rattle.cm_query_batch.specs.declared.taken.TheConstants.{MOST_KEYS};
 
     ghost Value = { WaitingKeys };
 
@@ -32,7 +33,7 @@ impl Model for Batch {
     ghost invariant = { λ b. record {
       next : b.next ≤ length b.taken.keys;
       long : length b.answers.items ≡ length b.taken.keys;
-      few : length b.taken.keys ≤ MOST;
+      few : length b.taken.keys ≤ MOST_KEYS;
     } };
 }
 
@@ -72,7 +73,7 @@ impl Batch {
         ensures answers { AreAnswers (A.answer_of function.now) (A.span_of function.now) self.new }
         ensures counts { RefillsBy (P.place keys.old) (P.place keys.new) (length self.old.keys) (length self.new.keys) result }
         ensures refills { ForSome (P.told keys.old) (λ told. Refills told (P.place keys.old) (P.place keys.new) self.old.keys self.new.keys result) }
-        ensures waits { 0 < length self.old.keys → result ≡ Ok true }
+        ensures waits { 0 < length self.old.keys → (result ≡ Ok true) × (self.new ≡ self.old) × (keys.new ≡ keys.old) }
         ensures at_hand { (key : List ℕ) → P.stands keys.old key → result ≡ Ok true }
     {
         if self.next < self.taken.len() {
@@ -146,6 +147,14 @@ impl Batch {
         ensures answer { (d : Option ℕ) → result ≡ slice_index_or self.now.answers 0 d }
     {
         self.answers[self.next]
+    }
+
+    /// The answers to all keys that wait, in the order of the keys: each a number below the span of the function, or none.
+    pub fn answers(&self) -> &[Option<u32>]
+        ensures answers { result.now ≡ self.now.answers }
+        ensures few { length result.now ≤ MOST_KEYS }
+    {
+        &self.answers[self.next..]
     }
 
     /// Passes the first key that waits: it waits no more. One must wait.

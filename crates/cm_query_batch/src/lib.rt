@@ -8,3 +8,4 @@ mod taken;
 
 pub use crate::batch::Batch;
 pub use crate::fault::QueryFault;
+pub use crate::taken::MOST_KEYS;

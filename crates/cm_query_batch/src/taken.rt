@@ -2,7 +2,7 @@
 ghost use Rattle.std.specs.Prelude.{◌≡◌, ◌⊎◌, ◌<◌, ◌≤◌, ◌+◌, ◌++◌, ℕ, List, [], ◌∷◌, length, map, slice_index_or, All, Option, IfSome, Ok, IfOk, OnErr, true, false, IsTrue, Some};
 ghost use Rattle.std.specs.Option.{ForSome};
 ghost use Rattle.cm_query_batch.specs.Waiting.{FillsBatch, Takes};
-ghost use Rattle.cm_query_batch.specs.declared.taken.TheConstants.{MOST};
+ghost use Rattle.cm_query_batch.specs.declared.taken.TheConstants.{MOST_KEYS};
 
 use arrayvec::ArrayVec;
 use cm_algo_scheme::{Answers, Place};
@@ -10,7 +10,7 @@ use cm_io::{KeyBuf, KeyFault, KeyPass, MAX_KEY_LEN, MAX_KEYS};
 use std::marker::Model;
 
 /// How many keys are taken together at most.
-pub(crate) const MOST: usize = 32;
+pub const MOST_KEYS: usize = 32;
 
 /// How many bytes they have at most. A key is taken only if half of that is free, so each has room.
 const ROOM: usize = 2 * MAX_KEY_LEN;
@@ -27,7 +27,7 @@ pub(crate) struct Spot {
 #[derive(Drop)]
 pub(crate) struct Taken {
     bytes: ArrayVec<u8, ROOM>,
-    spots: ArrayVec<Spot, MOST>,
+    spots: ArrayVec<Spot, MOST_KEYS>,
 }
 
 impl Model for Taken {
@@ -42,8 +42,8 @@ impl Model for Taken {
 }
 
 /// Makes room for as many answers, which are none so far.
-fn make_room(answers: &mut ArrayVec<Option<u32>, MOST>, count: usize)
-    requires few { count ≤ MOST }
+fn make_room(answers: &mut ArrayVec<Option<u32>, MOST_KEYS>, count: usize)
+    requires few { count ≤ MOST_KEYS }
     ensures room { length answers.new.items ≡ count }
 {
     answers.clear();
@@ -53,7 +53,7 @@ fn make_room(answers: &mut ArrayVec<Option<u32>, MOST>, count: usize)
 }
 
 impl Taken {
-    ghost use Rattle.cm_query_batch.specs.declared.taken.TheConstants.{MOST, ROOM};
+    ghost use Rattle.cm_query_batch.specs.declared.taken.TheConstants.{MOST_KEYS, ROOM};
 
     /// No keys.
     pub(crate) fn new() -> Taken
@@ -76,16 +76,16 @@ impl Taken {
 
     /// Whether one more key of any length has room.
     fn has_room(&self) -> bool
-        ensures few { result ≡ true → length self.now.keys < MOST }
+        ensures few { result ≡ true → length self.now.keys < MOST_KEYS }
         ensures room { result ≡ true → self.now.bytes + MAX_KEY_LEN ≤ ROOM }
-        ensures full { result ≡ false → (MOST ≤ length self.now.keys) ⊎ (ROOM < self.now.bytes + MAX_KEY_LEN) }
+        ensures full { result ≡ false → (MOST_KEYS ≤ length self.now.keys) ⊎ (ROOM < self.now.bytes + MAX_KEY_LEN) }
     {
         !self.spots.is_full() && self.bytes.len() <= MAX_KEY_LEN
     }
 
     /// Adds a key with its line.
     fn add(&mut self, line: u32, key: &[u8])
-        requires few { length self.old.keys < MOST }
+        requires few { length self.old.keys < MOST_KEYS }
         requires room { self.old.bytes + length key.now ≤ ROOM }
         ensures keys { self.new.keys ≡ self.old.keys ++ (line, key.now) ∷ [] }
         ensures bytes { self.new.bytes ≡ self.old.bytes + length key.now }
@@ -106,7 +106,7 @@ impl Taken {
     #[inline(always)]
     fn take_next<P: KeyPass>(&mut self, keys: &mut P) -> bool
         requires usable { IsTrue (P.usable keys.old) }
-        requires few { length self.old.keys < MOST }
+        requires few { length self.old.keys < MOST_KEYS }
         requires room { self.old.bytes + MAX_KEY_LEN ≤ ROOM }
         ensures told { P.told keys.new ≡ P.told keys.old }
         ensures cause { P.faults keys.new ≡ P.faults keys.old }
@@ -172,7 +172,7 @@ impl Taken {
     }
 
     /// Where a function looks up each key, four keys at a time.
-    fn place_all<A: Answers>(&self, function: &A, places: &mut ArrayVec<Place, MOST>)
+    fn place_all<A: Answers>(&self, function: &A, places: &mut ArrayVec<Place, MOST_KEYS>)
         ensures are { places.new.items ≡ map (λ k. A.place_of function.now k.1) self.now.keys }
     {
         let fours = self.len() / 4;
@@ -198,13 +198,13 @@ impl Taken {
     pub(crate) fn answer_all<A: Answers>(
         &self,
         function: &A,
-        answers: &mut ArrayVec<Option<u32>, MOST>,
+        answers: &mut ArrayVec<Option<u32>, MOST_KEYS>,
     )
-        ensures few { length self.now.keys ≤ MOST }
+        ensures few { length self.now.keys ≤ MOST_KEYS }
         ensures are { answers.new.items ≡ map (λ k. A.answer_of function.now k.1) self.now.keys }
         ensures inside { All (λ a. IfSome a (λ v. v < A.span_of function.now)) answers.new.items }
     {
-        let mut places = ArrayVec::<Place, MOST>::new();
+        let mut places = ArrayVec::<Place, MOST_KEYS>::new();
         self.place_all(function, &mut places);
         make_room(answers, places.len());
         function.answer_all(places.as_slice(), answers.as_mut_slice());
@@ -227,10 +227,10 @@ impl Taken {
         self.spots[i].line
     }
 
-    /// How many keys there are: `MOST` at most.
+    /// How many keys there are: `MOST_KEYS` at most.
     pub(crate) fn len(&self) -> usize
         ensures len { result ≡ length self.now.keys }
-        ensures few { result ≤ MOST }
+        ensures few { result ≤ MOST_KEYS }
     {
         self.spots.len()
     }

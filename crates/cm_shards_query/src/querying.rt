@@ -13,9 +13,10 @@ ghost use Rattle.cm_tool_asking.specs.Leaves.{wrote};
 
 use crate::batch::Batch;
 use crate::stop::LinesStop;
-use crate::writing::{note_key, write_line};
+use crate::writing::note_key;
 use cm_io::{Failed, KeyBuf, Notes, Sink, Source};
 use cm_keys::{LineFault, Lines};
+use cm_query::write_line;
 use cm_shards_files::Shards;
 use itoa::Buffer;
 

@@ -2,7 +2,7 @@ use Rattle.std.proofs.Common.{◌≡◌, ◌+◌, ◌-◌, ◌≤◌, length, tr
 use Rattle.std.specs.Option.{ForSome}
 use Rattle.cm_spec.specs.declared.limits.TheConstants.{MAX_KEYS}
 use Rattle.cm_query_batch.specs.Waiting.{Takes}
-use Rattle.cm_query_batch.specs.declared.taken.TheConstants.{MOST}
+use Rattle.cm_query_batch.specs.declared.taken.TheConstants.{MOST_KEYS}
 use Rattle.cm_query_batch.proofs.taken.Taken.gather.Given as goal
 
 abbrev pub invariant-more : goal.invariant-more
@@ -19,4 +19,4 @@ invariant-more g l =
     }
 
 abbrev pub decreases-more : goal.decreases-more
-decreases-more g l = MOST - length l.self.keys
+decreases-more g l = MOST_KEYS - length l.self.keys
