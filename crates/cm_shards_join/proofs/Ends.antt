@@ -1,20 +1,19 @@
 -- From the end of a join to what the top call promises.
-use Rattle.std.proofs.Common.{◌≡◌, ◌≢◌, ◌∙◌, ◌⊎◌, ◌↔◌, ℕ, ◌<◌, ◌≤◌, ◌^◌, List, [], Option, None, Some, Result, Ok, Err, true, inl, inr, refl, ap, sym, arith}
+use Rattle.std.proofs.Common.{◌≡◌, ◌≢◌, ◌∙◌, ◌⊎◌, ◌↔◌, ℕ, ◌<◌, ◌^◌, [], Option, None, Some, Err, true, inl, inr, refl, ap, sym, arith}
 use Rattle.std.specs.Option.{ForSome, option_map}
 use Rattle.cm_io.specs.Files.{Files, with_file}
 use Rattle.cm_io.specs.States.{Outside}
-use Rattle.cm_io.specs.WritingLaws.{then_nothing}
 use Rattle.cm_shards_join.specs.Joins.{StoppedReading, statuses}
-use Rattle.cm_shards_join.specs.Leaves.{EndsStop, HasStopCause, IsCutShort, IsJoined, IsReadCause, IsStopCause, LeavesStop}
+use Rattle.cm_shards_join.specs.Leaves.{EndsStop, IsCutShort, IsJoined, IsReadCause, IsStopCause, LeavesStop}
 use Rattle.cm_shards_join.specs.Outcomes.{outcome_by, outcome_of, saving}
-use Rattle.cm_shards_join.specs.Taking.{Comes, join_of}
+use Rattle.cm_shards_join.specs.Taking.{join_of}
 use Rattle.cm_shards_join.specs.Texts.{message_of, status_of}
 use Rattle.cm_shards_join.specs.declared.stop.JoinStop.{JoinStop}
 use Rattle.cm_shards_join.specs.declared.stop.JoinStop.TheVariants.{Another, BadCounts, BadDump, BadName, Memory, Read, Write}
 use Rattle.cm_shards_manifest.specs.Manifests.{Manifest}
 use Rattle.cm_shards_words.specs.declared.jobs.JoinJob.{JoinJob}
 use Rattle.cm_spec.specs.Lists.{has}
-use Rattle.cm_tool_stops.specs.Ending.{Outcome, Reaches, refusal}
+use Rattle.cm_tool_stops.specs.Ending.{Outcome, refusal}
 use Rattle.cm_tool_stops.specs.Ends.{Says}
 
 pub none_some : {o : Outcome} → None ≡ Some o → ⊥

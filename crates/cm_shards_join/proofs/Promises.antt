@@ -1,5 +1,5 @@
 -- From each end of a join to all that its job promises.
-use Rattle.std.proofs.Common.{◌≡◌, ◌∙◌, ℕ, [], Result, Ok, Err, false, inl, refl, sym, ap, arith, Option, Some}
+use Rattle.std.proofs.Common.{◌≡◌, ◌∙◌, ℕ, [], Result, Ok, Err, false, inl, refl, sym, ap, arith, Option}
 use Rattle.cm_io.specs.Files.{Files, with_file}
 use Rattle.cm_io.specs.NotingLaws.{noted_nothing}
 use Rattle.cm_io.specs.States.{DiskState, IsSent, SinkState, outside}

@@ -1,5 +1,5 @@
 -- Each function has a span, and names have their length.
-use Rattle.std.proofs.Common.{◌≡◌, ℕ, ◌+◌, ◌*◌, ◌<◌, ◌≤◌, ◌/◌, arith, length, List, refl, Bool, true, false, ◌&&◌, nat_lt, nat_le, if◌then◌else◌}
+use Rattle.std.proofs.Common.{◌≡◌, ℕ, ◌+◌, ◌*◌, ◌≤◌, ◌/◌, arith, length, List, refl, Bool, true, false, ◌&&◌, nat_lt, nat_le}
 use Rattle.std.specs.Prelude.{IsTrue}
 use Rattle.std.proofs.lemmas.Bool.{leb-true}
 use Rattle.cm_dump_items.specs.ItemLaws.{lt_of}
@@ -8,7 +8,7 @@ use Rattle.cm_func.specs.declared.function.Func.{Func}
 use Rattle.cm_func.specs.declared.function.Func.TheVariants as func
 use Rattle.cm_shards_join.specs.Taking.{is_name}
 use Rattle.cm_shards_manifest.specs.declared.limits.TheConstants.{MAX_NAME}
-use Rattle.cm_spec.specs.Bdz.{bdz_size, third_of}
+use Rattle.cm_spec.specs.Bdz.{third_of}
 
 third_some : (q : ℕ) → 1 ≤ third_of q
 third_some q = grind arith

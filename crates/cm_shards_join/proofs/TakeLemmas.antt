@@ -1,10 +1,10 @@
 -- Functions that are taken one after another.
-use Rattle.std.proofs.Common.{◌≡◌, ◌∙◌, ◌⊎◌, ℕ, List, [], ◌∷◌, ◌++◌, length, ap, sym, subst, refl, arith, lit<, ◌+◌, ◌<◌, ◌≤◌, take, drop, get_or, inl, inr, Option, None, Some, Result, Ok, Err}
+use Rattle.std.proofs.Common.{◌≡◌, ◌∙◌, ℕ, List, [], ◌∷◌, ◌++◌, length, ap, sym, subst, refl, arith, lit<, ◌+◌, ◌<◌, ◌≤◌, take, drop, get_or, inl, inr, None, Some, Ok, Err}
 use Rattle.std.proofs.lemmas.List as lists
 use Rattle.std.proofs.lemmas.List.{drop_more, take-append-drop, take_more}
 use Rattle.cm_algo_names.specs.declared.algorithm.Algorithm.{Algorithm}
 use Rattle.cm_io.specs.Files.{Files}
-use Rattle.cm_shards_join.specs.Leaves.{EndsStop, IsUnreadFunction, NamesCounts, NamesFunction, NamesPath, Refuses}
+use Rattle.cm_shards_join.specs.Leaves.{EndsStop, NamesCounts, NamesFunction, NamesPath, Refuses}
 use Rattle.cm_shards_join.specs.Taking.{◌>>=◌, Comes, Taken, compare_counts, join_of, manifest_of, nothing, take_all, take_function}
 use Rattle.cm_shards_join.specs.declared.stop.JoinStop.{JoinStop}
 use Rattle.cm_shards_join.specs.declared.stop.JoinStop.TheVariants.{Another, BadCounts, BadDump, BadName, Memory, Read, Write}

@@ -1,5 +1,5 @@
 -- What a join comes to, by the files.
-use Rattle.std.specs.Prelude.{ℕ, List, [], Option, option_map, Result, Ok, Err}
+use Rattle.std.specs.Prelude.{[], Option, option_map, Result, Ok, Err}
 use Rattle.std.specs.FinMap as map
 use Rattle.cm_io.specs.Files.{Files}
 use Rattle.cm_shards_join.specs.Taking.{join_of}

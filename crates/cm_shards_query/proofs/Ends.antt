@@ -1,16 +1,15 @@
 -- From the end of a job to what it promises.
-use Rattle.std.proofs.Common.{◌≡◌, ◌≢◌, ◌∙◌, ◌⊎◌, ◌↔◌, ℕ, ◌<◌, ◌^◌, ◌≤◌, List, [], ◌++◌, Option, None, Some, Result, Ok, Err, inl, inr, refl, ap, sym, subst, arith, append-nil, Bool, true, false}
+use Rattle.std.proofs.Common.{◌≡◌, ◌≢◌, ◌∙◌, ◌⊎◌, ◌↔◌, ℕ, ◌<◌, ◌^◌, ◌≤◌, List, [], ◌++◌, Option, None, Some, Ok, Err, inl, inr, refl, ap, sym, subst, arith, append-nil, Bool, true, false}
 use Rattle.std.specs.Option.{option_map}
 use Rattle.std.proofs.Math.Seq.{take-nil}
 use Rattle.cm_io.specs.Files.{Files, file_at}
 use Rattle.cm_io.specs.Noting.{HasNoted}
-use Rattle.cm_io.specs.Passes.{Told}
 use Rattle.cm_io.specs.States.{Outside, SinkState}
 use Rattle.cm_io.specs.Writing.{then_bytes}
 use Rattle.cm_io.specs.WritingLaws.{then_nothing}
 use Rattle.cm_io.specs.declared.key_pass.KeyFault.{KeyFault}
 use Rattle.cm_io.specs.declared.key_pass.KeyFault.TheVariants as key_fault
-use Rattle.cm_shards_files.specs.Loading.{IsShardsCause, LoadsShards, shards_of}
+use Rattle.cm_shards_files.specs.Loading.{IsShardsCause, shards_of}
 use Rattle.cm_shards_files.specs.Shards.{Sharded, key_total, number_in}
 use Rattle.cm_shards_files.specs.declared.fault.ShardsFault.{ShardsFault}
 use Rattle.cm_shards_files.specs.declared.fault.ShardsFault.TheVariants as shards_fault
@@ -20,7 +19,7 @@ use Rattle.cm_shards_query.specs.Leaves.{AnsweredAll, EndsJob, EndsLoaded, IsPar
 use Rattle.cm_shards_query.specs.Outcomes as outcomes
 use Rattle.cm_shards_query.specs.Outcomes.{fault_said, lines_of, outcome_by, outcome_of, replying}
 use Rattle.cm_shards_query.specs.Texts.{load_message, load_status}
-use Rattle.cm_shards_query.specs.Written.{Numbers, Reply, number_replies, numbers_of, reply_by}
+use Rattle.cm_shards_query.specs.Written.{Numbers, number_replies, numbers_of, reply_by}
 use Rattle.cm_shards_query.specs.declared.stop.AskStop.{AskStop}
 use Rattle.cm_shards_query.specs.declared.stop.AskStop.TheVariants.{Load, Memory, Read, TooLong, TooMany, Write}
 use Rattle.cm_shards_words.specs.declared.jobs.AskJob.{AskJob}

@@ -1,8 +1,7 @@
 -- The first line at fault among lines that come one by one.
-use Rattle.std.proofs.Common.{◌≡◌, ◌∙◌, ℕ, ◌+◌, ◌*◌, ◌<◌, ◌≤◌, ◌||◌, List, [], ◌∷◌, ◌++◌, length, take, drop, Option, None, Some, Bool, false, Ok, Err, Result, refl, ap, sym, subst, arith, append-nil, append_assoc}
+use Rattle.std.proofs.Common.{◌≡◌, ◌∙◌, ℕ, ◌+◌, ◌<◌, ◌≤◌, ◌||◌, List, [], ◌∷◌, ◌++◌, length, take, drop, Option, None, Some, Bool, Ok, Err, Result, refl, ap, sym, subst, arith, append-nil, append_assoc}
 use Rattle.std.specs.Option.{ForSome}
 use Rattle.std.specs.Prelude.{IfSome}
-use Rattle.std.specs.List.{list_any}
 use Rattle.std.proofs.Math.Bool.{or-false}
 use Rattle.std.proofs.Math.Seq.{take-add}
 use Rattle.std.proofs.lemmas.List.{take-append-drop, take_all}
@@ -18,7 +17,7 @@ use Rattle.cm_query_batch.specs.Earlier.{with_earlier}
 use Rattle.cm_shards_query.specs.Leaves.{EndsTest, stop_from_line}
 use Rattle.cm_shards_query.specs.Marks.{is_marked}
 use Rattle.cm_shards_query.specs.Verdicts.{count_verdict, fault_at, fault_by, first_fault, first_some}
-use Rattle.cm_shards_query.specs.Written.{Numbers, test_by, test_end}
+use Rattle.cm_shards_query.specs.Written.{test_by, test_end}
 use Rattle.cm_shards_query.specs.declared.stop.LinesStop.{LinesStop}
 use Rattle.cm_shards_query.specs.declared.verdict.Verdict.{Verdict}
 

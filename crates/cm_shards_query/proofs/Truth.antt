@@ -1,5 +1,5 @@
 -- When a test is true.
-use Rattle.std.proofs.Common.{◌≡◌, ◌∙◌, ◌⊎◌, ◌↔◌, ℕ, zero, suc, ◌+◌, ◌<◌, List, [], ◌∷◌, ◌++◌, length, take, get_or, Option, None, Some, Bool, true, false, Ok, Err, inl, inr, ⊎_elim, refl, ap, sym, subst, arith, append-nil, append_assoc, length-take}
+use Rattle.std.proofs.Common.{◌≡◌, ◌∙◌, ◌⊎◌, ◌↔◌, ℕ, zero, suc, ◌<◌, List, [], ◌∷◌, ◌++◌, length, take, get_or, Option, None, Some, Bool, true, false, inl, inr, ⊎_elim, refl, ap, sym, subst, arith, append-nil, append_assoc, length-take}
 use Rattle.std.specs.Prelude.{◌==◌, if◌then◌else◌}
 use Rattle.std.proofs.lemmas.Bool.{eq-eqb, eqb-true, false≢true}
 use Rattle.std.proofs.lemmas.List.{get_or-take}
@@ -10,7 +10,7 @@ use Rattle.cm_query.specs.Repeats.{is_number, is_repeated}
 use Rattle.cm_query_batch.specs.Earlier.{with_earlier}
 use Rattle.cm_shards_query.proofs.TestLemmas.{skip}
 use Rattle.cm_shards_query.specs.Verdicts.{IsNumbering, count_verdict, fault_at, fault_by, first_fault, first_some, verdict_status}
-use Rattle.cm_shards_query.specs.Written.{Reply, test_by, test_reply}
+use Rattle.cm_shards_query.specs.Written.{test_by, test_reply}
 use Rattle.cm_shards_query.specs.declared.verdict.Verdict.{Verdict}
 use Rattle.cm_shards_query.specs.declared.verdict.Verdict.TheVariants.{Count, Holds, Repeated, Unknown}
 use Rattle.cm_spec.specs.Built.{key_at}

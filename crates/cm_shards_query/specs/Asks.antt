@@ -1,9 +1,8 @@
 -- What a query or a test does to disk, out and err.
-use Rattle.std.specs.Prelude.{◌≡◌, ◌≢◌, ◌<◌, ◌^◌, ◌⊎◌, ◌↔◌, ℕ, List, [], ◌∷◌, ◌++◌, None, Some, Result, Ok, Err, Bool, true, false}
+use Rattle.std.specs.Prelude.{◌≡◌, ◌≢◌, ◌<◌, ◌^◌, ◌⊎◌, ◌↔◌, ℕ, List, [], ◌∷◌, ◌++◌, None, Some, Result, Ok, Err, Bool, true}
 use Rattle.std.specs.Option.{ForSome}
 use Rattle.cm_io.specs.Files.{Files, file_at}
 use Rattle.cm_io.specs.States.{IsSent, Outside}
-use Rattle.cm_io.specs.Writing.{then_bytes}
 use Rattle.cm_shards_query.specs.Leaves.{IsPartBefore, IsPartWritten, lines_there, stop_message, stop_status}
 use Rattle.cm_shards_files.specs.Loading.{LoadsShards, shards_of}
 use Rattle.cm_shards_files.specs.Shards.{Sharded, key_total, number_in}

@@ -1,7 +1,5 @@
-use Rattle.std.proofs.Common.{◌≡◌, ◌∙◌, ℕ, List, Some, None, ap, sym}
-use Rattle.cm_io.specs.Files.{Files, file_at}
-use Rattle.cm_shards_join.specs.Counts.{line_apart}
-use Rattle.cm_shards_join.specs.Taking.{counted_unless}
+use Rattle.std.proofs.Common.{◌∙◌, Some, None, ap, sym}
+use Rattle.cm_io.specs.Files.{file_at}
 use Rattle.cm_shards_join.proofs.CountLemmas.{counted}
 use Rattle.cm_shards_join.proofs.counting.compare_in.Goals as goal
 

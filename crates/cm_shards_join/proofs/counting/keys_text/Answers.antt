@@ -1,4 +1,4 @@
-use Rattle.std.proofs.Common.{◌≡◌, ◌∙◌, ℕ, ◌+◌, ◌<◌, List, [], ◌∷◌, ◌++◌, length, take, get_or, ap, sym, arith, append_assoc}
+use Rattle.std.proofs.Common.{◌≡◌, ◌∙◌, ℕ, ◌+◌, ◌<◌, List, [], ◌∷◌, ◌++◌, length, take, ap, sym, append_assoc}
 use Rattle.std.specs.Prelude.{decimal}
 use Rattle.cm_shards_join.specs.Taking.{keys_text}
 use Rattle.cm_shards_join.proofs.CountLemmas.{one, text_more}

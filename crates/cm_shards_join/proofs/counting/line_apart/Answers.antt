@@ -1,5 +1,5 @@
-use Rattle.std.proofs.Common.{◌≡◌, ◌≢◌, ◌∙◌, ℕ, ◌+◌, ◌<◌, ◌≤◌, List, length, drop, get_or, ap, sym, arith, Some}
-use Rattle.cm_shards_join.specs.Counts.{differs_from, line_apart}
+use Rattle.std.proofs.Common.{◌≡◌, ◌≢◌, ◌∙◌, ℕ, ◌+◌, ◌<◌, length, drop, get_or, ap, sym, arith}
+use Rattle.cm_shards_join.specs.Counts.{differs_from}
 use Rattle.cm_shards_join.proofs.CountLemmas.{differs_here, differs_long, differs_never, differs_same, differs_short}
 use Rattle.cm_shards_join.proofs.counting.line_apart.Goals as goal
 

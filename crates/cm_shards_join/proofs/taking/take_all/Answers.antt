@@ -1,5 +1,4 @@
-use Rattle.std.proofs.Common.{◌≡◌, ◌∙◌, ℕ, ◌+◌, ◌<◌, List, [], ◌∷◌, ◌++◌, length, take, drop, get_or, ap, sym, subst, arith, refl, Some, Ok}
-use Rattle.cm_io.specs.Files.{Files}
+use Rattle.std.proofs.Common.{◌≡◌, ◌∙◌, ℕ, ◌+◌, ◌<◌, List, [], length, take, drop, get_or, ap, sym, subst, arith, refl, Some, Ok}
 use Rattle.cm_shards_files.specs.LoadingLaws.{no_step, then_no_file}
 use Rattle.cm_shards_join.specs.Leaves.{Refuses}
 use Rattle.cm_shards_join.specs.Taking.{nothing, take_all}

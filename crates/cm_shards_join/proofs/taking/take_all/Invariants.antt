@@ -1,4 +1,4 @@
-use Rattle.std.proofs.Common.{◌≡◌, List, ℕ, length, take, Some, Ok}
+use Rattle.std.proofs.Common.{◌≡◌, length, take, Some, Ok}
 use Rattle.std.specs.Option.{ForSome}
 use Rattle.cm_shards_files.specs.Loading.{ChangesNoFile}
 use Rattle.cm_shards_join.specs.Taking.{nothing, take_all}

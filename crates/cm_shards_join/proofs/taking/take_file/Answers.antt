@@ -1,4 +1,4 @@
-use Rattle.std.proofs.Common.{◌≡◌, ◌∙◌, ℕ, ◌+◌, ◌≤◌, List, [], ◌∷◌, ◌++◌, length, length-append, ap, sym, subst, arith}
+use Rattle.std.proofs.Common.{◌≡◌, ◌∙◌, ◌+◌, List, [], ◌∷◌, ◌++◌, length, length-append, ap, sym, subst, arith}
 use Rattle.cm_shards_manifest.specs.ManifestLaws.{shards_push, spans_push}
 use Rattle.cm_shards_manifest.specs.Manifests.{AreShards, IsShard, spans}
 use Rattle.cm_shards_manifest.specs.declared.shard.Shard.{Shard}

@@ -1,4 +1,4 @@
-use Rattle.std.proofs.Common.{◌≡◌, ℕ, sym, subst}
+use Rattle.std.proofs.Common.{ℕ, sym, subst}
 use Rattle.cm_shards_join.specs.Leaves.{HasReadCause}
 use Rattle.cm_shards_manifest.specs.Paths.{name_of, path_of}
 use Rattle.cm_shards_join.proofs.taking.take_function.Goals as goal

@@ -1,5 +1,4 @@
-use Rattle.std.proofs.Common.{◌≡◌, ◌∙◌, ◌≤◌, length, ap, arith, subst}
-use Rattle.cm_shards_query.specs.Taking.{HasTaken}
+use Rattle.std.proofs.Common.{◌∙◌, arith}
 use Rattle.cm_shards_query.proofs.taking.gather.Goals as goal
 
 pub returns-then-not-take_next-clause-takes : goal.returns-then-not-take_next-clause-takes

@@ -1,6 +1,6 @@
 use Rattle.std.proofs.Common.{◌∙◌, sym, arith}
 use Rattle.std.proofs.lemmas.Bool.{false≢true}
-use Rattle.cm_shards_query.proofs.TakingLemmas.{taken_more, taken_none}
+use Rattle.cm_shards_query.proofs.TakingLemmas.{taken_none}
 use Rattle.cm_shards_query.proofs.taking.take_first.Goals as goal
 
 pub returns-then-take_next-clause-fills : goal.returns-then-take_next-clause-fills

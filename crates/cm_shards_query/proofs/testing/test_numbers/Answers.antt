@@ -1,4 +1,4 @@
-use Rattle.std.proofs.Common.{◌≡◌, ◌∙◌, ◌<◌, ◌≤◌, ◌*◌, ℕ, ◌+◌, ◌-◌, [], length, take, drop, Some, refl, ap, sym, arith}
+use Rattle.std.proofs.Common.{◌≡◌, ◌∙◌, ◌*◌, ℕ, ◌+◌, ◌-◌, length, take, drop, Some, refl, ap, sym, arith}
 use Rattle.cm_io.specs.Passes.{Told}
 use Rattle.cm_keys.specs.Streams.{told_by}
 use Rattle.cm_query_batch.specs.BatchLaws.{ahead_of, first_of, none_waits}

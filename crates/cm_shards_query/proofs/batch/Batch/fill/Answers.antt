@@ -1,4 +1,4 @@
-use Rattle.std.proofs.Common.{◌≡◌, ◌≤◌, ◌-◌, ◌<◌, ◌∙◌, [], length, ap, sym, arith}
+use Rattle.std.proofs.Common.{◌≡◌, ◌-◌, ◌<◌, ◌∙◌, length, sym, arith}
 use Rattle.cm_shards_files.specs.Shards.{number_in, total_of}
 use Rattle.cm_shards_query.proofs.TakingLemmas.{taken_answers, taken_counts, taken_refills}
 use Rattle.cm_shards_query.proofs.batch.Batch.fill.Goals as goal

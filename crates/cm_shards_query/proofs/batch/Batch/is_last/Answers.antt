@@ -1,4 +1,4 @@
-use Rattle.std.proofs.Common.{◌∙◌, ◌+◌, ◌≡◌, length, ap, arith}
+use Rattle.std.proofs.Common.{◌+◌, ◌≡◌, ap, arith}
 use Rattle.std.proofs.lemmas.Bool.{eq-eqb, eqb-true}
 use Rattle.cm_query_batch.specs.Waiting.{WaitingKeys}
 use Rattle.cm_shards_query.proofs.TakingLemmas.{waiting_count}
