@@ -18,6 +18,9 @@
 extern "C" {
 #endif
 
+/* The version of this header: major * 10000 + minor * 100 + patch, so 2.0.0. Structs and codes stay as they are as long as major does. */
+#define CMPH_C_VERSION 20000
+
 /* The number that stands for none. */
 #define CMPH_C_NONE UINT32_MAX
 
@@ -91,6 +94,9 @@ typedef struct cmph_c_plan {
     uint32_t seed;      /* the first seed */
     uint32_t tries;     /* how many seeds are tried, from 1 to 1000 */
 } cmph_c_plan;
+
+/* The version of the library that is linked: CMPH_C_VERSION, if it is of the same release as this header. */
+uint32_t cmph_c_version(void);
 
 /*
  * Opens the function in the bytes of its file: `dump_len` bytes at `dump`. CMPH_C_OK if they are a function, which `out` then holds; else the code of the

@@ -24,6 +24,7 @@ ARCHIVE = Path(sys.argv[2] if len(sys.argv) > 2 else TOP / "crates" / "cmph_c" /
 LIBC = Path(shutil.which("rt")).resolve().parent.parent / "c" / "liblibc_c.a"  # memory of the C library, for the archive
 HEADER = TOP / "library" / "cmph_c.h"
 CALLER = TOP / "tests" / "library" / "caller.c"
+NUMBERS = {name: int(number) for name, number in re.findall(r"#define CMPH_C_(\w+) (\d+)", HEADER.read_text())}  # of the header
 ALGORITHMS = ["chm", "bdz", "bdz_ph", "brz"]
 PLANS = {"chm": (1, 2_090_000), "bdz": (2, 1_230_000), "bdz_ph": (3, 1_230_000)}  # of the algorithms that the library builds by
 LONGEST = {"chm": 455_836_984, "bdz": 23_215_501, "bdz_ph": 16_508_805}  # bytes of the file of MOST_KEYS keys (docs/use/formats.md)
@@ -85,6 +86,12 @@ def names():
     listed = run("nm", "-g", "--defined-only", ARCHIVE).stdout
     exported = {line.split()[-1] for line in listed.splitlines() if " T " in line}
     case("the header declares what the library exports", declared ^ exported)
+
+
+def version(room, caller):
+    """The version of the library is that of the header."""
+    left = run(caller, "version", cwd=room)
+    case("the version", left.stdout != f"{NUMBERS['VERSION']}\n" and left)
 
 
 def numbers(room, caller, function, keys):
@@ -281,6 +288,7 @@ def cases(room, callers):
             else:
                 spills(room, caller, watch)
     for caller in callers[:1]:
+        version(room, caller)
         shards = run(caller, "route", 3, 7, "words", cwd=room).stdout.split()
         wanted = [str(judge.hashes(line.encode(), 3)[2] % 7) for line in (room / "words").read_text().split("\n") if line]
         case("shards", shards != wanted)

@@ -63,7 +63,7 @@ def in_header(text):
     calls = re.findall(r"(\w+) (cmph_c_\w+)\(([^)]*)\);", text)
     structs = re.findall(r"typedef struct (\w+) \{([^}]*)\}", text)
     numbers = re.findall(r"#define (CMPH_C_\w+) (\d+|UINT32_MAX)", text)
-    return {f"fn {name}({', '.join(map(of_c, words.split(',')))}) -> {TYPES[left]}" for left, name, words in calls} \
+    return {f"fn {name}({', '.join(map(of_c, words.split(',') if words != 'void' else []))}) -> {TYPES[left]}" for left, name, words in calls} \
         | {f"struct {name} {', '.join(map(of_c, fields.split(';')[:-1]))}" for name, fields in structs} \
         | {f"const {name} {number.replace('UINT32_MAX', 'u32::MAX')}" for name, number in numbers}
 

@@ -1,6 +1,7 @@
 /*
  * A caller of the C library, for tests/library.py; as C++ too.
  *
+ *   caller version                                  the version of the library
  *   caller numbers FUNCTION KEYS                    a line for each line of KEYS: its number, or - ; one at a time and in batches
  *   caller open FUNCTION ..                         a line for each file: the code, and the offset
  *   caller room ALGORITHM RATIO B KEYS ..           a line for each number of keys: how many bytes the function file has
@@ -358,7 +359,9 @@ static void damages(char **words, int many) {
 
 int main(int many, char **words) {
     const char *job = many > 1 ? words[1] : "";
-    if (!strcmp(job, "numbers") && many == 4)
+    if (!strcmp(job, "version") && many == 2)
+        printf("%u\n", (unsigned)cmph_c_version());
+    else if (!strcmp(job, "numbers") && many == 4)
         numbers(words[2], words[3]);
     else if (!strcmp(job, "open"))
         opens(words + 2, many - 2);

@@ -12,6 +12,7 @@ mod function;
 mod opening;
 mod routing;
 mod spilling;
+mod version;
 
 pub use crate::answering::{cmph_c_answer, cmph_c_answers};
 pub use crate::building::{Plan, cmph_c_build, cmph_c_room};
@@ -20,3 +21,4 @@ pub use crate::function::Function;
 pub use crate::opening::cmph_c_open;
 pub use crate::routing::cmph_c_route;
 pub use crate::spilling::cmph_c_build_brz;
+pub use crate::version::cmph_c_version;

@@ -7,6 +7,9 @@ from typing import Any
 
 FILE = "libcmph_c.so.1"
 
+VERSION = 20_000
+"""The version of the header: major * 10,000 + minor * 100 + patch."""
+
 NONE = 0xFFFFFFFF
 """The number that stands for none."""
 
@@ -99,6 +102,7 @@ except OSError as _error:
 _BYTES = _ENDS = _NUMBERS = (c_void_p, c_size_t)
 _PLACE = ctypes.POINTER(CPlace)
 
+c_version = _bind(_one, "cmph_c_version", c_uint32)
 c_open = _bind(_many, "cmph_c_open", c_uint32, *_BYTES, *_NUMBERS, ctypes.POINTER(CFunction), _PLACE)
 c_answer = _bind(_one, "cmph_c_answer", c_uint32, c_void_p, ctypes.c_char_p, c_size_t)
 c_answers = _bind(_many, "cmph_c_answers", c_uint32, c_void_p, *_BYTES, *_ENDS, *_NUMBERS, _PLACE)

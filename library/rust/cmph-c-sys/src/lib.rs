@@ -8,6 +8,9 @@
 
 use core::ptr::NonNull;
 
+/// The version of the header: `major * 10,000 + minor * 100 + patch`. Structs and codes stay as they are as long as `major` does.
+pub const CMPH_C_VERSION: u32 = 20000;
+
 /// The number that stands for none.
 pub const CMPH_C_NONE: u32 = u32::MAX;
 
@@ -151,6 +154,9 @@ pub struct cmph_c_plan {
 }
 
 extern "C" {
+    /// The version of the library that is linked: [`CMPH_C_VERSION`], if it is of the same release as these declarations.
+    pub fn cmph_c_version() -> u32;
+
     /// Opens the function in the bytes of its file.
     pub fn cmph_c_open(
         dump: *const u8,
