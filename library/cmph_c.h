@@ -76,7 +76,7 @@ typedef struct cmph_c_function {
     uint64_t keys_scaled;  /* 2^32 / keys, by CHM alone */
     uint32_t kind;         /* CMPH_C_CHM, CMPH_C_BDZ, CMPH_C_BDZ_PH, CMPH_C_BRZ, or 0 for none */
     uint32_t keys;         /* how many keys the function was built over */
-    uint32_t span;         /* all numbers are below it */
+    uint32_t span;         /* all numbers are below it; with another span than that of its function a struct holds none */
     uint32_t ratio;        /* vertices a key, in millionths */
     uint32_t seed;         /* of the hash, or by BRZ of the split into buckets */
     uint32_t size;         /* vertices by CHM, a third of them by BDZ and BDZ_PH, buckets by BRZ */
@@ -107,14 +107,14 @@ uint32_t cmph_c_version(void);
 uint32_t cmph_c_open(const uint8_t *dump, size_t dump_len, uint64_t *index, size_t index_len, cmph_c_function *out, cmph_c_place *place);
 
 /*
- * The number of a key, of `key_len` bytes at `key`: below function->span, or CMPH_C_NONE. Each key that the function was built over has a number
- * of its own. Another key has any number, or none.
+ * The number of a key, of `key_len` bytes at `key`: below function->span, or CMPH_C_NONE, whatever the struct and what it points to are. Each key that
+ * the function was built over has a number of its own. Another key has any number, or none.
  */
 uint32_t cmph_c_answer(const cmph_c_function *function, const uint8_t *key, size_t key_len);
 
 /*
  * The numbers of many keys, which stand one after another in the `keys_len` bytes at `keys`: key i is the bytes from ends[i - 1] (from 0 for the first
- * key) up to ends[i]. numbers[i] is the number of key i, or CMPH_C_NONE; `numbers_len` is at least `ends_len`. CMPH_C_NO_FUNCTION, CMPH_C_BAD_END,
+ * key) up to ends[i]. numbers[i] is the number of key i, below function->span, or CMPH_C_NONE; `numbers_len` is at least `ends_len`. CMPH_C_NO_FUNCTION, CMPH_C_BAD_END,
  * CMPH_C_TOO_MANY_KEYS and CMPH_C_NO_ROOM put no number.
  */
 uint32_t cmph_c_answers(const cmph_c_function *function, const uint8_t *keys, size_t keys_len, const uint64_t *ends, size_t ends_len,

@@ -1,6 +1,6 @@
 -- The function that a struct holds, and its number of a key.
 use Rattle.std.specs.Prelude.{Option, None, Some, IfNone, IfSome}
-use Rattle.std.proofs.Common.{◌≡◌, ◌∙◌, ℕ, List, ap, arith, refl, sym}
+use Rattle.std.proofs.Common.{◌≡◌, ◌≢◌, ◌∙◌, ℕ, List, ap, arith, refl, sym}
 use Rattle.cm_dump.specs.declared.versions.Version.{Version}
 use Rattle.cm_dump.specs.declared.versions.Version.TheVariants as version
 use Rattle.cm_dump_brz.specs.Indexed.{IndexedBrz, brz_held, indexed_answer}
@@ -14,19 +14,19 @@ use Rattle.cmph_c.specs.declared.function.Function.{Function}
 use Rattle.cmph_c.specs.declared.function.TheConstants.{BRZ}
 
 -- a struct of another algorithm holds none by BRZ, and the other way round
-pub none_held : (c : Function) → c.kind ≡ BRZ → ((f : IndexedBrz) → HoldsBrz c f → ⊥) → IsHeld c → ⊥
-none_held c kind none (lent.Chm f, is) = omega (arith, kind, is.0)
-none_held c kind none (lent.Bdz f, is) = omega (arith, kind, is.0)
-none_held c kind none (lent.BdzPh f, is) = omega (arith, kind, is.0)
-none_held c kind none (lent.Brz f, is) = none f is.1
+pub none_held : (c : Function) → c.kind ≡ BRZ → ((f : IndexedBrz) → HoldsBrz c f → c.span ≢ f.keys) → IsHeld c → ⊥
+none_held c kind none (lent.Chm f, is) = omega (arith, kind, is.0.0)
+none_held c kind none (lent.Bdz f, is) = omega (arith, kind, is.0.0)
+none_held c kind none (lent.BdzPh f, is) = omega (arith, kind, is.0.0)
+none_held c kind none (lent.Brz f, is) = none f is.0.1 is.1
 
 -- a struct that holds no function has no number
 pub no_number : {T : Type 0} (c : Function) (by : T → Lent) (o : Option T) (r : ℕ) → IfSome o (λ f. Holds c (by f)) → IfNone o (r ≡ NONE) → (IsHeld c → ⊥) → r ≡ NONE
 no_number c by (Some f) r held none not = absurd (not (by f, held))
 no_number c by None r held none not = none
 
-pub no_brz_number : (c : Function) (o : Option IndexedBrz) (r : ℕ) → c.kind ≡ BRZ → IfSome o (HoldsBrz c) → IfNone o (r ≡ NONE) → (IsHeld c → ⊥) → r ≡ NONE
-no_brz_number c (Some f) r kind held none not = absurd (not (lent.Brz f, (kind, held)))
+pub no_brz_number : (c : Function) (o : Option IndexedBrz) (r : ℕ) → c.kind ≡ BRZ → IfSome o (λ f. HoldsBrz c f × (c.span ≡ f.keys)) → IfNone o (r ≡ NONE) → (IsHeld c → ⊥) → r ≡ NONE
+no_brz_number c (Some f) r kind held none not = absurd (not (lent.Brz f, ((kind, held.0), held.1)))
 no_brz_number c None r kind held none not = none
 
 -- a number names one version
@@ -41,10 +41,10 @@ same_brz : (c : Function) (f g : IndexedBrz) → HoldsBrz c f → HoldsBrz c g �
 same_brz c f g one other = one.is ∙ ap (λ (v : Version). brz_held (brz_parts c v)) (same_version one.version other.version (sym one.named ∙ other.named)) ∙ sym other.is
 
 -- the number by this one
-pub brz_number : (c : Function) (key : List ℕ) (o : Option IndexedBrz) (r : ℕ) → c.kind ≡ BRZ → IfSome o (HoldsBrz c) → IfNone o ((f : IndexedBrz) → HoldsBrz c f → ⊥) → IfSome o (λ f. r ≡ number_or_none (indexed_answer f key))
+pub brz_number : (c : Function) (key : List ℕ) (o : Option IndexedBrz) (r : ℕ) → c.kind ≡ BRZ → IfSome o (λ f. HoldsBrz c f × (c.span ≡ f.keys)) → IfNone o ((f : IndexedBrz) → HoldsBrz c f → c.span ≢ f.keys) → IfSome o (λ f. r ≡ number_or_none (indexed_answer f key))
     → (f : Lent) → Holds c f → r ≡ number_or_none (lent_answer f key)
-brz_number c key o r kind held none number (lent.Chm f) is = absurd (omega (arith, kind, is.0))
-brz_number c key o r kind held none number (lent.Bdz f) is = absurd (omega (arith, kind, is.0))
-brz_number c key o r kind held none number (lent.BdzPh f) is = absurd (omega (arith, kind, is.0))
-brz_number c key (Some g) r kind held none number (lent.Brz f) is = number ∙ ap (λ (h : IndexedBrz). number_or_none (indexed_answer h key)) (same_brz c g f held is.1)
-brz_number c key None r kind held none number (lent.Brz f) is = absurd (none f is.1)
+brz_number c key o r kind held none number (lent.Chm f) is = absurd (omega (arith, kind, is.0.0))
+brz_number c key o r kind held none number (lent.Bdz f) is = absurd (omega (arith, kind, is.0.0))
+brz_number c key o r kind held none number (lent.BdzPh f) is = absurd (omega (arith, kind, is.0.0))
+brz_number c key (Some g) r kind held none number (lent.Brz f) is = number ∙ ap (λ (h : IndexedBrz). number_or_none (indexed_answer h key)) (same_brz c g f held.0 is.0.1)
+brz_number c key None r kind held none number (lent.Brz f) is = absurd (none f is.0.1 is.1)

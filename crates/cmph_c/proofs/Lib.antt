@@ -1,3 +1,4 @@
 pub mod BuildLemmas
 pub mod HeldLemmas
 pub mod RoomLemmas
+pub mod SpanLemmas

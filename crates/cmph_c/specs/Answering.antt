@@ -1,11 +1,12 @@
 -- The numbers of many keys, and why none is put.
-use Rattle.std.specs.Prelude.{◌≡◌, ◌<◌, ◌⊎◌, ℕ, List, length}
+use Rattle.std.specs.Prelude.{◌≡◌, ◌≢◌, ◌<◌, ◌⊎◌, ℕ, List, length, slice_index}
 use Rattle.cm_dump_lent.specs.Opened.{lent_answer}
 use Rattle.cm_dump_lent.specs.declared.lent.Lent.{Lent}
 use Rattle.cm_keys_lent.specs.Ends.{AreEnds}
 use Rattle.cm_keys_lent.specs.Pass.{FailsEnds, LentPass}
 use Rattle.cm_keys_lent.specs.declared.ends.EndsFault.{EndsFault}
 use Rattle.cm_lib_lent.specs.Numbers.{ArePut}
+use Rattle.cm_lib_lent.specs.declared.numbers.TheConstants.{NONE}
 use Rattle.cmph_c.specs.Codes.{at_only, ends_code, ends_place}
 use Rattle.cmph_c.specs.Functions.{Holds, IsHeld}
 use Rattle.cmph_c.specs.declared.codes.Place.{Place}
@@ -22,6 +23,7 @@ pub record ArePutBy (c : Function) (bytes ends old new : List ℕ) : Type 0 wher
   pub holds : Holds c lent
   pub ends_are : AreEnds bytes ends
   pub put : ArePut (lent_answer lent) (pass_of bytes ends) 0 (length ends) old new
+  pub below : (i : ℕ) → i < length ends → slice_index new i ≢ NONE → slice_index new i < c.span
 
 -- the ends are wrong
 abbrev pub IsBadEnd : List ℕ → List ℕ → ℕ → Place → Type 0

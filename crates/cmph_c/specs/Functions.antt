@@ -9,8 +9,10 @@ use Rattle.cm_dump.specs.declared.versions.Version.{Version}
 use Rattle.cm_dump.specs.declared.versions.Version.TheVariants as version
 use Rattle.cm_dump_brz.specs.Indexed.{FitsBrz, IndexedBrz, brz_held}
 use Rattle.cm_dump_brz.specs.declared.lent.LentBrzParts.{LentBrzParts}
+use Rattle.cm_dump_lent.specs.Opened.{func_by}
 use Rattle.cm_dump_lent.specs.declared.lent.Lent.{Lent}
 use Rattle.cm_dump_lent.specs.declared.lent.Lent.TheVariants as lent
+use Rattle.cm_func.specs.Functions.{span_by}
 use Rattle.cmph_c.specs.declared.function.Function.{Function}
 use Rattle.cmph_c.specs.declared.function.TheConstants.{BDZ, BDZ_PH, BRZ, CHM}
 
@@ -43,12 +45,16 @@ pub record HoldsBrz (c : Function) (f : IndexedBrz) : Type 0 where
   pub fits : FitsBrz (brz_parts c version)
   pub is : f ≡ brz_held (brz_parts c version)
 
--- a struct holds a function: its parts are such a function's, by the algorithm that it names
+-- the parts of a struct are those of a function, by the algorithm that it names
+abbrev pub HasParts : Function → Lent → Type 0
+HasParts c (lent.Chm f) = (c.kind ≡ CHM) × FitsChm (chm_parts c) × (f ≡ chm_held (chm_parts c))
+HasParts c (lent.Bdz f) = (c.kind ≡ BDZ) × FitsBdz (bdz_parts c) × (f ≡ bdz_held (bdz_parts c))
+HasParts c (lent.BdzPh f) = (c.kind ≡ BDZ_PH) × FitsBdzPh (bdz_ph_parts c) × (f ≡ bdz_ph_held (bdz_ph_parts c))
+HasParts c (lent.Brz f) = (c.kind ≡ BRZ) × HoldsBrz c f
+
+-- a struct holds a function: its parts are such a function's, and its span is that of this function
 abbrev pub Holds : Function → Lent → Type 0
-Holds c (lent.Chm f) = (c.kind ≡ CHM) × FitsChm (chm_parts c) × (f ≡ chm_held (chm_parts c))
-Holds c (lent.Bdz f) = (c.kind ≡ BDZ) × FitsBdz (bdz_parts c) × (f ≡ bdz_held (bdz_parts c))
-Holds c (lent.BdzPh f) = (c.kind ≡ BDZ_PH) × FitsBdzPh (bdz_ph_parts c) × (f ≡ bdz_ph_held (bdz_ph_parts c))
-Holds c (lent.Brz f) = (c.kind ≡ BRZ) × HoldsBrz c f
+Holds c f = HasParts c f × (c.span ≡ span_by (func_by f))
 
 -- a struct holds some function
 abbrev pub IsHeld : Function → Type 0

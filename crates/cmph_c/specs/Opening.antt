@@ -6,20 +6,19 @@ use Rattle.cm_dump_brz.specs.declared.fault.OpenFault.TheVariants as fault
 use Rattle.cm_dump_items.specs.Reading.{IsByteFault}
 use Rattle.cm_dump_lent.specs.Opened.{IsOpenFault, LacksIndex, func_by, lent_answer}
 use Rattle.cm_dump_lent.specs.declared.lent.Lent.{Lent}
-use Rattle.cm_func.specs.Functions.{answer_by, span_by}
+use Rattle.cm_func.specs.Functions.{answer_by}
 use Rattle.cmph_c.specs.Codes.{at_only, code_by, place_by}
 use Rattle.cmph_c.specs.Functions.{Holds}
 use Rattle.cmph_c.specs.declared.codes.Place.{Place}
 use Rattle.cmph_c.specs.declared.codes.TheConstants.{NO_ROOM}
 use Rattle.cmph_c.specs.declared.function.Function.{Function}
 
--- The struct holds the function that the bytes spell, and so answers each key as that one does. There was room for the index.
+-- The struct holds the function that the bytes spell, with its span, and so answers each key as that one does. There was room for the index.
 pub record IsOpened (bytes : List ℕ) (room : ℕ) (c : Function) : Type 0 where
   pub lent : Lent
   pub holds : Holds c lent
   pub spelled : spelling_of bytes ≡ Ok (func_by lent)
   pub answers : (key : List ℕ) → lent_answer lent key ≡ answer_by (func_by lent) key
-  pub span : c.span ≡ span_by (func_by lent)
   pub indexed : LacksIndex bytes room → ⊥
 
 -- the code of a refusal

@@ -1,5 +1,5 @@
 //! The numbers of keys.
-ghost use Rattle.std.specs.Prelude.{◌≡◌, ◌≢◌, IfNone, IfSome};
+ghost use Rattle.std.specs.Prelude.{◌≡◌, ◌≢◌, ◌<◌, IfNone, IfSome};
 ghost use Rattle.cm_dump_lent.specs.Opened.{lent_answer};
 ghost use Rattle.cm_dump_lent.specs.declared.lent.Lent.{Lent};
 ghost use Rattle.cm_lib_lent.specs.Numbers.{number_or_none};
@@ -19,6 +19,7 @@ use cm_lib_lent::{NONE, answers_into, number_or_none};
 #[inline(always)]
 fn number_by<A: Answers + Drop>(function: Option<A>, key: &[u8]) -> u32
     ensures number { IfSome function (λ f. result ≡ number_or_none (A.answer_of f key.now)) }
+    ensures below { IfSome function (λ f. result ≢ NONE → result < A.span_of f) }
     ensures none { IfNone function (result ≡ NONE) }
 {
     match function {
@@ -27,12 +28,13 @@ fn number_by<A: Answers + Drop>(function: Option<A>, key: &[u8]) -> u32
     }
 }
 
-/// The number of a key by the function that a struct holds, or `2^32 - 1` if the key has none, or the struct holds no function. The algorithm is
-/// looked at once.
+/// The number of a key by the function that a struct holds, or `2^32 - 1` if the key has none, or the struct holds no function. It is below the
+/// span, whatever the struct and the bytes are. The algorithm is looked at once.
 #[unsafe(no_mangle)]
 pub extern "C" fn cmph_c_answer(function: &Function<'_>, key: &[u8]) -> u32
     ensures number { (f : Lent) → Holds function.now f → result ≡ number_or_none (lent_answer f key.now) }
     ensures none { (IsHeld function.now → ⊥) → result ≡ NONE }
+    ensures below { result ≢ NONE → result < function.now.span }
 {
     match function.kind {
         CHM => number_by(chm_held(function), key),
@@ -44,7 +46,7 @@ pub extern "C" fn cmph_c_answer(function: &Function<'_>, key: &[u8]) -> u32
 }
 
 /// The numbers of many keys by the function that a struct holds. The keys stand one after another in `keys`, each up to its end. Number `i` is that of
-/// key `i`, or `2^32 - 1`; those past the last key's stay as they were. Returns `OK`, or `NO_FUNCTION`, `BAD_END` with the first key whose end is wrong,
+/// key `i`, below the span, or `2^32 - 1`; those past the last key's stay as they were. Returns `OK`, or `NO_FUNCTION`, `BAD_END` with the first key whose end is wrong,
 /// `TOO_MANY_KEYS`, or `NO_ROOM` with the number of keys, and then no number is put.
 #[unsafe(no_mangle)]
 pub extern "C" fn cmph_c_answers(

@@ -1,12 +1,10 @@
 //! A function in memory of the caller's.
-ghost use Rattle.std.specs.Prelude.{◌≡◌, ◌<◌, ℕ, IfNone, IfSome};
+ghost use Rattle.std.specs.Prelude.{◌≡◌, ◌≢◌, ◌<◌, ℕ, IfNone, IfSome, Some};
 ghost use Rattle.cm_bdz.specs.Lent.{FitsBdz, FitsBdzPh};
 ghost use Rattle.cm_chm.specs.Parts.{FitsChm};
 ghost use Rattle.cm_dump_brz.specs.Indexed.{FitsBrz, IndexedBrz};
 ghost use Rattle.cm_dump_brz.specs.Indexed as indexed;
-ghost use Rattle.cm_dump_lent.specs.Opened.{func_by};
 ghost use Rattle.cm_dump_lent.specs.declared.lent.Lent.TheVariants as lent;
-ghost use Rattle.cm_func.specs.Functions.{span_by};
 ghost use Rattle.cmph_c.specs.Functions.{Holds, HoldsBrz, IsHeld, bdz_parts, bdz_ph_parts, brz_parts, chm_parts, number_of};
 
 use cm_algo_scheme::Answers;
@@ -50,7 +48,7 @@ pub struct Function<'a> {
     pub kind: u32,
     /// How many keys the function was built over.
     pub keys: u32,
-    /// All numbers are below it.
+    /// All numbers are below it. It is that of the function, or the struct holds none.
     pub span: u32,
     /// The ratio of vertices to keys, in millionths.
     pub ratio: u32,
@@ -91,6 +89,24 @@ pub(crate) fn held<'a>(function: &Function<'a>) -> Option<Lent<'a>>
     }
 }
 
+/// A function whose span this is, or none.
+#[inline(always)]
+fn with_span<A: Answers + Drop>(function: Option<A>, span: u32) -> Option<A>
+    ensures held { IfSome result (λ f. (function ≡ Some f) × (span ≡ A.span_of f)) }
+    ensures none { IfNone result (IfSome function (λ f. span ≢ A.span_of f)) }
+{
+    match function {
+        Some(function) => {
+            if function.span() == span {
+                Some(function)
+            } else {
+                None
+            }
+        }
+        None => None,
+    }
+}
+
 /// The function by CHM that a struct of this algorithm holds, or none.
 #[inline(always)]
 pub(crate) fn chm_held<'a>(function: &Function<'a>) -> Option<LentChm<'a>>
@@ -98,7 +114,7 @@ pub(crate) fn chm_held<'a>(function: &Function<'a>) -> Option<LentChm<'a>>
     ensures held { IfSome result (λ f. Holds function.now (lent.Chm f)) }
     ensures none { IfNone result (IsHeld function.now → ⊥) }
 {
-    LentChm::of(chm_parts_of(function))
+    with_span(LentChm::of(chm_parts_of(function)), function.span)
 }
 
 /// The function by BDZ that a struct of this algorithm holds, or none.
@@ -111,7 +127,7 @@ pub(crate) fn bdz_held<'a>(function: &Function<'a>) -> Option<LentBdz<'a>>
     if function.b > 10 {
         return None;
     }
-    LentBdz::of(bdz_parts_of(function))
+    with_span(LentBdz::of(bdz_parts_of(function)), function.span)
 }
 
 /// The function by BDZ_PH that a struct of this algorithm holds, or none.
@@ -121,12 +137,12 @@ pub(crate) fn bdz_ph_held<'a>(function: &Function<'a>) -> Option<LentBdzPh<'a>>
     ensures held { IfSome result (λ f. Holds function.now (lent.BdzPh f)) }
     ensures none { IfNone result (IsHeld function.now → ⊥) }
 {
-    LentBdzPh::of(bdz_ph_parts_of(function))
+    with_span(LentBdzPh::of(bdz_ph_parts_of(function)), function.span)
 }
 
-/// The function by BRZ that a struct holds, or none.
+/// The function by BRZ of the parts of a struct, or none.
 #[inline(always)]
-pub(crate) fn brz_held<'a>(function: &Function<'a>) -> Option<LentBrz<'a>>
+fn brz_of<'a>(function: &Function<'a>) -> Option<LentBrz<'a>>
     ensures held { IfSome result (λ f. HoldsBrz function.now f) }
     ensures none { IfNone result ((f : IndexedBrz) → HoldsBrz function.now f → ⊥) }
 {
@@ -138,6 +154,15 @@ pub(crate) fn brz_held<'a>(function: &Function<'a>) -> Option<LentBrz<'a>>
         2 => LentBrz::of(brz_parts_of(function, Version::Two)),
         _ => None,
     }
+}
+
+/// The function by BRZ that a struct holds, or none.
+#[inline(always)]
+pub(crate) fn brz_held<'a>(function: &Function<'a>) -> Option<LentBrz<'a>>
+    ensures held { IfSome result (λ f. HoldsBrz function.now f × (function.now.span ≡ f.keys)) }
+    ensures none { IfNone result ((f : IndexedBrz) → HoldsBrz function.now f → function.now.span ≢ f.keys) }
+{
+    with_span(brz_of(function), function.span)
 }
 
 /// The parts of a function by CHM.
@@ -211,7 +236,6 @@ fn brz_parts_of<'a>(function: &Function<'a>, version: Version) -> LentBrzParts<'
 /// Puts a function into the caller's struct.
 pub(crate) fn put<'a>(lent: &Lent<'a>, out: &mut Function<'a>)
     ensures holds { Holds out.new lent.now }
-    ensures span { out.new.span ≡ span_by (func_by lent.now) }
 {
     let span = lent.span();
     *out = match lent {
