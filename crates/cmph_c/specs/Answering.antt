@@ -1,9 +1,8 @@
 -- The numbers of many keys, and why none is put.
-use Rattle.std.specs.Prelude.{◌≡◌, ◌≢◌, ◌<◌, ◌⊎◌, ℕ, List, length, slice_index}
+use Rattle.std.specs.Prelude.{◌≡◌, ◌≢◌, ◌<◌, ◌≤◌, ◌⊎◌, ℕ, List, length, slice_index}
 use Rattle.cm_dump_lent.specs.Opened.{lent_answer}
 use Rattle.cm_dump_lent.specs.declared.lent.Lent.{Lent}
-use Rattle.cm_keys_lent.specs.Ends.{AreEnds}
-use Rattle.cm_keys_lent.specs.Pass.{FailsEnds, LentPass}
+use Rattle.cm_keys_lent.specs.Pass.{FailsEnds, IsLentPass, LentPass}
 use Rattle.cm_keys_lent.specs.declared.ends.EndsFault.{EndsFault}
 use Rattle.cm_lib_lent.specs.Numbers.{ArePut}
 use Rattle.cm_lib_lent.specs.declared.numbers.TheConstants.{NONE}
@@ -21,7 +20,8 @@ pass_of bytes ends = record { bytes = bytes; ends = ends; given = 0 }
 pub record ArePutBy (c : Function) (bytes ends old new : List ℕ) : Type 0 where
   pub lent : Lent
   pub holds : Holds c lent
-  pub ends_are : AreEnds bytes ends
+  pub keys_are : IsLentPass (pass_of bytes ends)
+  pub room : length ends ≤ length old
   pub put : ArePut (lent_answer lent) (pass_of bytes ends) 0 (length ends) old new
   pub below : (i : ℕ) → i < length ends → slice_index new i ≢ NONE → slice_index new i < c.span
 
@@ -29,11 +29,12 @@ pub record ArePutBy (c : Function) (bytes ends old new : List ℕ) : Type 0 wher
 abbrev pub IsBadEnd : List ℕ → List ℕ → ℕ → Place → Type 0
 IsBadEnd bytes ends code place = (fault : EndsFault) × FailsEnds bytes ends fault × (code ≡ ends_code fault) × (place ≡ at_only (ends_place fault))
 
--- there are fewer places than keys
-abbrev pub IsShort : List ℕ → List ℕ → ℕ → Place → Type 0
-IsShort ends numbers code place = (length numbers < length ends) × (code ≡ NO_ROOM) × (place ≡ at_only (length ends))
+-- they are right, and there are fewer places than keys
+abbrev pub IsShort : List ℕ → List ℕ → List ℕ → ℕ → Place → Type 0
+IsShort bytes ends numbers code place = IsLentPass (pass_of bytes ends) × (length numbers < length ends) × (code ≡ NO_ROOM) × (place ≡ at_only (length ends))
 
--- no number is put: the struct holds no function, or the ends are wrong, or there is no room
+-- No number is put: the struct holds no function; or it does, and the ends are wrong; or these are right, and there is no room. So one code alone is
+-- right.
 abbrev pub IsUnput : Function → List ℕ → List ℕ → List ℕ → ℕ → Place → Type 0
 IsUnput c bytes ends numbers code place =
-    ((IsHeld c → ⊥) × (code ≡ NO_FUNCTION) × (place ≡ at_only 0)) ⊎ (IsBadEnd bytes ends code place ⊎ IsShort ends numbers code place)
+    ((IsHeld c → ⊥) × (code ≡ NO_FUNCTION) × (place ≡ at_only 0)) ⊎ (IsHeld c × (IsBadEnd bytes ends code place ⊎ IsShort bytes ends numbers code place))

@@ -2,7 +2,7 @@
 use Rattle.std.specs.Prelude.{◌≡◌, ◌-◌, ◌≤◌, ◌⊎◌, ◌==◌, ℕ, List, [], ◌∷◌, Option, None, Some, if◌then◌else◌}
 use Rattle.cm_algo_names.specs.declared.algorithm.Algorithm.{Algorithm}
 use Rattle.cm_algo_names.specs.declared.algorithm.Algorithm.TheVariants as algorithm
-use Rattle.cm_keys_lent.specs.Ends.{AreEnds}
+use Rattle.cm_keys_lent.specs.Pass.{IsLentPass}
 use Rattle.cm_lib_lent.specs.Builds.{FailsLent, IsSaved}
 use Rattle.cm_lib_lent.specs.Rooms.{dump_len_by}
 use Rattle.cm_lib_lent.specs.declared.building.LentFault.{LentFault}
@@ -60,7 +60,7 @@ IsRoomFor p keys n = (plan : planned.Plan) → IsPlanFor p plan → n ≡ dump_l
 -- The room begins with the file of the function of the keys.
 pub record IsBuilt (p : Plan) (bytes ends : List ℕ) (written : ℕ) (old new : List ℕ) : Type 0 where
   pub good : IsGoodPlan p
-  pub ends_are : AreEnds bytes ends
+  pub keys_are : IsLentPass (pass_of bytes ends)
   pub plan : planned.Plan
   pub planned : IsPlanFor p plan
   pub saved : IsSaved plan (seeds_of p.seed p.tries) (pass_of bytes ends) written old new
@@ -105,8 +105,7 @@ build_again fault = 0
 
 -- There is no function in the room, for this reason.
 pub record FailsBuild (p : Plan) (bytes ends : List ℕ) (room code : ℕ) (place : Place) : Type 0 where
-  pub good : IsGoodPlan p
-  pub ends_are : AreEnds bytes ends
+  pub keys_are : IsLentPass (pass_of bytes ends)
   pub plan : planned.Plan
   pub planned : IsPlanFor p plan
   pub fault : LentFault
@@ -114,7 +113,8 @@ pub record FailsBuild (p : Plan) (bytes ends : List ℕ) (room code : ℕ) (plac
   pub code_is : code ≡ build_code fault
   pub place_is : (place.at ≡ build_place fault) × (place.again ≡ build_again fault)
 
--- the plan is refused, or the ends are, or the build is
+-- The plan is refused; or it is good, and the ends are refused; or they are right, and the build is refused.
 abbrev pub IsUnbuilt : Plan → List ℕ → List ℕ → ℕ → ℕ → Place → Type 0
 IsUnbuilt p bytes ends room code place =
-    ((IsGoodPlan p → ⊥) × (code ≡ BAD_PLAN) × (place ≡ at_only 0)) ⊎ (IsBadEnd bytes ends code place ⊎ FailsBuild p bytes ends room code place)
+    ((IsGoodPlan p → ⊥) × (code ≡ BAD_PLAN) × (place ≡ at_only 0))
+    ⊎ (IsGoodPlan p × (IsBadEnd bytes ends code place ⊎ FailsBuild p bytes ends room code place))

@@ -1,7 +1,7 @@
 -- What a build by BRZ puts into the caller's room, and why there is no function.
 use Rattle.std.specs.Prelude.{◌≡◌, ◌≤◌, ◌⊎◌, ℕ, List}
 use Rattle.cm_algo_names.specs.declared.algorithm.Algorithm.TheVariants as algorithm
-use Rattle.cm_keys_lent.specs.Ends.{AreEnds}
+use Rattle.cm_keys_lent.specs.Pass.{IsLentPass}
 use Rattle.cm_lib_lent.specs.Builds.{FailsSpilled, IsSaved, spill_len_of}
 use Rattle.cm_lib_lent.specs.declared.building.LentFault.{LentFault}
 use Rattle.cm_spec.specs.Rule.{IsRatio}
@@ -33,7 +33,7 @@ pub record IsBrzPlanFor (p : Plan) (q : planned.Plan) : Type 0 where
 -- The room begins with the file of the function of the keys, and the spill had room for them.
 pub record IsBrzBuilt (p : Plan) (bytes ends : List ℕ) (spill written : ℕ) (old new : List ℕ) : Type 0 where
   pub good : IsGoodBrz p
-  pub ends_are : AreEnds bytes ends
+  pub keys_are : IsLentPass (pass_of bytes ends)
   pub plan : planned.Plan
   pub planned : IsBrzPlanFor p plan
   pub spilled : spill_len_of (pass_of bytes ends) ≤ spill
@@ -41,8 +41,7 @@ pub record IsBrzBuilt (p : Plan) (bytes ends : List ℕ) (spill written : ℕ) (
 
 -- There is no function in the room, for this reason.
 pub record FailsBrzBuild (p : Plan) (bytes ends : List ℕ) (spill room code : ℕ) (place : Place) : Type 0 where
-  pub good : IsGoodBrz p
-  pub ends_are : AreEnds bytes ends
+  pub keys_are : IsLentPass (pass_of bytes ends)
   pub plan : planned.Plan
   pub planned : IsBrzPlanFor p plan
   pub fault : LentFault
@@ -50,7 +49,8 @@ pub record FailsBrzBuild (p : Plan) (bytes ends : List ℕ) (spill room code : �
   pub code_is : code ≡ build_code fault
   pub place_is : (place.at ≡ build_place fault) × (place.again ≡ build_again fault)
 
--- the plan is refused, or the ends are, or the build is
+-- The plan is refused; or it is good, and the ends are refused; or they are right, and the build is refused.
 abbrev pub IsBrzUnbuilt : Plan → List ℕ → List ℕ → ℕ → ℕ → ℕ → Place → Type 0
 IsBrzUnbuilt p bytes ends spill room code place =
-    ((IsGoodBrz p → ⊥) × (code ≡ BAD_PLAN) × (place ≡ at_only 0)) ⊎ (IsBadEnd bytes ends code place ⊎ FailsBrzBuild p bytes ends spill room code place)
+    ((IsGoodBrz p → ⊥) × (code ≡ BAD_PLAN) × (place ≡ at_only 0))
+    ⊎ (IsGoodBrz p × (IsBadEnd bytes ends code place ⊎ FailsBrzBuild p bytes ends spill room code place))
