@@ -102,6 +102,27 @@ def numbers(room, caller, function, keys):
     case(f"{caller.name}: numbers of {function}", found.stderr or (not same and "other numbers than cmph's"))
 
 
+def fields_of(dump):
+    """The numbers and the lengths of the struct of a function, from the header of its file and the definitions."""
+    def number(at, len_=4):
+        return int.from_bytes(dump[at:at + len_], "little")
+
+    version, kind, keys, ratio, seed = int(dump[7:8]), dump[8], number(12), number(16), number(20)
+    b = number(10, 2) if version == 2 else dump[9]
+    third = max(3, -(-ratio * keys // 3_000_000) | 1)
+    size = {1: max(2, -(-ratio * keys // 1_000_000)), 2: third, 3: third, 4: -(-keys // b) if kind == 4 else 0}[kind]
+    width = {1: max(1, (keys - 1).bit_length()), 4: version}.get(kind, 0)
+    ranks = 4 * -(-3 * third // 2**b) if kind == 2 else 0
+    lens = (len(dump) if kind == 4 else len(dump) - 24 - ranks, ranks, size if kind == 4 else 0)
+    return *lens, 2**32 // size, 2**32 // keys if kind == 1 else 0, kind, keys, 3 * third if kind == 3 else keys, ratio, seed, size, width, b
+
+
+def fields(room, caller, function):
+    left = run(caller, "fields", function, cwd=room)
+    wanted = " ".join(map(str, fields_of((room / function).read_bytes())))
+    case(f"{caller.name}: the struct of {function}", left.stdout != f"{wanted}\n" and (left.stdout, left.stderr, wanted))
+
+
 def compared(room, paths, lines):
     """What is wrong with the codes of these files, beside what cmph says of them."""
     for path, line in zip(paths, lines):
@@ -274,6 +295,7 @@ def cases(room, callers):
         for caller in callers:
             for function in ("words", "some", "other"):
                 numbers(room, caller, f"{function}_{algorithm}", "words")
+                fields(room, caller, f"{function}_{algorithm}")
         for caller in callers[:1]:
             numbers(room, caller, f"many_{algorithm}", "many")
             watch = WATCH if shutil.which(WATCH[0]) else []

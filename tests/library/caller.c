@@ -4,6 +4,7 @@
  *   caller version                                  the version of the library
  *   caller numbers FUNCTION KEYS                    a line for each line of KEYS: its number, or - ; one at a time and in batches
  *   caller open FUNCTION ..                         a line for each file: the code, and the offset
+ *   caller fields FUNCTION                          the numbers and the lengths of the struct, in the order of the header
  *   caller room ALGORITHM RATIO B KEYS ..           a line for each number of keys: how many bytes the function file has
  *   caller build ALGORITHM RATIO B SEED TRIES KEYS OUT     writes the function file; prints the code, `at` and `again`
  *   caller spilled RATIO B SEED TRIES KEYS OUT      the same by BRZ
@@ -54,6 +55,15 @@ static void opens(char **paths, int many) {
         free(index.at);
         free(dump.at);
     }
+}
+
+static void fields(const char *path) {
+    cmph_c_function f = CMPH_C_FUNCTION_INIT;
+    cmph_c_place place;
+    index_room index;
+    if (open_exactly(read_file(path), &index, &f, &place) != CMPH_C_OK) fail("not opened");
+    printf("%zu %zu %zu %llu %llu ", f.cells_len, f.ranks_len, f.index_len, (unsigned long long)f.scaled, (unsigned long long)f.keys_scaled);
+    printf("%u %u %u %u %u %u %u %u\n", f.kind, f.keys, f.span, f.ratio, f.seed, f.size, f.width, f.b);
 }
 
 static void rooms(char **words, int many) {
@@ -379,6 +389,8 @@ int main(int many, char **words) {
         numbers(words[2], words[3]);
     else if (!strcmp(job, "open"))
         opens(words + 2, many - 2);
+    else if (!strcmp(job, "fields") && many == 3)
+        fields(words[2]);
     else if (!strcmp(job, "room") && many > 4)
         rooms(words + 2, many - 2);
     else if (!strcmp(job, "build") && many == 9)

@@ -1,4 +1,5 @@
 pub mod BuildLemmas
 pub mod HeldLemmas
+pub mod NumberLemmas
 pub mod RoomLemmas
 pub mod SpanLemmas

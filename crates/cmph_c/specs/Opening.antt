@@ -1,5 +1,5 @@
 -- What opening the bytes of a function does.
-use Rattle.std.specs.Prelude.{◌≡◌, ℕ, List, Ok}
+use Rattle.std.specs.Prelude.{◌≡◌, ◌/◌, ◌^◌, ℕ, List, Ok, length}
 use Rattle.cm_dump.specs.Spelling.{spelling_of}
 use Rattle.cm_dump_brz.specs.declared.fault.OpenFault.{OpenFault}
 use Rattle.cm_dump_brz.specs.declared.fault.OpenFault.TheVariants as fault
@@ -7,18 +7,46 @@ use Rattle.cm_dump_items.specs.Reading.{IsByteFault}
 use Rattle.cm_dump_lent.specs.Opened.{IsOpenFault, LacksIndex, func_by, lent_answer}
 use Rattle.cm_dump_lent.specs.declared.lent.Lent.{Lent}
 use Rattle.cm_func.specs.Functions.{answer_by}
+use Rattle.cm_func.specs.declared.function.Func.{Func}
+use Rattle.cm_func.specs.declared.function.Func.TheVariants as func
 use Rattle.cmph_c.specs.Codes.{at_only, code_by, place_by}
 use Rattle.cmph_c.specs.Functions.{Holds}
 use Rattle.cmph_c.specs.declared.codes.Place.{Place}
 use Rattle.cmph_c.specs.declared.codes.TheConstants.{NO_ROOM}
 use Rattle.cmph_c.specs.declared.function.Function.{Function}
 
--- The struct holds the function that the bytes spell, with its span, and so answers each key as that one does. There was room for the index.
+-- the numbers of a struct that are not its kind, its span or its width
+pub record Numbers : Type 0 where
+  pub scaled : ℕ
+  pub keys_scaled : ℕ
+  pub keys : ℕ
+  pub ratio : ℕ
+  pub seed : ℕ
+  pub size : ℕ
+  pub b : ℕ
+
+abbrev pub numbers_in : Function → Numbers
+numbers_in c = record { scaled = c.scaled; keys_scaled = c.keys_scaled; keys = c.keys; ratio = c.ratio; seed = c.seed; size = c.size; b = c.b }
+
+-- those of the struct of a function: its size is the number of vertices by CHM, a third of it by BDZ and BDZ_PH, and of buckets by BRZ
+abbrev pub numbers_of : Func → Numbers
+numbers_of (func.Chm f) =
+    record { scaled = 2 ^ 32 / length f.cells; keys_scaled = 2 ^ 32 / f.keys; keys = f.keys; ratio = f.ratio; seed = f.seed; size = length f.cells; b = 0 }
+numbers_of (func.Bdz f) =
+    record { scaled = 2 ^ 32 / (length f.cells / 3); keys_scaled = 0; keys = f.keys; ratio = f.ratio; seed = f.seed; size = length f.cells / 3; b = f.shift }
+numbers_of (func.BdzPh f) =
+    record { scaled = 2 ^ 32 / (length f.cells / 3); keys_scaled = 0; keys = f.keys; ratio = f.ratio; seed = f.seed; size = length f.cells / 3; b = 0 }
+numbers_of (func.Brz f) =
+    record { scaled = 2 ^ 32 / length f.buckets; keys_scaled = 0; keys = f.keys; ratio = f.ratio; seed = f.split; size = length f.buckets; b = f.width }
+
+-- The struct holds the function that the bytes spell, with its span, and so answers each key as that one does; its numbers are those of this
+-- function. There was room for the index.
 pub record IsOpened (bytes : List ℕ) (room : ℕ) (c : Function) : Type 0 where
   pub lent : Lent
   pub holds : Holds c lent
   pub spelled : spelling_of bytes ≡ Ok (func_by lent)
   pub answers : (key : List ℕ) → lent_answer lent key ≡ answer_by (func_by lent) key
+  pub numbers : numbers_in c ≡ numbers_of (func_by lent)
   pub indexed : LacksIndex bytes room → ⊥
 
 -- the code of a refusal

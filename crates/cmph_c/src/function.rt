@@ -1,10 +1,12 @@
 //! A function in memory of the caller's.
-ghost use Rattle.std.specs.Prelude.{◌≡◌, ◌≢◌, ◌<◌, ℕ, IfNone, IfSome, Some};
+ghost use Rattle.std.specs.Prelude.{◌≡◌, ◌≢◌, ◌<◌, ℕ, IfNone, IfSome, Some, length};
 ghost use Rattle.cm_bdz.specs.Lent.{FitsBdz, FitsBdzPh};
 ghost use Rattle.cm_chm.specs.Parts.{FitsChm};
 ghost use Rattle.cm_dump_brz.specs.Indexed.{FitsBrz, IndexedBrz};
 ghost use Rattle.cm_dump_brz.specs.Indexed as indexed;
+ghost use Rattle.cm_dump_lent.specs.Opened.{func_by};
 ghost use Rattle.cm_dump_lent.specs.declared.lent.Lent.TheVariants as lent;
+ghost use Rattle.cmph_c.specs.Opening.{numbers_in, numbers_of};
 ghost use Rattle.cmph_c.specs.Functions.{Holds, HoldsBrz, IsHeld, bdz_parts, bdz_ph_parts, brz_parts, chm_parts, number_of};
 
 use cm_algo_scheme::Answers;
@@ -236,6 +238,7 @@ fn brz_parts_of<'a>(function: &Function<'a>, version: Version) -> LentBrzParts<'
 /// Puts a function into the caller's struct.
 pub(crate) fn put<'a>(lent: &Lent<'a>, out: &mut Function<'a>)
     ensures holds { Holds out.new lent.now }
+    ensures numbers { numbers_in out.new ≡ numbers_of (func_by lent.now) }
 {
     let span = lent.span();
     *out = match lent {
@@ -251,6 +254,7 @@ fn of_chm<'a>(parts: ChmParts<'a>, span: u32) -> Function<'a>
     ensures parts { chm_parts result ≡ parts.entry }
     ensures kind { result.kind ≡ CHM }
     ensures span { result.span ≡ span }
+    ensures unused { result.b ≡ 0 }
 {
     Function {
         cells: parts.cells,
@@ -274,6 +278,7 @@ fn of_bdz<'a>(parts: BdzParts<'a>, span: u32) -> Function<'a>
     ensures parts { bdz_parts result ≡ parts.entry }
     ensures kind { result.kind ≡ BDZ }
     ensures span { result.span ≡ span }
+    ensures unused { result.keys_scaled ≡ 0 }
 {
     Function {
         cells: parts.cells,
@@ -297,6 +302,7 @@ fn of_bdz_ph<'a>(parts: BdzPhParts<'a>, span: u32) -> Function<'a>
     ensures parts { bdz_ph_parts result ≡ parts.entry }
     ensures kind { result.kind ≡ BDZ_PH }
     ensures span { result.span ≡ span }
+    ensures unused { (result.keys_scaled ≡ 0) × (result.b ≡ 0) }
 {
     Function {
         cells: parts.cells,
@@ -331,6 +337,8 @@ fn of_brz<'a>(parts: LentBrzParts<'a>, span: u32) -> Function<'a>
     ensures holds { HoldsBrz result (indexed.brz_held parts.entry) }
     ensures kind { result.kind ≡ BRZ }
     ensures span { result.span ≡ span }
+    ensures size { result.size ≡ length result.index.now }
+    ensures unused { result.keys_scaled ≡ 0 }
 {
     Function {
         cells: parts.dump,
