@@ -39,9 +39,10 @@ class _PyBuffer(ctypes.Structure):
     ]
 
 
-_get = ctypes.pythonapi.PyObject_GetBuffer
+# Functions of our own: the attributes of pythonapi are those of the whole process.
+_get = ctypes.pythonapi["PyObject_GetBuffer"]
 _get.restype, _get.argtypes = ctypes.c_int, (ctypes.py_object, ctypes.POINTER(_PyBuffer), ctypes.c_int)
-_release = ctypes.pythonapi.PyBuffer_Release
+_release = ctypes.pythonapi["PyBuffer_Release"]
 _release.restype, _release.argtypes = None, (ctypes.POINTER(_PyBuffer),)
 
 
@@ -63,6 +64,11 @@ def _view(source: Any, name: str, what: str, formats: str | None, item: int) -> 
         view = memoryview(source)
     except TypeError:
         raise TypeError(f"{name} is {what}, not {type(source).__name__}") from None
+    except ValueError:
+        if numpy is None or not isinstance(source, numpy.ndarray):
+            raise
+        # numpy shows no one the bytes of dates
+        raise TypeError(f"{name} is {what}, not an array of {source.dtype}") from None
     form = view.format.lstrip("@=<")
     good = view.itemsize == item and (formats is None or form in tuple(formats))
     if not good or view.ndim != 1 or not view.c_contiguous or address(view) % item:

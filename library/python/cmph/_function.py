@@ -1,7 +1,6 @@
 """Functions in the bytes of their files."""
 from __future__ import annotations
 
-import mmap
 import os
 from array import array
 from ctypes import addressof, byref
@@ -9,6 +8,7 @@ from typing import TYPE_CHECKING, Any, Iterable, TypeVar, Union, overload
 
 from . import _buffers as buffers
 from . import _errors as errors
+from . import _mapping as mapping
 from ._library import ALGORITHMS, NO_ROOM, NONE, OK, CFunction, CPlace, c_answer, c_answers, c_open
 
 if TYPE_CHECKING:
@@ -23,10 +23,9 @@ def _bytes_of(source: Source) -> memoryview:
     if not isinstance(source, (str, os.PathLike)):
         return buffers.bytes_view(source, "source")
     with open(source, "rb") as file:
+        length = os.fstat(file.fileno()).st_size
         # an empty file has no map, nor has a pipe
-        if os.fstat(file.fileno()).st_size == 0:
-            return memoryview(file.read())
-        return memoryview(mmap.mmap(file.fileno(), 0, access=mmap.ACCESS_READ))
+        return mapping.mapped(file.fileno(), length) if length else memoryview(file.read())
 
 
 def _open(dump: memoryview) -> tuple[CFunction, memoryview]:
@@ -47,7 +46,7 @@ class Function:
     """
     A perfect hash function, in the bytes of its file.
 
-    `source` is the path of the file, which is mapped into memory, or an object that has the bytes: bytes, bytearray, memoryview, mmap, or a
+    `source` is the path of the file, which is mapped into memory and closed, or an object that has the bytes: bytes, bytearray, memoryview, mmap, or a
     contiguous array of uint8. It is not copied, and stays in memory as long as the function. Bytes that are no function raise DumpError.
 
     All calls may run in many threads at once. A file that is cut short while it is mapped ends the process when it is read, so replace it by

@@ -10,6 +10,7 @@ import math
 import mmap
 import os
 import pickle
+import re
 import subprocess
 import sys
 import tempfile
@@ -56,6 +57,54 @@ FILES = {
     ),
 }
 
+# A process that may have 256 files has a thousand functions open at once, of a file for each, and asks all of them.
+THOUSAND = """
+import gc, os, pathlib, resource, sys
+import cmph
+
+def opened():
+    return len(os.listdir("/proc/self/fd"))
+
+def in_memory():
+    return pathlib.Path("/proc/self/maps").read_text().count(sys.argv[1])
+
+resource.setrlimit(resource.RLIMIT_NOFILE, (256, 256))
+sets = [[b"%d of file %d" % (i, n) for i in range(1 + n % 50)] for n in range(1000)]
+for n, keys in enumerate(sets):
+    pathlib.Path(sys.argv[1], f"{n}.mph").write_bytes(cmph.build(keys, ("chm", "bdz", "bdz_ph", "brz")[n % 4]))
+before = opened()
+functions = [cmph.Function(os.path.join(sys.argv[1], f"{n}.mph")) for n in range(1000)]
+for f, keys in zip(functions, sets):
+    assert len(set(f.many(keys))) == len(set(f[key] for key in keys)) == len(f) == len(keys), f
+assert (opened(), in_memory()) == (before, 1000), (opened(), before, in_memory())
+del f, functions
+gc.collect()
+assert (opened(), in_memory()) == (before, 0), (opened(), before, in_memory())
+"""
+
+# Another module of the process gives two calls of ctypes.pythonapi types of its own, before cmph is imported and after.
+OTHER_TYPES = """
+import ctypes
+
+class Other(ctypes.Structure):
+    _fields_ = [("room", ctypes.c_char * 200)]
+
+get, release, pointer = ctypes.pythonapi.PyObject_GetBuffer, ctypes.pythonapi.PyBuffer_Release, ctypes.POINTER(Other)
+assert get.argtypes is None and release.argtypes is None
+if {early}:
+    get.argtypes, release.argtypes = (ctypes.py_object, pointer, ctypes.c_int), (pointer,)
+import cmph
+if not {early}:
+    assert get.argtypes is None and release.argtypes is None and release.restype is ctypes.c_int
+    get.argtypes, release.argtypes = (ctypes.py_object, pointer, ctypes.c_int), (pointer,)
+f = cmph.Function(cmph.build([b"a", b"b"], "chm"))
+assert list(f.many([b"b", b"a"])) == [1, 0]
+assert (get.argtypes, release.argtypes) == ((ctypes.py_object, pointer, ctypes.c_int), (pointer,))
+other = Other()
+assert get(b"bytes", ctypes.byref(other), 0) == 0
+release(ctypes.byref(other))
+"""
+
 
 def small(algorithm, version=2):
     return bytes.fromhex(FILES[algorithm][4 - version])
@@ -71,6 +120,11 @@ def arrays_of(keys):
 
 
 class Case(unittest.TestCase):
+    def runs(self, code, *words):
+        """A process of its own runs this code to its end."""
+        left = subprocess.run([sys.executable, "-c", code, *words], capture_output=True, text=True)
+        self.assertEqual((left.returncode, left.stdout, left.stderr), (0, "", ""))
+
     def refused(self, dump, fault, offset):
         with self.assertRaises(cmph.DumpError) as caught:
             cmph.Function(dump)
@@ -205,6 +259,28 @@ class Sources(Case):
         os.close(theirs)
         self.assertEqual(cmph.Function(f"/dev/fd/{ours}")[b""], 0)
         os.close(ours)
+
+    def test_a_thousand_files(self):
+        self.runs(THOUSAND, os.path.realpath(self.room.name))
+
+    def test_a_file_that_is_replaced(self):
+        f = cmph.Function(self.path)
+        other = self.path.with_name("other")
+        other.write_bytes(cmph.build(KEYS[::-1], "chm"))
+        os.replace(other, self.path)
+        self.good(f, KEYS, "bdz")
+        self.good(cmph.Function(self.path), KEYS[::-1], "chm")
+        self.path.unlink()
+        gc.collect()
+        self.good(f, KEYS, "bdz")
+
+    def test_a_file_that_changes(self):
+        f = cmph.Function(self.path)
+        for change in (0x00, 0x55, 0xFF):
+            with open(self.path, "r+b") as file:
+                file.seek(24)
+                file.write(bytes([change]) * (len(self.dump) - 24))
+            self.assertTrue(all(number < f.span or number == cmph.NONE for number in f.many(KEYS + OTHERS)))
 
     def test_bytes(self):
         with open(self.path, "rb") as file:
@@ -352,6 +428,16 @@ class Builds(Case):
         with mmap.mmap(-1, 8 * many, flags=mmap.MAP_PRIVATE | mmap.MAP_ANONYMOUS) as ends, memoryview(ends) as view, view.cast("Q") as cuts:
             with self.assertRaisesRegex(cmph.BuildError, "more than 67108864 keys"):
                 cmph.build_arrays(b"", cuts)
+            with mmap.mmap(-1, 4 * many, flags=mmap.MAP_PRIVATE | mmap.MAP_ANONYMOUS) as room, memoryview(room) as numbers, numbers.cast("I") as out:
+                for call in (cmph.Function(small("bdz")).arrays, lambda *more: cmph.route_arrays(*more[:2], 1, 7, more[2])):
+                    with self.assertRaisesRegex(ValueError, "more than 67108864 keys"):
+                        call(b"", cuts, out)
+
+
+class OfOthers(Case):
+    def test_types_of_pythonapi(self):
+        for early in (False, True):
+            self.runs(OTHER_TYPES.format(early=early))
 
 
 class Arrays(Case):
@@ -452,10 +538,37 @@ class Numpy(Case):
         for data in (self.data[::2], self.data[None], self.data.astype(numpy.uint16)):
             with self.assertRaisesRegex(TypeError, "data is"):
                 f.arrays(data, self.ends)
+        for dates in (zeros(1000, "datetime64[s]"), zeros(1000, "timedelta64[s]")):
+            for name, call in [
+                ("data", lambda: f.arrays(dates, self.ends)), ("ends", lambda: f.arrays(self.data, dates)), ("source", lambda: cmph.Function(dates)),
+                ("out", lambda: f.arrays(self.data, self.ends, out=dates)), ("data", lambda: cmph.build_arrays(dates, self.ends)),
+            ]:
+                with self.assertRaisesRegex(TypeError, f"{name} is .*, not an array of {re.escape(dates.dtype.name)}"):
+                    call()
         shifted = zeros(4001, numpy.uint8)[1:].view(numpy.uint32)
         for out in (zeros(1000, numpy.uint64), zeros((1000, 1), numpy.uint32), zeros(2000, numpy.uint32)[::2], shifted):
             with self.assertRaisesRegex(TypeError, "out is"):
                 f.arrays(self.data, self.ends, out=out)
+
+
+    def test_bytes_of_other_types(self):
+        dump = numpy.frombuffer(cmph.build(KEYS), numpy.uint8)
+        f = cmph.Function(dump)
+        wanted = f.many(KEYS).tolist()
+        # -1 of int8 is byte 255, and every byte is kept by bool and S1
+        for kind in ("i1", "?", "S1", "V1"):
+            self.assertEqual(f.arrays(self.data.view(kind), self.ends).tolist(), wanted, kind)
+            self.assertEqual(cmph.Function(dump.view(kind)).many(KEYS).tolist(), wanted, kind)
+        for kind in ("S2", "f2"):
+            with self.assertRaisesRegex(TypeError, "data is"):
+                f.arrays(self.data[: self.data.size // 2 * 2].view(kind), self.ends)
+
+    def test_arrays_of_strings(self):
+        # numpy drops zero bytes at the end of an item
+        f = cmph.Function(cmph.build([b"a", b"a\0", b"b"], "chm"))
+        self.assertEqual(f.many(numpy.array([b"a\0", b"b"])).tolist(), [0, 2])
+        self.assertEqual(f.many([b"a\0", b"b"]).tolist(), [1, 2])
+        self.assertEqual(f.arrays(*arrays_of([b"a\0", b"b"])).tolist(), [1, 2])
 
 
 class Brz(Case):
