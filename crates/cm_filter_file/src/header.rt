@@ -1,7 +1,8 @@
 //! The header of a filter file.
-ghost use Rattle.std.specs.Prelude.{◌≡◌, ◌≤◌, IfErr, IfOk, OnOk};
+ghost use Rattle.std.specs.Prelude.{◌≡◌, ◌≢◌, ◌≤◌, Err, IfErr, IfOk, OnOk};
 ghost use Rattle.std.specs.Option.{ForSome};
 ghost use Rattle.cm_dump_items.specs.Reading.{Answers, HasLoadCause, IsAt, zeros_at};
+ghost use Rattle.cm_dump_items.specs.declared.fault.LoadFault.{LoadFault};
 ghost use Rattle.cm_filter.specs.Filters.{IsFingerprint};
 ghost use Rattle.cm_spec.specs.Rule.{IsRatio};
 ghost use Rattle.cm_spec.specs.declared.limits.TheConstants.{MAX_KEYS};
@@ -41,6 +42,7 @@ fn read_magic<S: Source>(source: &mut S) -> Result<(), LoadFault>
     ensures at { OnOk result (IsAt (S.told source.new) (S.place source.new) 8) }
     ensures exact { ForSome (S.told source.old) (λ bytes. Answers (λ x. x) result (magic_at bytes)) }
     ensures cause { HasLoadCause (S.faults source.old) (S.faults source.new) result }
+    ensures memory { result ≢ Err LoadFault.Memory }
     ensures kind { IfErr result IsReadFault }
 {
     let mut buf = [0; 8];
@@ -60,6 +62,7 @@ fn read_zeros<S: Source>(source: &mut S) -> Result<(), LoadFault>
     ensures at { OnOk result (IsAt (S.told source.new) (S.place source.new) 12) }
     ensures exact { ForSome (S.told source.old) (λ bytes. Answers (λ x. x) result (zeros_at bytes 9 3)) }
     ensures cause { HasLoadCause (S.faults source.old) (S.faults source.new) result }
+    ensures memory { result ≢ Err LoadFault.Memory }
     ensures kind { IfErr result IsReadFault }
 {
     byte(source, 9, 0, 0)?;
@@ -79,6 +82,7 @@ pub(crate) fn read_header<S: Source>(source: &mut S) -> Result<Header, LoadFault
     ensures ratio { IfOk result (λ h. IsRatio h.ratio) }
     ensures exact { ForSome (S.told source.old) (λ bytes. Answers (λ h. h) result (header_at bytes)) }
     ensures cause { HasLoadCause (S.faults source.old) (S.faults source.new) result }
+    ensures memory { result ≢ Err LoadFault.Memory }
     ensures kind { IfErr result IsReadFault }
 {
     read_magic(source)?;

@@ -1,13 +1,15 @@
 //! The filter whose file a source has.
-ghost use Rattle.std.specs.Prelude.{◌≡◌, ◌≤◌, ◌^◌, IfErr, IfOk};
+ghost use Rattle.std.specs.Prelude.{◌≡◌, ◌≤◌, ◌^◌, Err, IfErr, IfOk, IsOk};
 ghost use Rattle.std.specs.Option.{ForSome};
 ghost use Rattle.cm_dump_items.specs.Reading.{Answers, HasLoadCause, IsAt};
+ghost use Rattle.cm_dump_items.specs.declared.fault.LoadFault.{LoadFault};
 ghost use Rattle.cm_filter.specs.Filters.{IsFingerprint};
 ghost use Rattle.cm_spec.specs.Bdz.{bdz_size};
 ghost use Rattle.cm_spec.specs.Rule.{IsRatio};
 ghost use Rattle.cm_spec.specs.declared.limits.TheConstants.{MAX_KEYS, MAX_VERTICES};
-ghost use Rattle.cm_filter_file.specs.FilterFiles.{IsFilter, cells_at, filter_at};
+ghost use Rattle.cm_filter_file.specs.FilterFiles.{IsFilter, cells_at, filter_at, header_at};
 ghost use Rattle.cm_filter_file.specs.Loads.{HasFilterCause, IsLoaded, IsReadFault};
+ghost use Rattle.cm_filter_file.specs.declared.fault.FilterFault.{FilterFault};
 ghost use Rattle.cm_filter_file.specs.declared.header.TheConstants.{HEADER_LEN};
 
 use crate::fault::{FilterFault, named};
@@ -76,6 +78,7 @@ fn load_items<S: Source>(alloc: Global, source: &mut S) -> Result<Filter, LoadFa
     ensures exact { ForSome (S.told source.old) (λ bytes. Answers (λ f. f) result (filter_at bytes)) }
     ensures valid { IfOk result (λ f. IsFilter f) }
     ensures cause { HasLoadCause (S.faults source.old) (S.faults source.new) result }
+    ensures memory { result ≡ Err LoadFault.Memory → ForSome (S.told source.old) (λ bytes. IsOk (header_at bytes)) }
     ensures kind { IfErr result IsReadFault }
 {
     let header = read_header(source)?;
@@ -83,14 +86,15 @@ fn load_items<S: Source>(alloc: Global, source: &mut S) -> Result<Filter, LoadFa
 }
 
 /// Loads a filter from a source at its start: the one whose file all the bytes are. Returns `Read` exactly if the source fails, and
-/// `Memory` only if memory runs out. Any other error is the first fault of the bytes. Memory is allocated as bytes are read, whatever the
-/// header claims.
+/// `Memory` only if memory runs out after a header without a fault. Any other error is the first fault of the bytes. Memory is allocated
+/// as bytes are read, whatever the header claims.
 pub fn load_filter<S: Source>(alloc: Global, source: &mut S) -> Result<Filter, FilterFault>
     requires start { ForSome (S.told source.old) (λ _. S.place source.old ≡ 0) }
     ensures told { S.told source.new ≡ S.told source.old }
     ensures spelled { ForSome (S.told source.old) (λ bytes. IsLoaded (λ f. f) bytes result) }
     ensures valid { IfOk result (λ f. IsFilter f) }
     ensures cause { HasFilterCause (S.faults source.old) (S.faults source.new) result }
+    ensures memory { result ≡ Err FilterFault.Memory → ForSome (S.told source.old) (λ bytes. IsOk (header_at bytes)) }
 {
     match load_items(alloc, source) {
         Ok(filter) => Ok(filter),
