@@ -20,7 +20,7 @@ PROGRAMS = ["cmph", "cmph_judge", "cmph_filter", "cmph_store", "cmph_shards"]
 
 # Of the programs beside cmph: how many files they take, what follows their options in the man page, and their heading in docs/use/command-line.md.
 BESIDE = {
-    "cmph_judge": (2, ".Ss What is true", "## The judge of reports"),
+    "cmph_judge": (2, ".Ss What is true", "## Checking a report"),
     "cmph_filter": (1, ".Ss Keys", "## Filters"),
     "cmph_store": (1, ".Ss Lines and keys", "## Record stores"),
     "cmph_shards": (1, ".Ss Splits", "## Shards"),
@@ -70,7 +70,7 @@ def of_synopsis():
 
 def of_table(page):
     """The options of the first table of a page: those with values have some there."""
-    text = (TOP / page).read_text().split("## The judge of reports")[0]
+    text = (TOP / page).read_text().split("## Checking a report")[0]
     rows = re.findall(r"^\| `-(\w)` \|[^|]*\|([^|]*)\|", text, re.MULTILINE)
     return {letter: bool(values.strip()) and not values.strip().startswith("flag") for letter, values in rows}
 
