@@ -15,6 +15,7 @@ from ._errors import BuildError, DumpError, EqualKeys
 from ._function import Function
 from ._library import NONE
 
+__version__ = "2.0.0"
 __all__ = ["NONE", "BuildError", "DumpError", "EqualKeys", "Function", "build", "build_arrays", "route", "route_arrays"]
 
 # Names as users write them, in tracebacks.
