@@ -25,7 +25,8 @@ import time
 from concurrent.futures import FIRST_COMPLETED, ThreadPoolExecutor, wait
 from pathlib import Path
 
-TOP = Path(__file__).resolve().parent.parent
+from sources import TOP, sum_of_file
+
 LOG = TOP / "out" / "prove.log"
 PARTS = ("src", "specs", "proofs")  # what a proof reads of a crate
 MEMORY = 3 << 30  # bytes for the proof of a crate
@@ -118,6 +119,15 @@ def sum_of(crate, crates, kit):
     return read.hexdigest()
 
 
+def is_left(name, now):
+    """Whether a crate is proved: what it made is there, of files with this checksum. A program or a static library is the one that was made then."""
+    made = made_of(name)
+    kept, sum_of_made = made.with_suffix(".sum"), made.with_name(f"{name}.made")
+    if not (made.exists() and kept.exists() and kept.read_text() == now):
+        return False
+    return not (is_program(name) or is_static(name)) or sum_of_made.exists() and sum_of_made.read_text() == sum_of_file(made)
+
+
 def is_first(name, others, chains):
     """Whether the longest chain of crates waits for this one, and not for another that is proved now."""
     return all(chains[name] >= chains[other] for other in others)
@@ -127,6 +137,13 @@ def jobs_for(name, others, most):
     """How many processes prove a crate beside others: one, and those of the processors that are left. Each process reads what stands
     below, so they have more to do together than one. A program has little to prove."""
     return 1 if is_program(name) else 1 + max(0, most - len(others))
+
+
+def kit_folder():
+    rt = shutil.which("rt")
+    if rt is None:
+        sys.exit("there is no rt on the path: it is the command of the Rattle kit")
+    return Path(rt).resolve().parent.parent
 
 
 def room():
@@ -158,23 +175,25 @@ class Proof:
 
     def __init__(self, crates, log, kit):
         self.crates, self.log, self.kit, self.lock, self.running, self.stopped = crates, log, kit, threading.Lock(), {}, False
-        self.verdicts = dict.fromkeys(crates, "")  # the last line of each proof, which tools/dist.py packs
+        self.verdicts = dict.fromkeys(crates, "")  # the last line of each proof, which tools/proof.py reads
 
     def prove(self, name, jobs, waits):
         """Proves a crate, unless it is proved, and gives the status, the seconds, and the first lines that may say what is wrong. A crate that waits
         leaves the processors to others."""
         start, said, made = time.monotonic(), [], made_of(name)
-        kept, now = made.with_suffix(".sum"), sum_of(name, self.crates, self.kit)
-        if made.exists() and kept.exists() and kept.read_text() == now:
+        now = sum_of(name, self.crates, self.kit)
+        if is_left(name, now):
             return 0, 0.0, said
+        kept = made.with_suffix(".sum")
         made.parent.mkdir(parents=True, exist_ok=True)
         kept.unlink(missing_ok=True)
         for command in commands_for(name, self.crates, jobs, self.kit):
             status = self.run(name, ["nice", *command] if waits else command, said)
             if status != 0:
                 return status, time.monotonic() - start, said
-        kept.write_text(now)
+        made.with_name(f"{name}.made").write_text(sum_of_file(made))
         made.with_name(f"{name}.verdict").write_text(self.verdicts[name] + "\n")
+        kept.write_text(now)
         return 0, time.monotonic() - start, said
 
     def run(self, name, command, said):
@@ -251,10 +270,7 @@ def main():
     signal.signal(signal.SIGTERM, signal.default_int_handler)
     crates = crates_below(asked.crate)
     most = max(1, asked.jobs)
-    rt = shutil.which("rt")
-    if rt is None:
-        sys.exit("there is no rt on the path: it is the command of the Rattle kit")
-    kit = Path(rt).resolve().parent.parent
+    kit = kit_folder()
     if asked.alone:
         made_of(asked.crate).parent.mkdir(parents=True, exist_ok=True)
         commands = commands_for(asked.crate, crates, most, kit, left_of)
