@@ -1,13 +1,18 @@
-# make            proves and builds bin/cmph, bin/cmph_judge, bin/cmph_filter, bin/cmph_store and bin/cmph_shards: names each crate with its
+# Without the kit, whose command is `rt`: `sh release/install.sh PREFIX` installs what was proved and built, and `make test` tests it.
+#
+# make, make all  proves and builds bin/cmph, bin/cmph_judge, bin/cmph_filter, bin/cmph_store and bin/cmph_shards: names each crate with its
 #                 time, and puts all else into out/prove.log
 # make demo       builds a function over a word list, queries it, and tries all algorithms over generated keys
-# make library    proves and builds the C library: lib/libcmph_c.a, lib/libcmph_c.so.1 and lib/cmph_c.pc; its header is library/cmph_c.h
-# make install-library
-#                 installs it and its header below $(PREFIX)
+# make library    proves and builds the C library: lib/libcmph_c.a and lib/libcmph_c.so.1; its header is library/cmph_c.h
+# make test       runs the tests over bin/ and lib/, or over the release if they are not there: PREFIX=X for what was installed below X,
+#                 TESTS="edge python" for some of them
 # make check      the gate: proves everything from nothing, and runs all tests
 # make install    installs the programs, their man pages, and completions for bash and zsh below $(PREFIX); and the library, if `make library` made it
-# make uninstall  removes them
-# make dist       packs programs, library, man pages and completions as an archive with an install.sh, and as a Debian package, in dist/
+# make install-library
+#                 installs the library, its header and cmph_c.pc below $(PREFIX)
+# make uninstall  removes all of them
+# make release    packs programs, library, man pages and completions into release/, if the gate or `make` proved and built them so
+# make dist       packs them as a Debian package, in dist/
 # make bench      measures it beside the C tool and plain Rust, leaves the results in bench/results, and writes the measured tables of
 #                 README.md and docs/: make bench SETS="100000 words" for fewer sets of keys, ROUNDS=3 for fewer runs, NAME=here for
 #                 results of another name than `latest`
@@ -30,14 +35,19 @@
 #                 builds and queries against the number of keys, beside the C tool: it needs five gigabytes of disk; SETS="1000 10000" for fewer
 #                 numbers, SETS="--merge 10000000" to keep what was measured of others
 # make drawings   makes every drawing of docs/ again: from real runs, from the results of measurements, and from crates.txt
+# make clean      removes what was proved, built and packed, except release/
 PREFIX ?= /usr/local
 SETS ?=
 NAME ?= latest
 ROUNDS ?= 7
 BEFORE ?=
+TESTS ?=
+VERSION := $(shell cat VERSION)
 SOURCES := crates.txt $(wildcard crates/*/src/*.rt crates/*/specs/*.antt) $(shell find crates -path '*/out' -prune -o -name '*.antt' -print)
 
 PROGRAMS := cmph cmph_judge cmph_filter cmph_store cmph_shards
+
+NEEDS_KIT = $(if $(shell command -v rt),,$(error there is no rt on the path, the command of the Rattle kit, which proves; `sh release/install.sh` runs without it and installs what was proved))
 
 all: $(PROGRAMS:%=bin/%)
 
@@ -47,34 +57,32 @@ bin/cmph_filter: bin/cmph_judge
 bin/cmph_store: bin/cmph_filter
 bin/cmph_shards: bin/cmph_store
 bin/%: $(SOURCES)
-	@python3 tools/prove.py $*
+	$(NEEDS_KIT)@python3 tools/prove.py $*
 	@mkdir -p bin
 	@cp crates/$*/out/$* $@
 
-VERSION := 1
-
-library: lib/libcmph_c.a lib/libcmph_c.so.1 lib/cmph_c.pc
+library: lib/libcmph_c.a lib/libcmph_c.so.1
 
 lib/libcmph_c.a: $(SOURCES)
-	@python3 tools/prove.py cmph_c
+	$(NEEDS_KIT)@python3 tools/prove.py cmph_c
 	@python3 tools/link.py lib
 
 lib/libcmph_c.so.1: lib/libcmph_c.a library/exports.map
 	@python3 tools/link.py lib
-
-lib/cmph_c.pc: library/cmph_c.pc.in
-	@mkdir -p lib
-	@sed 's|@PREFIX@|$(PREFIX)|; s|@VERSION@|$(VERSION)|' $< > $@
 
 install-library: library
 	install -D -m 644 library/cmph_c.h $(DESTDIR)$(PREFIX)/include/cmph_c.h
 	install -D -m 644 lib/libcmph_c.a $(DESTDIR)$(PREFIX)/lib/libcmph_c.a
 	install -D -m 755 lib/libcmph_c.so.1 $(DESTDIR)$(PREFIX)/lib/libcmph_c.so.1
 	ln -sf libcmph_c.so.1 $(DESTDIR)$(PREFIX)/lib/libcmph_c.so
-	install -D -m 644 lib/cmph_c.pc $(DESTDIR)$(PREFIX)/lib/pkgconfig/cmph_c.pc
+	install -d $(DESTDIR)$(PREFIX)/lib/pkgconfig
+	sed 's|@PREFIX@|$(PREFIX)|; s|@VERSION@|$(VERSION)|' library/cmph_c.pc.in > $(DESTDIR)$(PREFIX)/lib/pkgconfig/cmph_c.pc
 
-dist: all library
-	python3 tools/dist.py
+release:
+	@python3 tools/release.py
+
+dist:
+	@python3 tools/dist.py
 
 demo: bin/cmph
 	@scratch=$$(mktemp -d) && cp examples/words $$scratch/ && cd $$scratch && cmph=$(CURDIR)/bin/cmph && \
@@ -83,6 +91,9 @@ demo: bin/cmph
 	echo "words has $$(wc -c < words) bytes, and words.mph $$(wc -c < words.mph)" && \
 	echo "\$$ cmph -T 100000      (algorithm, keys, bytes of the function, sum of the numbers)" && $$cmph -T 100000; \
 	status=$$?; rm -rf $$scratch; exit $$status
+
+test:
+	@python3 tests/run.py $(if $(filter command environment,$(origin PREFIX)),--prefix $(PREFIX)) $(TESTS)
 
 check:
 	bash .ci/run
@@ -150,4 +161,4 @@ drawings: all
 clean:
 	rm -rf bin lib out dist crates/*/out
 
-.PHONY: all library dist demo check install install-library uninstall bench bench-bits bench-peel bench-spill bench-bbhash bench-versions bench-most bench-judge bench-filter bench-store bench-shards bench-library bench-sizes drawings clean
+.PHONY: all library release dist demo test check install install-library uninstall bench bench-bits bench-peel bench-spill bench-bbhash bench-versions bench-most bench-judge bench-filter bench-store bench-shards bench-library bench-sizes drawings clean

@@ -2,26 +2,27 @@
 """Calls the C library from C and from C++ (tests/library/caller.c), over functions that cmph builds: numbers of a million keys, files that are cut and
 changed, damaged dumps, builds, shards, ends that are wrong, and structs and bytes of any values. The names that the header declares are those that the library exports.
 
-    tests/library.py [CMPH [ARCHIVE]]        the program below crates/ if it is left out
+    tests/library.py [CMPH [LIB]]        the program below crates/ if it is left out
 
-It builds the library first, over what `rt ci` left below crates/, unless an archive is given. The last line is 'N passed, M failed'. A compiler or a tool that is not there is named,
-and its cases are left out.
+LIB is the folder of libcmph_c.a and libcmph_c.so.1. If it is left out, they are made of the archive below crates/, which takes the kit. The last line is 'N passed, M failed',
+with the cases after it that need a compiler or a tool which is not there.
 """
 import random
 import re
 import shutil
-import subprocess
 import sys
 import tempfile
 from pathlib import Path
 
 import dumps
 import judge
+import places
+from counting import case, close, run, skipped
 
 TOP = Path(__file__).resolve().parent.parent
 CMPH = Path(sys.argv[1] if len(sys.argv) > 1 else TOP / "crates" / "cmph" / "out" / "cmph").resolve()
-ARCHIVE = Path(sys.argv[2] if len(sys.argv) > 2 else TOP / "crates" / "cmph_c" / "out" / "libcmph_c.a").resolve()
-LIBC = Path(shutil.which("rt")).resolve().parent.parent / "c" / "liblibc_c.a"  # memory of the C library, for the archive
+LIB = places.library(sys.argv[2:])
+ARCHIVE = LIB / "libcmph_c.a"
 HEADER = TOP / "library" / "cmph_c.h"
 CALLER = TOP / "tests" / "library" / "caller.c"
 NUMBERS = {name: int(number) for name, number in re.findall(r"#define CMPH_C_(\w+) (\d+)", HEADER.read_text())}  # of the header
@@ -35,29 +36,12 @@ MANY = 1_000_000
 DAMAGED, COMPARED, SEED = 5000, 300, 1  # damaged dumps of each algorithm, those of them that cmph is asked of, and of which numbers they are made
 WATCH = ["valgrind", "-q", "--error-exitcode=9", "--leak-check=no"]
 
-passed, failed = 0, 0
-
-
-def case(name, wrong):
-    """Counts a case, and names what is wrong with it."""
-    global passed, failed
-    if wrong:
-        failed += 1
-        print(f"{name}: {str(wrong)[:600]}")
-    else:
-        passed += 1
-
-
-def run(*words, **how):
-    return subprocess.run([str(word) for word in words], capture_output=True, text=True, **how)
-
-
 def compiled(room, compiler, name, *words):
     """The caller as a compiler makes it, or none if the compiler is not there."""
     if shutil.which(compiler) is None:
-        print(f"{compiler} is not there: its cases are left out")
+        skipped(f"callers by {compiler}", "it is not there")
         return None
-    made = run(compiler, *words, "-O1", "-Wall", "-Wextra", "-Werror", f"-I{HEADER.parent}", CALLER, "-x", "none", ARCHIVE, LIBC, "-o", room / name)
+    made = run(compiler, *words, "-O1", "-Wall", "-Wextra", "-Werror", f"-I{HEADER.parent}", CALLER, "-x", "none", ARCHIVE, "-o", room / name)
     case(f"{compiler} compiles the caller", made.stderr)
     return room / name
 
@@ -83,9 +67,12 @@ def said(line):
 
 def names():
     declared = set(re.findall(r"\b(cmph_c_\w+)\(", HEADER.read_text()))
-    listed = run("nm", "-g", "--defined-only", ARCHIVE).stdout
-    exported = {line.split()[-1] for line in listed.splitlines() if " T " in line}
-    case("the header declares what the library exports", declared ^ exported)
+    if shutil.which("nm") is None:
+        skipped("the names that the library exports", "nm is not there")
+        return
+    shared, archive = (run("nm", *words).stdout.splitlines() for words in (("-D", "--defined-only", LIB / "libcmph_c.so.1"), ("-g", "--defined-only", ARCHIVE)))
+    case("the header declares what the shared library exports", declared ^ {line.split()[-1].partition("@")[0] for line in shared if " T " in line})
+    case("the header declares what the archive exports", declared ^ {line.split()[-1] for line in archive if " T cmph" in line})
 
 
 def version(room, caller):
@@ -252,7 +239,7 @@ def hostile(room, caller, algorithm, watch):
 
 def example(room):
     """The program of the documents."""
-    made = run("gcc", "-Wall", "-Wextra", "-Werror", f"-I{HEADER.parent}", CALLER.with_name("example.c"), ARCHIVE, LIBC, "-o", room / "example")
+    made = run("gcc", "-Wall", "-Wextra", "-Werror", f"-I{HEADER.parent}", CALLER.with_name("example.c"), ARCHIVE, "-o", room / "example")
     case("gcc compiles the example", made.stderr)
     for algorithm in ("chm", "brz"):
         wanted = "".join(f"{key} {number}\n" for key, number in zip(("a", "b"), answers(room, f"few_{algorithm}", "two")))
@@ -266,7 +253,7 @@ def lines_of_readme(room):
     """The function of the README, in a program."""
     (room / "number.c").write_text(f'#include "{CALLER.with_name("number.c")}"\n#include <stdio.h>\nuint8_t file[4096];\n'
                                    'int main(void) { printf("%u\\n", number_of(file, fread(file, 1, sizeof file, stdin), (const uint8_t *)"b", 1)); }\n')
-    made = run("gcc", "-Wall", "-Wextra", "-Werror", f"-I{HEADER.parent}", room / "number.c", ARCHIVE, LIBC, "-o", room / "number")
+    made = run("gcc", "-Wall", "-Wextra", "-Werror", f"-I{HEADER.parent}", room / "number.c", ARCHIVE, "-o", room / "number")
     case("gcc compiles the lines of the README", made.stderr)
     for name, wanted in (("few_chm", "1"), ("few_bdz", answers(room, "few_bdz", "two")[1]), ("few", str(2**32 - 1))):
         with open(room / name) as file:
@@ -317,12 +304,9 @@ def cases(room, callers):
 
 
 def main():
-    if len(sys.argv) < 3:
-        left = run(sys.executable, TOP / "tools" / "prove.py", "--alone", "cmph_c")
-        case("the library is proved and built", left.returncode and (left.stdout[-500:], left.stderr))
     names()
     if shutil.which(WATCH[0]) is None:
-        print("valgrind is not there: its cases are left out")
+        skipped("runs under valgrind", "it is not there")
     with tempfile.TemporaryDirectory() as scratch:
         room = Path(scratch)
         callers = [compiled(room, "gcc", "in_c", "-std=c99"), compiled(room, "g++", "in_cpp", "-x", "c++")]
@@ -332,8 +316,7 @@ def main():
         if shutil.which("gcc"):
             example(room)
             lines_of_readme(room)
-    print(f"{passed} passed, {failed} failed")
-    return 1 if failed or not passed else 0
+    return close()
 
 
 if __name__ == "__main__":

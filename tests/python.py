@@ -3,17 +3,16 @@
 keys, shards, and the unit tests of the package. The structs and codes of the package are those of the header, the sessions of its documents are true, and pip
 installs it.
 
-    tests/python.py [CMPH [LIBRARY]]    the program and the shared library made of the archive below crates/ if they are left out
+    tests/python.py [CMPH [LIB]]        the program below crates/ if it is left out
 
-The last line is 'N passed, M failed'. What is not there is named, and its cases are left out. The unit tests run by this interpreter and by /usr/bin/python3, of
-which one may have numpy.
+LIB is the folder of libcmph_c.so.1. If it is left out, it is made of the archive below crates/, which takes the kit. The last line is 'N passed, M failed', with what was
+skipped after it. The unit tests run by this interpreter and by /usr/bin/python3, of which one may have numpy.
 """
 import ctypes
 import os
 import random
 import re
 import shutil
-import subprocess
 import sys
 import tempfile
 from array import array
@@ -21,10 +20,12 @@ from itertools import accumulate
 from pathlib import Path
 
 import judge
+import places
+from counting import case, close, run, skipped
 
 TOP = Path(__file__).resolve().parent.parent
 CMPH = Path(sys.argv[1] if len(sys.argv) > 1 else TOP / "crates" / "cmph" / "out" / "cmph").resolve()
-ARCHIVE = TOP / "crates" / "cmph_c" / "out" / "libcmph_c.a"
+LIB = places.library(sys.argv[2:])
 LIBRARY = TOP / "library"
 PACKAGE = LIBRARY / "python"
 ALGORITHMS = ["chm", "bdz", "bdz_ph", "brz"]
@@ -34,34 +35,6 @@ LAYOUT = """#include <stdio.h>
 #include "cmph_c.h"
 int main(void) {{ {} return 0; }}
 """
-
-passed, failed = 0, 0
-
-
-def case(name, wrong):
-    """Counts a case, and names what is wrong with it."""
-    global passed, failed
-    if wrong:
-        failed += 1
-        print(f"{name}: {str(wrong)[-1500:]}")
-    else:
-        passed += 1
-
-
-def run(*words, **how):
-    return subprocess.run([str(word) for word in words], capture_output=True, text=True, **how)
-
-
-def library_file(room):
-    """The shared library, as `make library` makes it."""
-    if len(sys.argv) > 2:
-        return Path(sys.argv[2]).resolve()
-    if not ARCHIVE.exists():
-        run(sys.executable, TOP / "tools" / "prove.py", "--alone", "cmph_c")
-    left = run(sys.executable, TOP / "tools" / "link.py", room)
-    case("the shared library is made", left.stderr)
-    return room / "libcmph_c.so.1"
-
 
 def interpreters():
     found = {os.path.realpath(path): path for path in ("/usr/bin/python3", sys.executable) if os.access(path, os.X_OK)}
@@ -85,6 +58,9 @@ def codes(c):
 
 def layout(room, c):
     """The structs of the header, as a compiler lays them out."""
+    if shutil.which("cc") is None:
+        skipped("the layout of structs", "cc is not there")
+        return
     structs = {"cmph_c_place": c.CPlace, "cmph_c_function": c.CFunction, "cmph_c_plan": c.CPlan}
     wanted, lines = [], []
     for name, struct in structs.items():
@@ -152,7 +128,7 @@ def install(room, library):
     """pip installs a copy of the package, with the library beside its modules."""
     python = next((python for python in interpreters() if all(has(python, module) for module in ("pip", "setuptools", "wheel"))), None)
     if python is None:
-        print("pip, setuptools or wheel is not there: the installation is left out")
+        skipped("the installation by pip", "pip or setuptools or wheel is not there")
         return
     around = {name: value for name, value in os.environ.items() if name not in ("CMPH_C_LIBRARY", "PYTHONPATH")}
     copy, site = room / "copy", room / "site"
@@ -169,7 +145,7 @@ def install(room, library):
 
 def try_all(room):
     """All cases, in a folder of their own."""
-    library = library_file(room)
+    library = LIB / "libcmph_c.so.1"
     os.environ.update(CMPH_C_LIBRARY=str(library), PYTHONDONTWRITEBYTECODE="1", PYTHONPATH=str(PACKAGE), CMPH=str(CMPH))
     sys.dont_write_bytecode = True
     sys.path.insert(0, str(PACKAGE))
@@ -188,18 +164,14 @@ def try_all(room):
     for python in interpreters():
         unit_tests(python, room, os.environ)
     if not any(has(python, "numpy") for python in interpreters()):
-        print("numpy is not there: its cases are left out")
+        skipped("numpy", "no interpreter has it")
     install(room, library)
 
 
 def main():
-    if shutil.which("cc") is None:
-        print("cc is not there: the library is not made, and all cases are left out")
-        return 0
     with tempfile.TemporaryDirectory() as scratch:
         try_all(Path(scratch).resolve())
-    print(f"{passed} passed, {failed} failed")
-    return 1 if failed or not passed else 0
+    return close()
 
 
 if __name__ == "__main__":

@@ -2,52 +2,42 @@
 """Tests the Rust crates below library/rust/: their own tests, over function files that cmph builds, and numbers of a million keys by each algorithm beside
 cmph's. The raw declarations are those of the header.
 
-    tests/rust.py [CMPH]        the program below crates/ if it is left out
+    tests/rust.py [CMPH [LIB]]        the program below crates/ if it is left out
 
-It takes the C library that `tests/library.py` left below crates/. What cargo makes goes into a folder that is removed. The last line is 'N passed, M failed'. A tool
-that is not there is named, and its cases are left out.
+LIB is the folder of libcmph_c.a. If it is left out, it is made of the archive below crates/, which takes the kit. What cargo makes goes into a folder that is removed. The last line is
+'N passed, M failed', with the cases after it that need a tool which is not there.
 """
 import os
 import random
 import re
 import shutil
-import subprocess
 import sys
 import tempfile
 from pathlib import Path
 
+import counting
+import places
+from counting import case, close, skipped
+
 TOP = Path(__file__).resolve().parent.parent
 CMPH = Path(sys.argv[1] if len(sys.argv) > 1 else TOP / "crates" / "cmph" / "out" / "cmph").resolve()
-ARCHIVE = TOP / "crates" / "cmph_c" / "out" / "libcmph_c.a"
+LIB = places.library(sys.argv[2:])
 LIBRARY = TOP / "library"
 CRATES = LIBRARY / "rust"
 ALGORITHMS = ["chm", "bdz", "bdz_ph", "brz"]
 TYPES = {"uint8_t": "u8", "uint32_t": "u32", "uint64_t": "u64", "size_t": "usize"}
 FEW, MANY = 10_000, 1_000_000
 
-passed, failed = 0, 0
-
-
-def case(name, wrong):
-    """Counts a case, and names what is wrong with it."""
-    global passed, failed
-    if wrong:
-        failed += 1
-        print(f"{name}: {str(wrong)[-2000:]}")
-    else:
-        passed += 1
-
-
 def there(tool, what):
-    """Whether a tool is there; if not, it is named with what is left out."""
-    if shutil.which(tool):
-        return True
-    print(f"{tool} is not there: {what} left out")
-    return False
+    """Whether a tool is there; if not, what needs it is skipped."""
+    if shutil.which(tool) is None:
+        skipped(what, f"{tool} is not there")
+        return False
+    return True
 
 
 def run(*words, **how):
-    return subprocess.run([str(word) for word in words], capture_output=True, **how)
+    return counting.run(*words, text=False, **how)
 
 
 def of_c(declared):
@@ -85,12 +75,6 @@ def declarations():
     case("the declarations are those of the header", header ^ rust or len(header) < 20 and header)
 
 
-def archive(room):
-    """The C library with all that it needs, as `make library` makes it."""
-    left = run(sys.executable, TOP / "tools" / "link.py", ARCHIVE, room / "lib")
-    case("the archive", left.returncode and left.stderr.decode())
-
-
 def built(room):
     """Keys, and a function file by each algorithm, in two folders."""
     random.seed(1)
@@ -111,7 +95,7 @@ def cargo(room, *words, **more):
 
 
 def tests(room):
-    left = cargo(room, "test", CMPH_C_LIB_DIR=room / "lib", CMPH_FILES=room / "few")
+    left = cargo(room, "test", CMPH_C_LIB_DIR=LIB, CMPH_FILES=room / "few")
     counts = [int(count) for count in re.findall(rb"^test result: ok\. (\d+) passed", left.stdout, re.MULTILINE)]
     case("the tests of the crates", (left.returncode or sum(counts) < 20) and (left.stdout + left.stderr).decode())
 
@@ -141,6 +125,7 @@ def refusals(room):
 
 def by_pkg_config(room):
     """The crates find the library where it was installed."""
+    (room / "lib").symlink_to(LIB)
     file = (LIBRARY / "cmph_c.pc.in").read_text().replace("@PREFIX@", str(room)).replace("@VERSION@", "1")
     (room / "cmph_c.pc").write_text(file)
     left = cargo(room, "build", "--example", "numbers", PKG_CONFIG_PATH=room)
@@ -149,22 +134,17 @@ def by_pkg_config(room):
 
 def main():
     declarations()
-    if there("cargo", "its cases are") and there("ar", "the cases of cargo are"):
-        if not ARCHIVE.exists():
-            print(f"{ARCHIVE} is not there: run tests/library.py first")
-            return 1
+    if there("cargo", "the crates") and there("cc", "the crates"):
         with tempfile.TemporaryDirectory() as scratch:
             room = Path(scratch)
-            archive(room)
             built(room)
             tests(room)
             for algorithm in ALGORITHMS:
                 numbers(room, algorithm)
             refusals(room)
-            if there("pkg-config", "a library that was installed is"):
+            if there("pkg-config", "a library that was installed"):
                 by_pkg_config(room)
-    print(f"{passed} passed, {failed} failed")
-    return 1 if failed or not passed else 0
+    return close()
 
 
 if __name__ == "__main__":
