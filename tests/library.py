@@ -26,15 +26,21 @@ ARCHIVE = LIB / "libcmph_c.a"
 HEADER = TOP / "library" / "cmph_c.h"
 CALLER = TOP / "tests" / "library" / "caller.c"
 NUMBERS = {name: int(number) for name, number in re.findall(r"#define CMPH_C_(\w+) (\d+)", HEADER.read_text())}  # of the header
+NO_CODES = {"VERSION", "CHM", "BDZ", "BDZ_PH", "BRZ"}
 ALGORITHMS = ["chm", "bdz", "bdz_ph", "brz"]
 PLANS = {"chm": (1, 2_090_000), "bdz": (2, 1_230_000), "bdz_ph": (3, 1_230_000)}  # of the algorithms that the library builds by
 LONGEST = {"chm": 455_836_984, "bdz": 23_215_501, "bdz_ph": 16_508_805}  # bytes of the file of MOST_KEYS keys (docs/use/formats.md)
 MOST_KEYS = 67_108_864
-FAULTS = ["", "", "truncated at", "bad magic", "bad algorithm", "bad field at", "bad padding at", "bad cell at", "bad count at", "bad rank at", "trailing bytes"]
-CODES = {"chm": {0, 2, 3, 4, 5, 6, 7, 10}, "bdz": {0, 2, 3, 4, 5, 6, 8, 9, 10}, "bdz_ph": {0, 2, 3, 4, 5, 6, 7, 10}, "brz": {0, 2, 3, 4, 5, 6, 8, 10}}  # of damaged dumps
+FAULTS = {"OK": "", "TRUNCATED": "truncated at", "BAD_MAGIC": "bad magic", "BAD_ALGORITHM": "bad algorithm", "BAD_FIELD": "bad field at",
+          "BAD_PADDING": "bad padding at", "BAD_CELL": "bad cell at", "BAD_COUNT": "bad count at", "BAD_RANK": "bad rank at", "TRAILING": "trailing bytes"}
+COUNTED, CELLED = set(FAULTS) - {"BAD_CELL", "BAD_RANK"}, set(FAULTS) - {"BAD_COUNT", "BAD_RANK"}
+CODES = {"chm": CELLED, "bdz": COUNTED | {"BAD_RANK"}, "bdz_ph": CELLED, "brz": COUNTED}  # of damaged dumps
 MANY = 1_000_000
 DAMAGED, COMPARED, SEED = 5000, 300, 1  # damaged dumps of each algorithm, those of them that cmph is asked of, and of which numbers they are made
 WATCH = ["valgrind", "-q", "--error-exitcode=9", "--leak-check=no"]
+
+reached = set()  # the names of codes that calls returned
+
 
 def compiled(room, compiler, name, *words):
     """The caller as a compiler makes it, or none if the compiler is not there."""
@@ -58,11 +64,24 @@ def told(room, file):
     return left.stderr.strip()
 
 
+def named(code):
+    """The name of a code in the header, which is now reached."""
+    name = next((name for name, number in NUMBERS.items() if number == int(code) and name not in NO_CODES), code)
+    reached.add(name)
+    return name
+
+
+def told_by(line):
+    """What a call said, by a code and a place: the name of the code, and the place."""
+    code, _, place = line.strip().partition(" ")
+    return f"{named(code)} {place}"
+
+
 def said(line):
-    """The same by what the library says: a code and an offset."""
-    code, at = line.split()
-    fault = FAULTS[int(code)]
-    return "" if code == "0" else f"{fault} {at}" if fault.endswith(" at") else fault
+    """What cmph says, by what the library says: a code and an offset."""
+    name, at = told_by(line).split()
+    fault = FAULTS.get(name, name)
+    return f"{fault} {at}" if fault.endswith(" at") else fault
 
 
 def names():
@@ -87,6 +106,18 @@ def numbers(room, caller, function, keys):
     # cmph writes no line for a key that has no number
     same = [number for number in found.stdout.split() if number != "-"] == wanted
     case(f"{caller.name}: numbers of {function}", found.stderr or (not same and "other numbers than cmph's"))
+
+
+def refusals(room, caller):
+    """Each code that the calls of other cases don't name by its number, and that all of the header's are those of the library."""
+    left = run(caller, "codes", "few_bdz", cwd=room)
+    for line in left.stdout.splitlines():
+        wanted, code = line.split()
+        case(f"the code {wanted}", named(code) != wanted and line)
+    case("codes", left.returncode and left)
+    left = run(caller, "memory", "many", cwd=room)
+    case("builds without memory", left.returncode and left or {named(code) for code in left.stdout.split()} != {"MEMORY"} and left)
+    case("each code of the header is reached", set(NUMBERS) - NO_CODES ^ reached)
 
 
 def fields_of(dump):
@@ -145,9 +176,9 @@ def damaged(room, caller, algorithm, watch):
     files = (f"words_{algorithm}", f"other_{algorithm}")
     left = run(*watch, caller, "damaged", *files, "few", DAMAGED, SEED, cwd=room)
     lines = left.stdout.splitlines()
-    codes = {int(line.split()[0]) for line in lines}
+    codes = {named(line.split()[0]) for line in lines}
     case(f"{algorithm}: damaged dumps {watch[:1]}", left.returncode and (left.returncode, left.stderr) or len(lines) != DAMAGED and f"{len(lines)} lines")
-    case(f"{algorithm}: faults of damaged dumps", not CODES[algorithm] <= codes <= set(range(11)) and f"the codes {codes}")
+    case(f"{algorithm}: faults of damaged dumps", not CODES[algorithm] <= codes <= set(FAULTS) and f"the codes {codes}")
     numbers = sample(lines)
     left = run(caller, "damage", *files, SEED, *numbers, cwd=room)
     case(f"{algorithm}: damaged dumps beside cmph", left.stderr or compared(room, [room / f"damaged{number}" for number in numbers], [lines[number] for number in numbers]))
@@ -157,7 +188,7 @@ def built(room, caller, keys, plan, seed=0, tries=5):
     """The code and the place of a build."""
     algorithm, ratio, b = plan
     left = run(caller, "build", algorithm, ratio, b, seed, tries, keys, "built", cwd=room)
-    return left.stderr or left.stdout.strip()
+    return left.stderr or told_by(left.stdout)
 
 
 def builds(room, caller, algorithm):
@@ -166,22 +197,22 @@ def builds(room, caller, algorithm):
     said_of = built(room, caller, "words", plan, 5, 50)
     run(CMPH, "-g", "-a", algorithm, "-s", 5, "-r", 50, "-m", "wanted", "words", cwd=room)
     same = (room / "built").read_bytes() == (room / "wanted").read_bytes()
-    case(f"{algorithm}: a build in memory", said_of != "0 0 0" and said_of or not same)
-    for text, wanted in (("a\nb\nc\nb\na\n", "17 1 3"), ("b\na\na\nb\n", "17 1 2"), ("\n\nx\n", "17 0 1"), ("x\nx\nx\n", "17 0 1")):
+    case(f"{algorithm}: a build in memory", said_of != "OK 0 0" and said_of or not same)
+    for text, wanted in (("a\nb\nc\nb\na\n", "EQUAL_KEYS 1 3"), ("b\na\na\nb\n", "EQUAL_KEYS 1 2"), ("\n\nx\n", "EQUAL_KEYS 0 1"), ("x\nx\nx\n", "EQUAL_KEYS 0 1")):
         (room / "equal").write_text(text)
         case(f"{algorithm}: equal keys {text!r}", (said_of := built(room, caller, "equal", plan)) != wanted and said_of)
     for bad in ((0, ratio, 7), (4, 1_230_000, 128), (5, ratio, 7), (number, 999_999, 7), (number, 10_000_001, 7), (2, ratio, 2), (2, ratio, 11)):
-        case(f"{algorithm}: a bad plan {bad}", (said_of := built(room, caller, "words", bad)) != "15 0 0" and said_of)
+        case(f"{algorithm}: a bad plan {bad}", (said_of := built(room, caller, "words", bad)) != "BAD_PLAN 0 0" and said_of)
         case(f"{algorithm}: the room of a bad plan {bad}", (left := run(caller, "room", *bad, 5)).stdout != "0\n" and left)
     for tries in (0, 1001):
-        case(f"{algorithm}: {tries} seeds", (said_of := built(room, caller, "words", plan, tries=tries)) != "15 0 0" and said_of)
-    case(f"{algorithm}: no keys", (said_of := built(room, caller, "none", plan)) != "16 0 0" and said_of)
+        case(f"{algorithm}: {tries} seeds", (said_of := built(room, caller, "words", plan, tries=tries)) != "BAD_PLAN 0 0" and said_of)
+    case(f"{algorithm}: no keys", (said_of := built(room, caller, "none", plan)) != "NO_KEYS 0 0" and said_of)
 
 
 def spilled(room, caller, keys, plan, seed=0, tries=5):
     """The code and the place of a build by BRZ."""
     left = run(caller, "spilled", *plan, seed, tries, keys, "built", cwd=room)
-    return left.stderr or left.stdout.strip()
+    return left.stderr or told_by(left.stdout)
 
 
 def spills(room, caller, watch):
@@ -190,17 +221,20 @@ def spills(room, caller, watch):
         said_of = spilled(room, caller, keys, (ratio, b), 5, 50)
         run(CMPH, "-g", "-a", "brz", "-c", f"{ratio / 1e6:g}", "-b", b, "-s", 5, "-r", 50, "-m", "wanted", keys, cwd=room)
         same = (room / "built").read_bytes() == (room / "wanted").read_bytes()
-        case(f"brz: a build of {keys} in memory, {b} keys a bucket", said_of != "0 0 0" and said_of or not same)
+        case(f"brz: a build of {keys} in memory, {b} keys a bucket", said_of != "OK 0 0" and said_of or not same)
     equal = "".join(f"{line}\n" for line in ["a"] + ["b"] * 1100)  # more than a bucket may have
-    for text, wanted in (("a\nb\nc\nb\na\n", "17 1 3"), ("b\na\na\nb\n", "17 1 2"), ("\n\nx\n", "17 0 1"), ("x\nx\nx\n", "17 0 1"), (equal, "17 1 2")):
+    for text, wanted in (("a\nb\nc\nb\na\n", "EQUAL_KEYS 1 3"), ("b\na\na\nb\n", "EQUAL_KEYS 1 2"), ("\n\nx\n", "EQUAL_KEYS 0 1"), ("x\nx\nx\n", "EQUAL_KEYS 0 1"), (equal, "EQUAL_KEYS 1 2")):
         (room / "equal").write_text(text)
         case(f"brz: equal keys {text[:12]!r}", (said_of := spilled(room, caller, "equal", (1_230_000, 64))) != wanted and said_of)
-    case("brz: no seed", (said_of := spilled(room, caller, "words", (1_000_000, 64), tries=2)) != "18 0 0" and said_of)
+    full = [key for key in map(str, range(4096)) if judge.hashes(key.encode(), 1 ^ 0xffffffff)[2] % 2 == 0][:1024]  # in one of two buckets
+    (room / "full").write_text("\n".join(full))
+    case("brz: no split", (said_of := spilled(room, caller, "full", (1_230_000, 700), 1, 1)) != "NO_SPLIT 0 0" and said_of)
+    case("brz: no seed", (said_of := spilled(room, caller, "words", (1_000_000, 64), tries=2)) != "NO_SEED 0 0" and said_of)
     for bad in ((999_999, 128), (10_000_001, 128), (1_230_000, 63), (1_230_000, 701), (1_230_000, 7), (1_230_000, 65_536 + 128)):
-        case(f"brz: a bad plan {bad}", (said_of := spilled(room, caller, "words", bad)) != "15 0 0" and said_of)
+        case(f"brz: a bad plan {bad}", (said_of := spilled(room, caller, "words", bad)) != "BAD_PLAN 0 0" and said_of)
     for tries in (0, 1001):
-        case(f"brz: {tries} seeds", (said_of := spilled(room, caller, "words", (1_230_000, 128), tries=tries)) != "15 0 0" and said_of)
-    case("brz: no keys", (said_of := spilled(room, caller, "none", (1_230_000, 128))) != "16 0 0" and said_of)
+        case(f"brz: {tries} seeds", (said_of := spilled(room, caller, "words", (1_230_000, 128), tries=tries)) != "BAD_PLAN 0 0" and said_of)
+    case("brz: no keys", (said_of := spilled(room, caller, "none", (1_230_000, 128))) != "NO_KEYS 0 0" and said_of)
     case("brz: no room is known", (left := run(caller, "room", 4, 1_230_000, 128, 5)).stdout != "0\n" and left)
     left = run(*watch, caller, "spilled", 1_230_000, 64, 5, 50, "words", "built", cwd=room)
     case(f"brz: a build in memory {watch[:1]}", left.stdout != "0 0 0\n" and (left.returncode, left.stdout, left.stderr))
@@ -301,6 +335,7 @@ def cases(room, callers):
         shards = run(caller, "route", 3, 7, "words", cwd=room).stdout.split()
         wanted = [str(judge.hashes(line.encode(), 3)[2] % 7) for line in (room / "words").read_text().split("\n") if line]
         case("shards", shards != wanted)
+        refusals(room, caller)
 
 
 def main():

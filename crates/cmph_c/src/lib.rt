@@ -9,6 +9,7 @@ mod answering;
 mod building;
 mod codes;
 mod function;
+pub mod laws;
 mod opening;
 mod routing;
 mod spilling;
