@@ -6,7 +6,18 @@
  * run at the same time, over the same bytes too, as long as nobody writes to what a call reads.
  *
  * Each call returns a code: CMPH_C_OK, or why not. If it is another code, what the call would have written is as it was, and only the
- * cmph_c_place is set, and what cmph_c_open put into its index. A pointer may be to anything if its length is 0, but not null.
+ * cmph_c_place is set, and what cmph_c_open put into its index and cmph_c_build_brz into its spill. If there are several faults, the code is
+ * that of the first: the struct, the plan or the number of shards, then the ends of the keys, then the spill, and the room.
+ *
+ * A key has at most 65,535 bytes (in cmph_c_answer any number), and a call has at most 67,108,864 keys.
+ *
+ * No call can test these, so the caller sees to them:
+ * - No pointer is null, even if its length is 0, as data() of an empty std::vector may be: any other aligned address will do then. Bytes may
+ *   be at odd addresses; structs and numbers are aligned as their types are. No array has 2^63 bytes or more.
+ * - What a call writes overlaps nothing else that is passed to it: `out`, `place`, `index`, `numbers`, `room`, `spill` and `written` are apart from
+ *   the struct, `keys`, `ends`, the plan, and each other. Ends are tested once and used later: a number that is put over one leads outside the keys.
+ * - No other thread writes to what a call reads or writes, until it returns.
+ * - The stack has room: 16 KiB for a call that builds nothing, 112 KiB for cmph_c_build, 128 KiB for cmph_c_build_brz. With less the process crashes.
  */
 #ifndef CMPH_C_H
 #define CMPH_C_H
@@ -114,8 +125,8 @@ uint32_t cmph_c_answer(const cmph_c_function *function, const uint8_t *key, size
 
 /*
  * The numbers of many keys, which stand one after another in the `keys_len` bytes at `keys`: key i is the bytes from ends[i - 1] (from 0 for the first
- * key) up to ends[i]. numbers[i] is the number of key i, below function->span, or CMPH_C_NONE; `numbers_len` is at least `ends_len`. CMPH_C_NO_FUNCTION, CMPH_C_BAD_END,
- * CMPH_C_TOO_MANY_KEYS and CMPH_C_NO_ROOM put no number.
+ * key) up to ends[i]. numbers[i] is the number of key i, below function->span, or CMPH_C_NONE; `numbers_len` is at least `ends_len`, and the numbers
+ * past those of the keys stay. CMPH_C_NO_FUNCTION, CMPH_C_BAD_END, CMPH_C_TOO_MANY_KEYS and CMPH_C_NO_ROOM put no number.
  */
 uint32_t cmph_c_answers(const cmph_c_function *function, const uint8_t *keys, size_t keys_len, const uint64_t *ends, size_t ends_len,
                         uint32_t *numbers, size_t numbers_len, cmph_c_place *place);
@@ -128,22 +139,24 @@ uint64_t cmph_c_room(const cmph_c_plan *plan, uint32_t keys);
 
 /*
  * Builds the function of keys, which stand one after another as in cmph_c_answers, and puts its file into the first bytes of `room`. *written is how
- * many. CMPH_C_NO_ROOM says in place->at how many bytes are needed, CMPH_C_EQUAL_KEYS which two keys are equal. Memory is taken by malloc, and freed.
+ * many. CMPH_C_NO_ROOM says in place->at how many bytes are needed, as cmph_c_room does, before anything is built: equal keys are looked for only if
+ * there is room. CMPH_C_EQUAL_KEYS says which two keys are equal. Memory is taken by malloc, and freed.
  */
 uint32_t cmph_c_build(const uint8_t *keys, size_t keys_len, const uint64_t *ends, size_t ends_len, const cmph_c_plan *plan, uint8_t *room,
                       size_t room_len, uint64_t *written, cmph_c_place *place);
 
 /*
  * The same by BRZ. The keys are stored in the `spill_len` bytes at `spill`, of which they need ends[ends_len - 1] + 10 * ends_len: CMPH_C_NO_SPILL says so in
- * place->at, before anything is built. It has any bytes afterwards, and overlaps neither the keys nor the room. How many bytes the file has depends on the
- * keys, and CMPH_C_NO_ROOM says it in place->at; 24 + 9 * (ends_len / b + 1) + ratio * ends_len / 4000000 + 1 suffice. CMPH_C_NO_SEED: for some bucket no
+ * place->at, before anything is built. It has any bytes afterwards. How many bytes the file has depends on the keys, and CMPH_C_NO_ROOM says it in
+ * place->at, after the whole build; 24 + 9 * (ends_len / b + 1) + ratio * ends_len / 4000000 + 1 suffice. CMPH_C_NO_SEED: for some bucket no
  * seed works. CMPH_C_NO_SPLIT: more seeds, or a lower b, may help.
  */
 uint32_t cmph_c_build_brz(const uint8_t *keys, size_t keys_len, const uint64_t *ends, size_t ends_len, const cmph_c_plan *plan, uint8_t *spill,
                           size_t spill_len, uint8_t *room, size_t room_len, uint64_t *written, cmph_c_place *place);
 
 /*
- * Which of `shards` shards each key is in: the third hash value of lookup2 under a seed, modulo their number. `out_len` is at least `ends_len`.
+ * Which of `shards` shards each key is in, from 1 to 671,088,645 of them: the third hash value of lookup2 under a seed, modulo their number. `out_len` is at
+ * least `ends_len`.
  */
 uint32_t cmph_c_route(const uint8_t *keys, size_t keys_len, const uint64_t *ends, size_t ends_len, uint32_t seed, uint32_t shards, uint32_t *out,
                       size_t out_len, cmph_c_place *place);

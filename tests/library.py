@@ -66,7 +66,7 @@ def told(room, file):
 
 def named(code):
     """The name of a code in the header, which is now reached."""
-    name = next((name for name, number in NUMBERS.items() if number == int(code) and name not in NO_CODES), code)
+    name = next((name for name, number in NUMBERS.items() if str(number) == code and name not in NO_CODES), code)
     reached.add(name)
     return name
 
@@ -115,6 +115,8 @@ def refusals(room, caller):
         wanted, code = line.split()
         case(f"the code {wanted}", named(code) != wanted and line)
     case("codes", left.returncode and left)
+    for algorithm in ALGORITHMS:
+        case(f"{algorithm}: the stack that the header says", (left := run(caller, "stack", f"words_{algorithm}", "words", cwd=room)).returncode and left)
     left = run(caller, "memory", "many", cwd=room)
     case("builds without memory", left.returncode and left or {named(code) for code in left.stdout.split()} != {"MEMORY"} and left)
     case("each code of the header is reached", set(NUMBERS) - NO_CODES ^ reached)

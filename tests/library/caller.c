@@ -7,6 +7,7 @@
  *   caller fields FUNCTION                          the numbers and the lengths of the struct, in the order of the header
  *   caller codes FUNCTION                           a line for each of some refusals: its name, and the code
  *   caller memory KEYS                              a line for each algorithm: the code of a build without memory
+ *   caller stack FUNCTION KEYS                      calls with the least stack: prints nothing
  *   caller room ALGORITHM RATIO B KEYS ..           a line for each number of keys: how many bytes the function file has
  *   caller build ALGORITHM RATIO B SEED TRIES KEYS OUT     writes the function file; prints the code, `at` and `again`
  *   caller spilled RATIO B SEED TRIES KEYS OUT      the same by BRZ
@@ -18,13 +19,12 @@
  *   caller damaged FUNCTION OTHER KEYS ROUNDS SEED  a line for each damaged dump of two: the code, and the offset
  *   caller damage FUNCTION OTHER SEED NUMBER ..     writes the damaged dumps of these numbers to files damagedNUMBER
  */
-#ifndef _XOPEN_SOURCE
-#define _XOPEN_SOURCE 700 /* for limits of memory */
+#ifndef _GNU_SOURCE
+#define _GNU_SOURCE /* for limits of memory, and stacks */
 #endif
 #include "caller.h"
 #include "damage.h"
-
-#include <sys/resource.h>
+#include "limits.h"
 
 static void numbers(const char *function_path, const char *keys_path) {
     bytes dump = read_file(function_path);
@@ -266,79 +266,6 @@ static void most(const char *function_path) {
     if (cmph_c_build_brz(none, 0, ends, many, &plan, none, 0, none, 0, &written, &place) != CMPH_C_TOO_MANY_KEYS || written != 77) fail("too many keys by BRZ");
 }
 
-/* Keys "a", "b" and "c". */
-static key_list three_keys(void) {
-    static uint8_t letters[] = {'a', 'b', 'c'};
-    static uint64_t ends[] = {1, 2, 3};
-    key_list keys = {letters, 3, ends, 3};
-    return keys;
-}
-
-static uint32_t code_of_build(key_list keys, uint32_t tries) {
-    cmph_c_plan plan = {CMPH_C_BDZ, 1230000, 7, 1, tries};
-    uint8_t dump[64];
-    uint64_t written;
-    cmph_c_place place;
-    return cmph_c_build(keys.at, keys.len, keys.ends, keys.many, &plan, dump, sizeof dump, &written, &place);
-}
-
-/* Calls that are refused, each for one reason. */
-static void codes(const char *function_path) {
-    cmph_c_function function = CMPH_C_FUNCTION_INIT, none = CMPH_C_FUNCTION_INIT;
-    cmph_c_plan plan = {CMPH_C_BRZ, 1230000, 64, 1, 1};
-    cmph_c_place place;
-    index_room index;
-    key_list keys = three_keys(), no_keys = keys, most = keys, same = keys;
-    uint64_t fallen[] = {1, 0, 3}, written;
-    uint32_t found[3];
-    uint8_t dump[64];
-    no_keys.many = 0, most.many = 67108865, most.ends = (uint64_t *)calloc(most.many, sizeof(uint64_t)), same.at = (uint8_t *)room(3);
-    memset(same.at, 'a', 3);
-    if (!most.ends || open_exactly(read_file(function_path), &index, &function, &place) != CMPH_C_OK) fail("not opened");
-    printf("NO_FUNCTION %u\n", cmph_c_answers(&none, keys.at, keys.len, keys.ends, keys.many, found, 3, &place));
-    printf("BAD_END %u\n", cmph_c_answers(&function, keys.at, keys.len, fallen, keys.many, found, 3, &place));
-    printf("TOO_MANY_KEYS %u\n", cmph_c_answers(&function, keys.at, keys.len, most.ends, most.many, found, 3, &place));
-    printf("NO_ROOM %u\n", cmph_c_answers(&function, keys.at, keys.len, keys.ends, keys.many, found, 2, &place));
-    printf("OK %u\n", cmph_c_answers(&function, keys.at, keys.len, keys.ends, keys.many, found, 3, &place));
-    printf("BAD_SHARDS %u\n", cmph_c_route(keys.at, keys.len, keys.ends, keys.many, 1, 0, found, 3, &place));
-    printf("BAD_PLAN %u\nNO_KEYS %u\nEQUAL_KEYS %u\n", code_of_build(keys, 0), code_of_build(no_keys, 1), code_of_build(same, 1));
-    printf("NO_SPILL %u\n", cmph_c_build_brz(keys.at, keys.len, keys.ends, keys.many, &plan, dump, 32, dump + 32, 32, &written, &place));
-}
-
-/* Limits the address space to what is mapped now, and this many bytes more. */
-static void limit_memory(unsigned long more) {
-    unsigned long pages = 0;
-    struct rlimit limit;
-    FILE *file = fopen("/proc/self/statm", "r");
-    if (!file || fscanf(file, "%lu", &pages) != 1 || fclose(file) || getrlimit(RLIMIT_AS, &limit)) fail("how much memory?");
-    limit.rlim_cur = more ? pages * 4096 + more : limit.rlim_max;
-    if (setrlimit(RLIMIT_AS, &limit)) fail("no limit");
-}
-
-/* Builds by each algorithm while there is no memory for a million keys: nothing is written. */
-static void memory(const char *keys_path) {
-    key_list keys = read_keys(keys_path);
-    size_t len = 1 << 24, spill_len = keys.len + 10 * keys.many;
-    uint8_t *dump = (uint8_t *)room(len), *spill = (uint8_t *)room(spill_len);
-    memset(dump, 0x77, len);
-    for (uint32_t algorithm = CMPH_C_CHM; algorithm <= CMPH_C_BRZ; algorithm++) {
-        cmph_c_plan plan = {algorithm, algorithm == CMPH_C_CHM ? 2090000u : 1230000u, algorithm == CMPH_C_BRZ ? 128u : 7u, 1, 100};
-        cmph_c_place place = {7, 7};
-        uint64_t written = 77;
-        uint32_t code;
-        limit_memory(1 << 18);
-        if (algorithm == CMPH_C_BRZ)
-            code = cmph_c_build_brz(keys.at, keys.len, keys.ends, keys.many, &plan, spill, spill_len, dump, len, &written, &place);
-        else
-            code = cmph_c_build(keys.at, keys.len, keys.ends, keys.many, &plan, dump, len, &written, &place);
-        limit_memory(0);
-        for (size_t i = 0; i < len; i++)
-            if (dump[i] != 0x77) fail("a byte that was put without memory");
-        if (written != 77 || place.at || place.again) fail("another place without memory");
-        printf("%u\n", code);
-    }
-}
-
 /* What a struct of any values is made of. */
 typedef struct hostile_job {
     bytes dump;
@@ -475,6 +402,8 @@ int main(int many, char **words) {
         codes(words[2]);
     else if (!strcmp(job, "memory") && many == 3)
         memory(words[2]);
+    else if (!strcmp(job, "stack") && many == 4)
+        stack(words[2], words[3]);
     else if (!strcmp(job, "room") && many > 4)
         rooms(words + 2, many - 2);
     else if (!strcmp(job, "build") && many == 9)

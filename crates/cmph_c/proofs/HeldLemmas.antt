@@ -40,6 +40,12 @@ same_version version.Two version.Two is = refl
 same_brz : (c : Function) (f g : IndexedBrz) → HoldsBrz c f → HoldsBrz c g → f ≡ g
 same_brz c f g one other = one.is ∙ ap (λ (v : Version). brz_held (brz_parts c v)) (same_version one.version other.version (sym one.named ∙ other.named)) ∙ sym other.is
 
+-- and none if its span is not that of this one
+pub no_brz : (c : Function) (o r : Option IndexedBrz) → IfSome o (HoldsBrz c) → IfNone o ((f : IndexedBrz) → HoldsBrz c f → ⊥) → IfNone r (IfSome o (λ f. c.span ≢ f.keys)) → IfNone r ((f : IndexedBrz) → HoldsBrz c f → c.span ≢ f.keys)
+no_brz c o (Some g) held none other = tt
+no_brz c (Some g) None held none other = λ f is same. other (same ∙ ap (λ (x : IndexedBrz). x.keys) (same_brz c f g is held))
+no_brz c None None held none other = λ f is same. none f is
+
 -- the number by this one
 pub brz_number : (c : Function) (key : List ℕ) (o : Option IndexedBrz) (r : ℕ) → c.kind ≡ BRZ → IfSome o (λ f. HoldsBrz c f × (c.span ≡ f.keys)) → IfNone o ((f : IndexedBrz) → HoldsBrz c f → c.span ≢ f.keys) → IfSome o (λ f. r ≡ number_or_none (indexed_answer f key))
     → (f : Lent) → Holds c f → r ≡ number_or_none (lent_answer f key)

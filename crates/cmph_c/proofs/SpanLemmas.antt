@@ -1,7 +1,7 @@
 -- The number of a key is below the span of the struct, whatever the bytes are.
 use Rattle.std.specs.Prelude.{Option, None, Some, IfNone, IfSome, Bool, true, false, if◌then◌else◌, slice_index, nat_lt}
 use Rattle.std.specs.List.{sum_by}
-use Rattle.std.proofs.Common.{◌≡◌, ◌≢◌, ◌∙◌, ◌⊎◌, inl, inr, ℕ, ◌*◌, ◌/◌, ◌%◌, ◌+◌, ◌<◌, ◌≤◌, List, ap, arith, length, sym}
+use Rattle.std.proofs.Common.{◌≡◌, ◌≢◌, ◌∙◌, ◌⊎◌, inl, inr, ℕ, ◌*◌, ◌/◌, ◌%◌, ◌+◌, ◌<◌, ◌≤◌, List, ap, arith, length, subst, sym}
 use Rattle.std.proofs.Math.Nat.{mul-div_cancel_left}
 use Rattle.std.proofs.lemmas.Bool.{cases_lt}
 use Rattle.std.proofs.lemmas.Nat.{mod_below}
@@ -15,12 +15,13 @@ use Rattle.cm_dump_lent.specs.declared.lent.Lent.{Lent}
 use Rattle.cm_dump_lent.specs.declared.lent.Lent.TheVariants as lent
 use Rattle.cm_func.specs.Functions.{span_by}
 use Rattle.cm_keys_lent.specs.Ends.{key_in}
-use Rattle.cm_keys_lent.specs.Pass.{LentPass}
+use Rattle.cm_keys_lent.specs.Pass.{IsLentPass, LentPass}
 use Rattle.cm_lib_lent.specs.Numbers.{ArePut, number_or_none}
 use Rattle.cm_lib_lent.specs.declared.numbers.TheConstants.{NONE}
 use Rattle.cm_spec.specs.Bdz.{bdz_edge}
 use Rattle.cm_spec.specs.Chm.{Chm}
 use Rattle.cm_spec.specs.Lookup2.{words}
+use Rattle.cmph_c.specs.Answering.{ArePutBy, pass_of}
 use Rattle.cmph_c.specs.Functions.{Holds, HoldsBrz}
 use Rattle.cmph_c.specs.declared.function.Function.{Function}
 
@@ -72,6 +73,19 @@ pub put_below : (c : Function) (f : Lent) (keys : LentPass) (n : ℕ) (old new :
 put_below c f keys n old new holds put i l some =
     let key = key_in keys.bytes keys.ends i in
     number_below (lent_answer f key) c.span (span_by (func_by f)) (slice_index new i) holds.1 (answer_below c f holds key) (put.put i (omega arith) l) some
+
+-- the numbers of keys
+pub put_by : (c : Function) (f : Lent) (bytes ends old new : List ℕ) (pass : LentPass) (count : ℕ) → Holds c f → pass ≡ pass_of bytes ends → IsLentPass pass → count ≡ length pass.ends → count ≤ length old → ArePut (lent_answer f) pass 0 (length pass.ends) old new → ArePutBy c bytes ends old new
+put_by c f bytes ends old new pass count holds same valid counted room put =
+    let keys_put : ArePut (lent_answer f) (pass_of bytes ends) 0 (length ends) old new = subst (λ (p : LentPass). ArePut (lent_answer f) p 0 (length p.ends) old new) same put in
+    record {
+      lent = f;
+      holds = holds;
+      keys_are = subst IsLentPass same valid;
+      room = omega (arith, counted, room, ap (λ (p : LentPass). length p.ends) same);
+      put = keys_put;
+      below = put_below c f (pass_of bytes ends) (length ends) old new holds keys_put;
+    }
 
 -- the number by a function that a struct may hold
 pub held_below : {T : Type 0} (c : Function) (by : T → Lent) (o : Option T) (r : ℕ) → IfSome o (λ f. Holds c (by f)) → IfSome o (λ f. r ≢ NONE → r < span_by (func_by (by f))) → IfNone o (r ≡ NONE) → r ≢ NONE → r < c.span

@@ -1,5 +1,5 @@
 -- What a build puts into the caller's room, and why there is no function.
-use Rattle.std.specs.Prelude.{◌≡◌, ◌-◌, ◌≤◌, ◌⊎◌, ◌==◌, ℕ, List, [], ◌∷◌, Option, None, Some, if◌then◌else◌}
+use Rattle.std.specs.Prelude.{◌≡◌, ◌-◌, ◌<◌, ◌≤◌, ◌⊎◌, ◌==◌, ℕ, List, [], ◌∷◌, Option, None, Some, length, if◌then◌else◌}
 use Rattle.cm_algo_names.specs.declared.algorithm.Algorithm.{Algorithm}
 use Rattle.cm_algo_names.specs.declared.algorithm.Algorithm.TheVariants as algorithm
 use Rattle.cm_keys_lent.specs.Pass.{IsLentPass}
@@ -57,12 +57,14 @@ pub record IsBuildable (p : Plan) (keys : ℕ) : Type 0 where
 abbrev pub IsRoomFor : Plan → ℕ → ℕ → Type 0
 IsRoomFor p keys n = (plan : planned.Plan) → IsPlanFor p plan → n ≡ dump_len_by plan keys
 
--- The room begins with the file of the function of the keys.
+-- The room begins with the file of the function of the keys, and has as many bytes as the file of a function of so many keys.
 pub record IsBuilt (p : Plan) (bytes ends : List ℕ) (written : ℕ) (old new : List ℕ) : Type 0 where
   pub good : IsGoodPlan p
   pub keys_are : IsLentPass (pass_of bytes ends)
+  pub some : 1 ≤ length ends
   pub plan : planned.Plan
   pub planned : IsPlanFor p plan
+  pub enough : dump_len_by plan (length ends) ≤ length old
   pub saved : IsSaved plan (seeds_of p.seed p.tries) (pass_of bytes ends) written old new
 
 -- the code for equal keys, if there are some, or else another one
@@ -103,18 +105,33 @@ build_again (lent.Build (faults.Cored shown)) = again_of shown.equal.items
 build_again (lent.Build (faults.Overfull seed bucket count equal)) = again_of equal.items
 build_again fault = 0
 
--- There is no function in the room, for this reason.
+-- The room has fewer bytes than the file of a function of so many keys.
+pub record LacksRoom (p : Plan) (keys room code : ℕ) (place : Place) : Type 0 where
+  pub some : 1 ≤ keys
+  pub needed : ℕ
+  pub room_for : IsRoomFor p keys needed
+  pub short : room < needed
+  pub code_is : code ≡ NO_ROOM
+  pub place_is : place ≡ at_only needed
+
+-- It has as many, and there is no function of these keys. So the fault is not of the room, by a law of cm_lib_lent.
 pub record FailsBuild (p : Plan) (bytes ends : List ℕ) (room code : ℕ) (place : Place) : Type 0 where
-  pub keys_are : IsLentPass (pass_of bytes ends)
+  pub some : 1 ≤ length ends
   pub plan : planned.Plan
   pub planned : IsPlanFor p plan
+  pub enough : dump_len_by plan (length ends) ≤ room
   pub fault : LentFault
   pub fails : FailsLent plan (seeds_of p.seed p.tries) (pass_of bytes ends) room fault
   pub code_is : code ≡ build_code fault
   pub place_is : (place.at ≡ build_place fault) × (place.again ≡ build_again fault)
 
--- The plan is refused; or it is good, and the ends are refused; or they are right, and the build is refused.
+-- There are no keys; or there are some, and too little room for a function of so many; or there is enough, and no function.
+abbrev pub FailsKeys : Plan → List ℕ → List ℕ → ℕ → ℕ → Place → Type 0
+FailsKeys p bytes ends room code place =
+    ((length ends ≡ 0) × (code ≡ NO_KEYS) × (place ≡ at_only 0)) ⊎ (LacksRoom p (length ends) room code place ⊎ FailsBuild p bytes ends room code place)
+
+-- The plan is refused; or it is good, and the ends are refused; or they are right, and the keys are refused.
 abbrev pub IsUnbuilt : Plan → List ℕ → List ℕ → ℕ → ℕ → Place → Type 0
 IsUnbuilt p bytes ends room code place =
     ((IsGoodPlan p → ⊥) × (code ≡ BAD_PLAN) × (place ≡ at_only 0))
-    ⊎ (IsGoodPlan p × (IsBadEnd bytes ends code place ⊎ FailsBuild p bytes ends room code place))
+    ⊎ (IsGoodPlan p × (IsBadEnd bytes ends code place ⊎ (IsLentPass (pass_of bytes ends) × FailsKeys p bytes ends room code place)))

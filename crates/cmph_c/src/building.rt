@@ -145,9 +145,9 @@ pub(crate) fn why(fault: LentFault) -> (u32, Place)
 
 /// Builds the function of keys in memory by CHM, BDZ or BDZ_PH, under the first of the plan's seeds that works, and puts its file into the
 /// first bytes of the room, of version 2. `written` is then how many bytes that are. The keys stand one after another in `keys`, each up to its
-/// end. Returns `OK`, or `BAD_PLAN`, `BAD_END` with the first key whose end is wrong, `TOO_MANY_KEYS`, `NO_KEYS`, `EQUAL_KEYS` with the first pair,
-/// `NO_SEED`, `NO_ROOM` with the number of bytes that are needed, or `MEMORY`, and then the room stays as it was. Memory of the C library is taken
-/// while it builds, and returned.
+/// end. Returns `OK`, or `BAD_PLAN`, `BAD_END` with the first key whose end is wrong, `TOO_MANY_KEYS`, `NO_KEYS`, `NO_ROOM` with the number of bytes
+/// that are needed, before anything is built, `EQUAL_KEYS` with the first pair, `NO_SEED`, or `MEMORY`, and then the room stays as it was. Memory of
+/// the C library is taken while it builds, and returned.
 #[tactic(auto, using(crate::proofs::BuildLemmas::spilled_too))]
 #[unsafe(no_mangle)]
 pub extern "C" fn cmph_c_build(
@@ -179,6 +179,16 @@ pub extern "C" fn cmph_c_build(
             return code;
         }
     };
+    let count = pass.count() as u32;
+    if count == 0 {
+        *place = at_only(0);
+        return NO_KEYS;
+    }
+    let needed = room_of(plan, count);
+    if (room.len() as u64) < needed {
+        *place = at_only(needed);
+        return NO_ROOM;
+    }
     let tried = seeds(plan.seed, plan.tries);
     match build_into(alloc, &planned, &tried, &mut pass, room) {
         Ok(len) => {

@@ -1,7 +1,7 @@
 //! The numbers that callers compare with. Each function has an empty body, and its clauses are checked by the prover.
 ghost use Rattle.std.specs.Prelude.{◌≡◌, ◌^◌, ◌-◌};
 ghost use Rattle.cm_lib_lent.specs.declared.numbers.TheConstants.{NONE};
-ghost use Rattle.cmph_c.specs.declared.code.TheConstants as code;
+ghost use Rattle.cmph_c.specs.declared.codes.TheConstants as code;
 ghost use Rattle.cmph_c.specs.declared.function.TheConstants.{BDZ, BDZ_PH, BRZ, CHM, NONE_KIND};
 
 /// The codes of done, of no memory, and of faults of the bytes of a function.
