@@ -1,7 +1,8 @@
 //! The header of a store file.
-ghost use Rattle.std.specs.Prelude.{◌≡◌, ◌≤◌, IfOk, OnOk};
+ghost use Rattle.std.specs.Prelude.{◌≡◌, ◌≢◌, ◌≤◌, Err, IfOk, OnOk};
 ghost use Rattle.std.specs.Option.{ForSome};
 ghost use Rattle.cm_dump_items.specs.Reading.{Answers, HasLoadCause, IsAt};
+ghost use Rattle.cm_dump_items.specs.declared.fault.LoadFault.{LoadFault};
 ghost use Rattle.cm_store_file.specs.Headers.{header_at, magic_at};
 ghost use Rattle.cm_store_file.specs.declared.header.TheConstants.{HEADER_LEN};
 ghost use Rattle.cm_store_records.specs.declared.limits.TheConstants.{MAX_RECORD_BYTES};
@@ -33,6 +34,7 @@ fn read_magic<S: Source>(source: &mut S) -> Result<(), LoadFault>
     ensures at { OnOk result (IsAt (S.told source.new) (S.place source.new) 8) }
     ensures exact { ForSome (S.told source.old) (λ bytes. Answers (λ x. x) result (magic_at bytes)) }
     ensures cause { HasLoadCause (S.faults source.old) (S.faults source.new) result }
+    ensures memory { result ≢ Err LoadFault.Memory }
 {
     let mut buf = [0; 8];
     item(source, 0, &mut buf)?;
@@ -52,6 +54,7 @@ pub(crate) fn read_header<S: Source>(source: &mut S) -> Result<Header, LoadFault
     ensures records { IfOk result (λ h. (1 ≤ h.records) × (h.records ≤ MAX_RECORD_BYTES)) }
     ensures exact { ForSome (S.told source.old) (λ bytes. Answers (λ h. h) result (header_at bytes)) }
     ensures cause { HasLoadCause (S.faults source.old) (S.faults source.new) result }
+    ensures memory { result ≢ Err LoadFault.Memory }
 {
     read_magic(source)?;
     let index = number(source, 8, 0, u32::MAX)?;

@@ -1,10 +1,11 @@
 //! The items of a store file, each read at its offset and checked, with the faults of the file.
-ghost use Rattle.std.specs.Prelude.{◌≡◌, ◌+◌, ◌<◌, ◌≤◌, ◌^◌, IfOk, OnOk, length};
+ghost use Rattle.std.specs.Prelude.{◌≡◌, ◌≢◌, ◌+◌, ◌<◌, ◌≤◌, ◌^◌, Err, IfOk, OnOk, length};
 ghost use Rattle.std.specs.Option.{ForSome};
 ghost use Rattle.cm_dump_items.specs.Reading.{IsAt, end_at, item_at};
 ghost use Rattle.cm_store_file.specs.Headers.{header_at};
 ghost use Rattle.cm_store_file.specs.Loads.{HasStoreCause, IsRead};
 ghost use Rattle.cm_store_file.specs.Steps.{lifted};
+ghost use Rattle.cm_store_file.specs.declared.fault.StoreLoad.{StoreLoad};
 ghost use Rattle.cm_store_file.specs.declared.header.TheConstants.{HEADER_LEN};
 ghost use Rattle.cm_store_records.specs.declared.limits.TheConstants.{MAX_RECORD_BYTES};
 
@@ -22,6 +23,7 @@ pub(crate) fn header<S: Source>(source: &mut S) -> Result<Header, StoreLoad>
     ensures records { IfOk result (λ h. (1 ≤ h.records) × (h.records ≤ MAX_RECORD_BYTES)) }
     ensures exact { ForSome (S.told source.old) (λ bytes. IsRead (λ h. h) result (lifted (header_at bytes))) }
     ensures cause { HasStoreCause (S.faults source.old) (S.faults source.new) result }
+    ensures memory { result ≢ Err StoreLoad.Memory }
 {
     match read_header(source) {
         Ok(header) => Ok(header),
@@ -56,6 +58,7 @@ pub(crate) fn last<S: Source>(source: &mut S, at: u64) -> Result<(), StoreLoad>
     ensures told { S.told source.new ≡ S.told source.old }
     ensures exact { ForSome (S.told source.old) (λ bytes. IsRead (λ x. x) result (lifted (end_at bytes at))) }
     ensures cause { HasStoreCause (S.faults source.old) (S.faults source.new) result }
+    ensures memory { result ≢ Err StoreLoad.Memory }
 {
     match end(source, at) {
         Ok(()) => Ok(()),

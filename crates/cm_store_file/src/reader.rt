@@ -1,12 +1,14 @@
 //! The store whose file a source has.
-ghost use Rattle.std.specs.Prelude.{◌≡◌, ◌+◌, ◌*◌, ◌<◌, ◌≤◌, ◌^◌, ℕ, IfOk, OnOk, length};
+ghost use Rattle.std.specs.Prelude.{◌≡◌, ◌≢◌, ◌+◌, ◌*◌, ◌<◌, ◌≤◌, ◌^◌, ℕ, Err, IfOk, IsOk, OnOk, length};
 ghost use Rattle.std.specs.Option.{ForSome};
 ghost use Rattle.cm_dump_items.specs.Reading.{IsAt};
 ghost use Rattle.cm_bdz.specs.Functions.{IsBdz};
 ghost use Rattle.cm_spec.specs.declared.limits.TheConstants.{MAX_KEYS};
 ghost use Rattle.cm_store.specs.Stores.{IsStore};
+ghost use Rattle.cm_store_file.specs.Headers.{header_at};
 ghost use Rattle.cm_store_file.specs.Loads.{HasStoreCause, IsLoaded, IsRead};
 ghost use Rattle.cm_store_file.specs.StoreFiles.{index_at, index_in, places_at, places_in, store_at, store_unless};
+ghost use Rattle.cm_store_file.specs.declared.fault.StoreLoad.{StoreLoad};
 ghost use Rattle.cm_store_file.specs.declared.header.TheConstants.{HEADER_LEN};
 ghost use Rattle.cm_store_records.specs.declared.limits.TheConstants.{MAX_RECORD_BYTES};
 
@@ -102,6 +104,7 @@ fn store_of(index: Bdz, places: Plain, bytes: Vec<u8>) -> Result<Store, StoreLoa
     ensures exact { IsRead (λ s. s) result (store_unless (record { index = index; places = ⟦<Plain as Cells>⟧.cells places; bytes = bytes.items })) }
     ensures valid { IfOk result (λ s. IsStore s × IsBdz s.index) }
     ensures cause { (n : ℕ) → HasStoreCause n n result }
+    ensures memory { result ≢ Err StoreLoad.Memory }
 {
     match Store::from_parts(index, places, bytes) {
         Ok(store) => Ok(store),
@@ -141,8 +144,8 @@ fn read_store<S: Source>(
 }
 
 /// Loads a store from a source at its start: the one whose file all the bytes are. Returns `Read` exactly if the source fails, and
-/// `Memory` only if memory runs out. Any other error is the first fault of the bytes. Memory is allocated as bytes are read, whatever the
-/// header claims.
+/// `Memory` only if memory runs out after a header without a fault. Any other error is the first fault of the bytes. Memory is allocated
+/// as bytes are read, whatever the header claims.
 #[tactic(auto, unfolding(crate::specs::StoreFiles::store_in))]
 pub fn load_store<S: Source>(alloc: Global, source: &mut S) -> Result<Store, StoreLoad>
     requires start { ForSome (S.told source.old) (λ _. S.place source.old ≡ 0) }
@@ -150,6 +153,7 @@ pub fn load_store<S: Source>(alloc: Global, source: &mut S) -> Result<Store, Sto
     ensures spelled { ForSome (S.told source.old) (λ bytes. IsLoaded (λ s. s) bytes result) }
     ensures valid { IfOk result (λ s. IsStore s × IsBdz s.index) }
     ensures cause { HasStoreCause (S.faults source.old) (S.faults source.new) result }
+    ensures memory { result ≡ Err StoreLoad.Memory → ForSome (S.told source.old) (λ bytes. IsOk (header_at bytes)) }
 {
     let header = header(source)?;
     let index = read_index(alloc, source, header.index)?;
