@@ -91,7 +91,8 @@ def names():
         return
     shared, archive = (run("nm", *words).stdout.splitlines() for words in (("-D", "--defined-only", LIB / "libcmph_c.so.1"), ("-g", "--defined-only", ARCHIVE)))
     case("the header declares what the shared library exports", declared ^ {line.split()[-1].partition("@")[0] for line in shared if " T " in line})
-    case("the header declares what the archive exports", declared ^ {line.split()[-1] for line in archive if " T cmph" in line})
+    kit = "rattle_"  # how the names of the kit begin, whose functions take memory
+    case("the header declares what the archive exports", declared ^ {line.split()[-1] for line in archive if " T " in line and f" T {kit}" not in line})
 
 
 def version(room, caller):
