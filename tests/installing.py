@@ -209,8 +209,13 @@ def without_kit(room):
     return str(linked(room, "no_kit", [name for name in os.listdir("/usr/bin") if name != "rt"]))
 
 
+def first_command():
+    """The first command of the README."""
+    return next(line.strip() for line in (TOP / "README.md").read_text().splitlines() if line.startswith("    "))
+
+
 def newcomer(room):
-    """Clones the repository, installs the release and asks for a number."""
+    """Clones the repository, runs the first command of the README, which has to install below ~/.local, and asks for a number."""
     home, clone = folder(room, "newcomer"), room / "newcomer" / "cmph"
     around = {"PATH": without_kit(room), "HOME": str(home)}
     alone = ["unshare", "-n"] if BY and run("unshare", "-n", "true").returncode == 0 else []
@@ -218,8 +223,7 @@ def newcomer(room):
         skipped("a newcomer without a network", "the network can't be taken away here")
     case("a clone", run("git", "clone", "-q", TOP, clone, env={**os.environ, **around}).stderr)
     shutil.copytree(RELEASE, clone / "release", dirs_exist_ok=True)
-    script = ('sh release/install.sh ~/.local && PATH="$HOME/.local/bin:$PATH" && cp examples/words "$HOME/words" && cd && '
-              "cmph -g words && cmph words | head -n 3")
+    script = f'set -e\n{first_command()}\nPATH="$HOME/.local/bin:$PATH"\ncp examples/words "$HOME/words"\ncd\ncmph -g words\ncmph words | head -n 3\n'
     start = time.monotonic()
     left = run(*alone, "sh", "-c", script, cwd=clone, env=around)
     seconds = time.monotonic() - start

@@ -75,7 +75,7 @@ def main():
         if (fields["sources"], fields["kit"]) == (sources.sources_sum(), sources.kit()):
             compare(tree, Path(scratch))
         else:
-            print("the release is of other sources: its sums alone are checked")
+            skipped("the bytes that the gate built", "the release is of other sources: its sums alone are checked")
     return close()
 
 
