@@ -29,6 +29,12 @@ def stated(path, pattern):
     case(f"the version in {path.name} of {path.parent.name}", found != {VERSION} and f"{found}, and VERSION has {VERSION}")
 
 
+def number():
+    """The version as the C library has it: 20000 for 2.0.0."""
+    major, minor, patch = map(int, VERSION.split("."))
+    return major * 10000 + minor * 100 + patch
+
+
 def of_library(lib):
     if (lib / "pkgconfig" / "cmph_c.pc").exists():
         stated(lib / "pkgconfig" / "cmph_c.pc", r"^Version: (.*)$")
@@ -38,15 +44,15 @@ def of_library(lib):
     if not hasattr(library, "cmph_c_version"):
         skipped("cmph_c_version", "the library has no such call")
         return
-    major, minor, patch = map(int, VERSION.split("."))
     found = library.cmph_c_version()
-    case("cmph_c_version", found != major * 10000 + minor * 100 + patch and f"it returns {found}")
+    case("cmph_c_version", found != number() and f"it returns {found}")
 
 
 def main():
     program, *lib = map(Path, sys.argv[1:])
     for name, pattern in PACKAGES.items():
         stated(TOP / name, pattern)
+    case("CMPH_C_VERSION of the header", f"#define CMPH_C_VERSION {number()}\n" not in (TOP / "library" / "cmph_c.h").read_text())
     left = run(program.resolve(), "-V")
     case("cmph -V", left.stdout != f"cmph {VERSION.split('.')[0]}\n" and left)
     for folder in lib:
