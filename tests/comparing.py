@@ -4,6 +4,8 @@ import sys
 import tempfile
 from pathlib import Path
 
+import counting
+
 
 def programs(*names):
     """The programs of the command line, or those below crates/ in place of the ones that are left out."""
@@ -55,12 +57,8 @@ def differing(file):
 
 
 def judge(cases):
-    """Prints the first failure of each case, and how many passed. `cases` yields the failures of each case in a folder."""
-    count, failures = 0, []
+    """Counts the cases, and prints the first failure of each. `cases` yields the failures of each case in a folder."""
     with tempfile.TemporaryDirectory() as scratch:
         for wrong in cases(Path(scratch)):
-            count, failures = count + 1, failures + list(wrong)[:1]
-    for failure in failures:
-        print("failed:", failure)
-    print(f"{count - len(failures)} passed, {len(failures)} failed")
-    sys.exit(bool(failures) or not count)
+            counting.case("failed", next(iter(list(wrong)), None))
+    sys.exit(counting.close())

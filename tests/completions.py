@@ -14,6 +14,8 @@ import subprocess
 import sys
 from pathlib import Path
 
+import counting
+
 TOP = Path(__file__).resolve().parent.parent
 BASH, ZSH = TOP / "completions" / "cmph.bash", TOP / "completions" / "_cmph"
 PROGRAMS = ["cmph", "cmph_judge", "cmph_filter", "cmph_store", "cmph_shards"]
@@ -176,12 +178,10 @@ def main():
     if shutil.which("zsh"):
         compared.append(("the faults that zsh finds", "".join(run("zsh", "-n", ZSH.with_name(f"_{name}")).stderr for name in PROGRAMS), ""))
     else:
-        print("skipped, there is no zsh: the faults that it finds")
-    wrong = [f"{what}: {found}, and must be {wanted}" for what, found, wanted in compared if found != wanted]
-    for line in wrong:
-        print(line)
-    print(f"{len(compared) - len(wrong)} passed, {len(wrong)} failed")
-    return 1 if wrong else 0
+        counting.skipped("the faults that zsh finds", "there is no zsh")
+    for what, found, wanted in compared:
+        counting.case(what, found != wanted and f"{found}, and must be {wanted}")
+    return counting.close()
 
 
 if __name__ == "__main__":

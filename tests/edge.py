@@ -4,7 +4,8 @@
     tests/edge.py [CMPH [JUDGE [FILTER [STORE [SHARDS]]]]]   the programs are those below crates/ if they are left out
     tests/edge.py --list                    lists the cases
 
-Each case runs in a folder of its own, as nobody if this runs as root. The last line is 'N passed, M failed'.
+Each case runs in a folder of its own, as nobody if this runs as root. Those that bend calls need a C compiler, and are skipped without one. The last line is
+'N passed, M failed', with the cases that were skipped.
 """
 import os
 import resource
@@ -13,6 +14,7 @@ import subprocess
 import sys
 import tempfile
 
+import counting
 from dumps import BDZ_ONE, BDZ_PH_TWO, CHM_ONE, CHM_TWO, FUNCTIONS, OLDER, TWO, TWO_ANSWERS, TWO_EQUAL
 from room import CASES, HERE, Skipped, Wrong, case, closed, closed_once, ends, limited, lines, made_shim, run_case, said, same
 
@@ -488,7 +490,6 @@ def main():
         for name, _ in CASES:
             print(f"- {name}")
         return 0
-    passed = failed = 0
     with tempfile.TemporaryDirectory(prefix="cmph-edge-") as top:
         os.chmod(top, 0o755)
         for number, name in enumerate(["cmph", "cmph_judge", "cmph_filter", "cmph_store", "cmph_shards"], 1):
@@ -498,17 +499,10 @@ def main():
         shim = made_shim(top)
         for number, (name, body) in enumerate(CASES):
             try:
-                wrong = run_case(body, os.path.join(top, str(number)), top, shim)
+                counting.case(name, run_case(body, os.path.join(top, str(number)), top, shim))
             except Skipped:
-                print(f"skipped, there is no C compiler: {name}")
-                continue
-            if wrong is None:
-                passed += 1
-            else:
-                failed += 1
-                print(f"FAILED {name}: {wrong}")
-    print(f"{passed} passed, {failed} failed")
-    return 1 if failed or not passed else 0
+                counting.skipped(name.replace(",", ";"), "there is no C compiler")
+    return counting.close()
 
 
 if __name__ == "__main__":

@@ -3,13 +3,15 @@
 
     tests/manual.py
 
-Without mandoc (Debian's package of this name) only the names are checked. The last line is 'N passed, M failed', two cases a page.
+Without mandoc (Debian's package of this name) only the names are checked. The last line is 'N passed, M failed', two cases a page, with what was skipped.
 """
 import re
 import shutil
 import subprocess
 import sys
 from pathlib import Path
+
+import counting
 
 MAN = Path(__file__).resolve().parent.parent / "man"
 ABSENT = re.compile(r"referenced manual not found: Xr (\S+) (\d)")  # said of pages that are not installed
@@ -33,16 +35,11 @@ def main():
     if shutil.which("mandoc"):
         checks.append(lint)
     else:
-        print("mandoc: left out, install Debian's mandoc")
-    passed = failed = 0
+        counting.skipped("what mandoc says of the pages", "there is no mandoc, which Debian's package of this name has")
     for page in sorted(MAN.glob("*.[1-9]")):
         for check in checks:
-            faults = check(page)
-            passed, failed = passed + (not faults), failed + bool(faults)
-            for fault in faults:
-                print(f"{page.name}: {fault}")
-    print(f"{passed} passed, {failed} failed")
-    return failed > 0
+            counting.case(page.name, "; ".join(check(page)))
+    return counting.close()
 
 
 if __name__ == "__main__":

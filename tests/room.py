@@ -162,15 +162,19 @@ def lines(count):
     return b"".join(b"key number %d\n" % number for number in range(count))
 
 
+def has_compiler():
+    """The C compiler, if there is one."""
+    return next(filter(None, map(shutil.which, ["cc", "gcc", "clang"])), None)
+
+
 def made_shim(folder):
     """Compiles the shim, if there is a compiler."""
-    to = os.path.join(folder, "shim.so")
-    for compiler in ["cc", "gcc", "clang"]:
-        if shutil.which(compiler):
-            subprocess.run([compiler, "-shared", "-fPIC", "-O1", "-o", to, os.path.join(HERE, "shim.c"), "-ldl"], check=True)
-            os.chmod(to, 0o755)
-            return to
-    return None
+    to, compiler = os.path.join(folder, "shim.so"), has_compiler()
+    if compiler is None:
+        return None
+    subprocess.run([compiler, "-shared", "-fPIC", "-O1", "-o", to, os.path.join(HERE, "shim.c"), "-ldl"], check=True)
+    os.chmod(to, 0o755)
+    return to
 
 
 def run_case(body, folder, programs, shim):

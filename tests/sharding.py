@@ -6,7 +6,7 @@ files must be as they were, but for those that the run makes.
     tests/sharding.py [CMPH [SHARDS]]        the programs below crates/ if they are left out
 
 The engine contrib/shards/cmph-shards is run too, if /usr/bin/python3 has dask, and the Snakefile beside it, if snakemake is there. The last line is 'N passed, M failed', where each set of keys and each list of runs is
-one case.
+one case, with the cases that were skipped.
 """
 import functools
 import itertools
@@ -20,12 +20,13 @@ import sys
 from pathlib import Path
 
 import comparing
+import counting
 import dumps
 import functions
 import judge
 import shards as plain
 from comparing import difference, put
-from room import Room, made_shim
+from room import Room, has_compiler, made_shim
 
 judge.hashes = functools.cache(judge.hashes)  # of the same keys, for thousands of runs
 functions.read = functools.cache(functions.read)
@@ -375,18 +376,30 @@ def of_full_disks(room):
         yield from difference(f"a join with files of {most} bytes", (*left, (room / "d/all").read_bytes()), (5, b"", plain.said("d/all: cannot write"), whole[:most]))
 
 
-def of_small_disk(room):
-    """The same on a file system of 64 kilobytes, if one can be mounted."""
+# Runs a command over a file system of 64 kilobytes in the folder d, and copies the files in it into the folder left.
+MOUNT = ["unshare", "-m", "sh", "-c", 'mount -t tmpfs -o size=64k none d && { "$@"; status=$?; cp d/* left; exit $status; }', "sh"]
+
+
+def with_disk(room):
     (room / "d").mkdir()
-    mount = ["unshare", "-m", "sh", "-c", 'mount -t tmpfs -o size=64k none d && { "$@"; status=$?; cp d/* left; exit $status; }', "sh"]
     (room / "left").mkdir()
-    if shutil.which("unshare") is None or subprocess.run([*mount, "touch", "d/there"], cwd=room, capture_output=True).returncode or not (room / "left/there").exists():
-        return
-    (room / "left/there").unlink()
-    put(room / "keys", text_of(many_keys(20000)))
+    return room
+
+
+def can_mount(room):
+    """Whether a small file system can be mounted, and none of its files stays in the folder."""
+    if shutil.which("unshare") is None:
+        return False
+    tried = subprocess.run([*MOUNT, "touch", "d/there"], cwd=with_disk(room), capture_output=True)
+    return tried.returncode == 0 and (room / "left/there").exists() and not (room / "d/there").exists()
+
+
+def of_small_disk(room):
+    """The same on a file system of 64 kilobytes."""
+    put(with_disk(room) / "keys", text_of(many_keys(20000)))
     words = ["-n", "5", "-d", "d", "keys"]
     made = {path.replace("d/", "left/"): content for path, content in plain.ended(words, room).made.items()}
-    ended = subprocess.run([*mount, SHARDS, *words], cwd=room, capture_output=True)
+    ended = subprocess.run([*MOUNT, SHARDS, *words], cwd=room, capture_output=True)
     yield from difference("a split onto a full disk", (ended.returncode, ended.stdout, ended.stderr), (5, b"", plain.said("d: cannot write")))
     yield from prefixes(room, files_in(room), made)
     yield from difference("the counts", ((room / "left/counts").read_bytes(),), (b"",))
@@ -426,9 +439,6 @@ def calls_on(room, shim, *words):
 def of_calls(room):
     """A file that gets more bytes than a buffer has is opened and closed for each piece, and synced after its last byte; so is one that gets none."""
     shim = made_shim(room)
-    if shim is None:
-        print("skipped: no C compiler")
-        return
     put(room / "keys", text_of(many_keys(20000)))
     (room / "d").mkdir()
     calls = yield from calls_on(room, shim, "-n", "1", "-d", "d", "keys")
@@ -566,17 +576,16 @@ def cases(room):
     put(commands / "one.mph", dumps.BDZ_ONE)
     (commands / "d").mkdir()
     yield of_commands(commands)
-    for body in (of_small, of_manifests, of_functions, of_other_algorithms, of_names, of_equal_keys, of_full_disks, of_small_disk, of_outputs, of_calls):
+    for body in (of_small, of_manifests, of_functions, of_other_algorithms, of_names, of_equal_keys, of_full_disks, of_outputs):
         yield case(body)
-    if has_dask():
-        yield case(of_engine)
-        yield case(of_engine_refusals)
-    else:
-        print("skipped: no dask")
-    if shutil.which("snakemake"):
-        yield case(of_snakefile)
-    else:
-        print("skipped: no snakemake")
+    for body, is_there, why in (
+        (of_small_disk, can_mount(new_room(room, "mount")), "no file system can be mounted"), (of_calls, has_compiler(), "there is no C compiler"),
+        (of_engine, has_dask(), "there is no dask"), (of_engine_refusals, has_dask(), "there is no dask"), (of_snakefile, shutil.which("snakemake"), "there is no snakemake"),
+    ):
+        if is_there:
+            yield case(body)
+        else:
+            counting.skipped(body.__name__.removeprefix("of_").replace("_", " "), why)
 
 
 if __name__ == "__main__":
