@@ -483,6 +483,7 @@ import spilling  # noqa: E402, F401
 import reports  # noqa: E402, F401
 import filters  # noqa: E402, F401
 import stores  # noqa: E402, F401
+import splits  # noqa: E402, F401
 
 
 def main():
