@@ -1,8 +1,4 @@
 //! The images of packed tables, and the faults of bytes that are none.
-ghost use Rattle.std.specs.Prelude.{◌≡◌, ◌<◌, length, IfOk, IfErr};
-ghost use Rattle.cm_bits.specs.declared.fault.ImageFault.TheVariants.{Memory};
-ghost use Rattle.cm_spec.specs.Lists.{list_of};
-
 use crate::equal::{expect_bytes, expect_equal, expect_equal_at};
 use cm_bits::{
     Bits, Cells, Crumbs, Fields, ImageFault, MAX_CELLS, MAX_FIELD_BOUND, Plain, Trits, filled,
@@ -11,41 +7,34 @@ use std::alloc::{AllocError, Global};
 use std::process::Abort;
 use std::test::Fail;
 
-/// The image of a table, byte by byte.
-fn image_of<C: Cells>(alloc: Global, table: &C) -> Result<Vec<u8>, AllocError>
-    ensures { IfOk result (λ v. v.items ≡ list_of (C.image_byte (C.bound_of table.now) (C.cells table.now)) (C.image_size (length (C.cells table.now)) (C.bound_of table.now))) }
-{
-    let len = C::image_len(table.len(), table.bound());
-    let mut image = Vec::new(alloc);
-    for i in 0..len {
-        image.push(table.byte(i))?;
-    }
-    Ok(image)
-}
-
-/// The table again, from its image: the laws of every table say that nothing is lost.
-fn copied<C: Cells>(alloc: Global, table: &C) -> Result<C, ImageFault>
-    ensures same { IfOk result (λ t. C.cells t ≡ C.cells table.now) }
-    ensures bound { IfOk result (λ t. C.bound_of t ≡ C.bound_of table.now) }
-    ensures memory_only { IfErr result (λ e. e ≡ Memory) }
-{
-    let Ok(image) = image_of(alloc, table) else {
-        return Err(ImageFault::Memory);
-    };
-    match C::from_image(alloc, table.len(), table.bound(), &image) {
-        Ok(again) => Ok(again),
-        Err(fault) => Err(fault),
+/// Fails the test unless a table has this image.
+fn expect_image<C: Cells>(rt: &impl Abort, table: &C, bytes: &[u8]) {
+    expect_equal(
+        rt,
+        &C::image_len(table.len(), table.bound()),
+        &(bytes.len() as u64),
+    );
+    for (i, byte) in bytes.iter().enumerate() {
+        assert!(rt; (i as u64) < C::image_len(table.len(), table.bound()));
+        expect_equal_at(rt, &i, &table.byte(i as u64), byte);
     }
 }
 
-/// A table has its cells, and the image has its bytes, on the way there and back.
-fn has_image<C: Cells + Drop>(
+/// Fails the test unless a table has these cells.
+fn expect_cells<C: Cells>(rt: &impl Abort, table: &C, cells: &[u32]) {
+    expect_equal(rt, &(table.len() as usize), &cells.len());
+    for i in 0..table.len() {
+        expect_equal_at(rt, &i, &Some(&table.get(i)), &cells.get(i as usize));
+    }
+}
+
+/// A table of these cells.
+fn table_of<C: Cells + Drop>(
     rt: &impl Abort,
     alloc: Global,
     bound: u32,
     cells: &[u32],
-    bytes: &[u8],
-) -> Result<(), Fail>
+) -> Result<C, AllocError>
     requires fit { C.fits bound }
 {
     assert!(rt; cells.len() <= 1000);
@@ -55,13 +44,27 @@ fn has_image<C: Cells + Drop>(
         assert!(rt; i < table.len() && cells[i as usize] < table.bound());
         table.set(i, cells[i as usize]);
     }
-    expect_bytes(rt, image_of(alloc, &table)?.as_slice(), bytes);
-    expect_equal(rt, &C::image_len(n, bound), &(bytes.len() as u64));
-    let again = copied(alloc, &table)?;
-    expect_equal(rt, &(again.len(), again.bound()), &(n, bound));
-    for i in 0..again.len() {
-        assert!(rt; i < n);
-        expect_equal_at(rt, &i, &again.get(i), &cells[i as usize]);
+    Ok(table)
+}
+
+/// A table of these cells has the image, and is read from it.
+fn has_image<C: Cells + Drop>(
+    rt: &impl Abort,
+    alloc: Global,
+    bound: u32,
+    cells: &[u32],
+    bytes: &[u8],
+) -> Result<(), AllocError>
+    requires fit { C.fits bound }
+{
+    let table: C = table_of(rt, alloc, bound, cells)?;
+    expect_image(rt, &table, bytes);
+    assert!(rt; cells.len() <= 1000);
+    let n = cells.len() as u32;
+    assert!(rt; C::image_len(n, bound) == bytes.len() as u64);
+    match C::from_image(alloc, n, bound, bytes) {
+        Ok(again) => expect_cells(rt, &again, cells),
+        Err(_) => panic!(rt; "not read"),
     }
     Ok(())
 }
@@ -91,7 +94,7 @@ fn have_images<C: Cells + Drop>(
     alloc: Global,
     bound: u32,
     rows: &[(&[u32], &[u8])],
-) -> Result<(), Fail>
+) -> Result<(), AllocError>
     requires fit { C.fits bound }
 {
     for (cells, bytes) in rows {
@@ -203,15 +206,6 @@ fn faults(rt: HostRuntime) {
     have_faults::<Fields>(&rt, alloc, 5, &FIELD_FAULTS);
     have_faults::<Fields>(&rt, alloc, 1, &ZERO_FAULTS);
     have_faults::<Plain>(&rt, alloc, 1000, &PLAIN_FAULTS);
-}
-
-#[test]
-fn bytes_of_cells(rt: HostRuntime) {
-    expect_equal(&rt, &Bits::cell_byte(2, 8), &1);
-    expect_equal(&rt, &Crumbs::cell_byte(4, 7), &1);
-    expect_equal(&rt, &Trits::cell_byte(3, 7), &1);
-    expect_equal(&rt, &Fields::cell_byte(100_000, 3), &6);
-    expect_equal(&rt, &Plain::cell_byte(9, 3), &12);
 }
 
 #[test]

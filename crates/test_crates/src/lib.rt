@@ -1,10 +1,14 @@
-//! Worked examples of the lower crates and of command lines, as tests: rows from outside, and what their public calls show.
+//! Worked examples of the lower crates as tests: rows from outside, and what their public calls show.
 #![tactic(auto)]
 
 #[cfg(test)]
 mod bits;
 #[cfg(test)]
-mod command_lines;
+mod buffers;
+#[cfg(test)]
+mod candidates;
+#[cfg(test)]
+mod dumps;
 #[cfg(test)]
 mod equal;
 #[cfg(test)]
@@ -14,11 +18,7 @@ mod graph;
 #[cfg(test)]
 mod keys;
 #[cfg(test)]
-mod lines;
-#[cfg(test)]
 mod lookup2;
-#[cfg(test)]
-mod made;
 #[cfg(test)]
 mod memory;
 #[cfg(test)]
@@ -26,4 +26,4 @@ mod peeling;
 #[cfg(test)]
 mod ranks;
 #[cfg(test)]
-mod values;
+mod spills;

@@ -1,6 +1,6 @@
 //! Hash values that were published, and those that another program computed.
 use crate::equal::expect_equal_at;
-use cm_lookup2::{words, words_of_four, words_under_four};
+use cm_lookup2::words;
 use cm_route::{ROUTE_SEED, Route};
 use std::test::Fail;
 
@@ -55,39 +55,6 @@ fn hash_values(rt: HostRuntime) -> Result<(), Fail> {
     }
     for n in 2..25usize {
         expect_equal_at(&rt, &n, &words(&TEXT[..n], 7), &PREFIXES[n - 2]);
-    }
-    Ok(())
-}
-
-#[test]
-fn hash_values_under_four_seeds(rt: HostRuntime) -> Result<(), Fail> {
-    for (key, seed, expected) in &ROWS {
-        let four = words_under_four(*key, [*seed, 7, *seed ^ 1, *seed]);
-        expect_equal_at(&rt, &(*key, *seed, 0), &four.at(0), expected);
-        expect_equal_at(&rt, &(*key, *seed, 3), &four.at(3), expected);
-    }
-    for n in 2..25usize {
-        let four = words_under_four(&TEXT[..n], [0, 7, 7, u32::MAX]);
-        expect_equal_at(&rt, &(n, 1), &four.at(1), &PREFIXES[n - 2]);
-        expect_equal_at(&rt, &(n, 2), &four.at(2), &PREFIXES[n - 2]);
-    }
-    Ok(())
-}
-
-// Prefixes from 9, 10 or 11 bytes on, or from 21, have not the same number of whole blocks; all other four have.
-#[test]
-fn hash_values_of_four_keys(rt: HostRuntime) -> Result<(), Fail> {
-    for n in 2..22usize {
-        let four = words_of_four(
-            &TEXT[..n],
-            &TEXT[..n + 1],
-            &TEXT[..n + 2],
-            &TEXT[..n + 3],
-            [7, 7, 7, 7],
-        );
-        for i in 0..4 {
-            expect_equal_at(&rt, &(n, i), &four.at(i), &PREFIXES[n + i - 2]);
-        }
     }
     Ok(())
 }

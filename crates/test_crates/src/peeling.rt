@@ -1,9 +1,9 @@
-//! Peeling of small graphs and of a long path, over each incidence, and without levels.
+//! Peeling of small graphs and of a long path, over each incidence.
 ghost use Rattle.std.specs.Prelude.{◌≡◌, ◌<◌, length, IfOk};
 
 use crate::equal::{expect_equal, expect_true};
 use cm_graph::{Edges, Incidence, Linked, Steps, Xored};
-use cm_peel::{Peeled, peel, peel_without_levels};
+use cm_peel::{Peeled, peel};
 use cm_spec::MAX_EDGES;
 use std::alloc::{AllocError, Global};
 use std::marker::Brand;
@@ -57,29 +57,8 @@ fn triples<I: Incidence<3> + Drop>(alloc: Global, edges: &Edges<3>) -> Result<Pe
     triples_by::<I, Brand>(alloc, edges, Blank::new(1))
 }
 
-/// Peels edges with two ends and keeps no levels, with steps that nobody reads.
-fn peel_bare<L: Ledger>(
-    alloc: Global,
-    edges: &Edges<2>,
-    blank: Blank,
-) -> Result<Peeled<2>, AllocError>
-    requires name { blank.name ≡ L.name }
-    requires parts { blank.parts ≡ L.parts }
-    requires some { 0 < blank.parts }
-    ensures pivots { IfOk result (λ p. length p.pivots ≡ length edges.now.edges) }
-{
-    let mut steps = Steps::<L>::new(blank);
-    peel_without_levels::<2, Xored<2>, L>(alloc, edges, &mut steps)
-}
-
-fn bare_pairs(alloc: Global, edges: &Edges<2>) -> Result<Peeled<2>, AllocError>
-    ensures pivots { IfOk result (λ p. length p.pivots ≡ length edges.now.edges) }
-{
-    peel_bare::<Brand>(alloc, edges, Blank::new(1))
-}
-
 /// Adds an edge, unless it isn't one over the vertices.
-fn add(edges: &mut Edges<2>, first: u32, second: u32) -> Result<bool, AllocError> {
+pub(crate) fn add(edges: &mut Edges<2>, first: u32, second: u32) -> Result<bool, AllocError> {
     let n = edges.vertices();
     if first < n && second < n && first != second && edges.len() < MAX_EDGES {
         edges.push([first, second])?;
@@ -152,24 +131,6 @@ fn peels_small_graphs<I: Incidence<2> + Drop>(
     Ok(())
 }
 
-/// Seventy edges that share a vertex, more than a narrow word counts. With an end of their own each, they go in one round; if they are
-/// all equal, they stay.
-fn peels_a_crown<I: Incidence<2> + Drop>(rt: &impl Abort, alloc: Global) -> Result<(), AllocError> {
-    let mut spread = Edges::<2>::new(alloc, 71);
-    let mut equal = Edges::<2>::new(alloc, 71);
-    let mut numbers = [0; 70];
-    for i in 0..70u32 {
-        expect_true(rt, add(&mut spread, 0, 1 + i)?);
-        expect_true(rt, add(&mut equal, 0, 1)?);
-        numbers[i as usize] = i;
-    }
-    let gone = pairs::<I>(alloc, &spread)?;
-    expect_true(rt, gives(&gone, spread.len(), &[(1, 1); 70], &numbers, &[]));
-    let left = pairs::<I>(alloc, &equal)?;
-    expect_true(rt, gives(&left, equal.len(), &[(0, 0); 70], &[], &numbers));
-    Ok(())
-}
-
 fn peels_a_triple<I: Incidence<3> + Drop>(
     rt: &impl Abort,
     alloc: Global,
@@ -188,8 +149,6 @@ fn small_graphs(rt: HostRuntime) -> Result<(), Fail> {
     let alloc = rt.alloc();
     peels_small_graphs::<Xored<2>>(&rt, alloc)?;
     peels_small_graphs::<Linked<2>>(&rt, alloc)?;
-    peels_a_crown::<Xored<2>>(&rt, alloc)?;
-    peels_a_crown::<Linked<2>>(&rt, alloc)?;
     peels_a_triple::<Xored<3>>(&rt, alloc)?;
     peels_a_triple::<Linked<3>>(&rt, alloc)?;
     Ok(())
@@ -232,24 +191,5 @@ fn long_path(rt: HostRuntime) -> Result<(), Fail> {
     expect_true(&rt, is_path_peeled(&xored, m));
     let chained = pairs::<Linked<2>>(rt.alloc(), &edges)?;
     expect_true(&rt, is_path_peeled(&chained, m));
-    Ok(())
-}
-
-#[test]
-fn without_levels(rt: HostRuntime) -> Result<(), Fail> {
-    let mut edges = Edges::<2>::new(rt.alloc(), 7);
-    for v in 0..3u32 {
-        expect_true(&rt, add(&mut edges, v, (v + 1) % 3)?);
-    }
-    for v in 2..6u32 {
-        expect_true(&rt, add(&mut edges, v, v + 1)?);
-    }
-    let bare = bare_pairs(rt.alloc(), &edges)?;
-    expect_equal(&rt, &bare.order(), &[6, 5, 4, 3].as_slice());
-    expect_equal(&rt, &bare.rest(), &[0, 1, 2].as_slice());
-    for e in 3..7u32 {
-        assert!(rt; e < edges.len());
-        expect_equal(&rt, &bare.pivot(e), &1);
-    }
     Ok(())
 }

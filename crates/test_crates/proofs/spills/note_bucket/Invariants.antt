@@ -1,6 +1,6 @@
 use Rattle.std.proofs.Common.{◌≡◌, true}
 use Rattle.cm_spill.specs.Stores.{IsNextBucket}
-use Rattle.test_functions.proofs.spills.note_bucket.Given as goal
+use Rattle.test_crates.proofs.spills.note_bucket.Given as goal
 
 abbrev pub invariant-records : goal.invariant-records
 invariant-records g l = record {

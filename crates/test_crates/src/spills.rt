@@ -1,5 +1,5 @@
 //! Records put into a store of sorted runs and read from it.
-ghost use Rattle.std.specs.Prelude.{◌≡◌, ◌≤◌, [], IfOk, OnOk, None, true, false};
+ghost use Rattle.std.specs.Prelude.{◌≡◌, [], IfOk, OnOk, None, true, false};
 ghost use Rattle.std.specs.Option.{ForSome};
 ghost use Rattle.cm_spill.specs.Stores.{IsNextBucket};
 
@@ -175,131 +175,90 @@ fn give_damaged(
     Ok(text)
 }
 
-/// The place of a wrong byte, the byte, and what is read.
-const DAMAGES: [(u64, u8, &str); 5] = [
+/// The bucket of the first record, the place of a wrong byte, the byte, where the spill ends, and what is read.
+const DAMAGES: [(u32, u64, u8, u64, &str); 11] = [
+    // A key that is too long for its run, line 0, and a line below the one before.
     (
+        1,
         19,
         2,
+        22,
         "2 y 11;the spill is damaged at 11: 23 in place of 22;",
     ),
     (
+        1,
         15,
         0,
+        22,
         "2 y 11;none;the spill is damaged at 11: 0 in place of 1;",
     ),
-    (11, 0, "2 y 11;the spill is damaged at 11: 1 in place of 3;"),
     (
+        1,
+        11,
+        0,
+        22,
+        "2 y 11;the spill is damaged at 11: 1 in place of 3;",
+    ),
+    // A first key that is too long, and one that leaves no room for a further header.
+    (
+        1,
         8,
         2,
+        22,
         "2 y 12;the spill is damaged at 12: 30742 in place of 22;",
     ),
     (
+        1,
         8,
         3,
+        22,
         "2 y 13;the spill is damaged at 13: 23 in place of 22;",
     ),
-];
-
-/// A key that is too long for its run, line 0, a line below the one before, a first key that is too long, and one that leaves no room
-/// for a further header.
-#[test]
-fn damaged_records(rt: HostRuntime) -> Result<(), Fail> {
-    let alloc = rt.alloc();
-    for (offset, byte, text) in &DAMAGES {
-        let damaged = give_damaged(alloc, 1, *offset, *byte, 22)?;
-        expect_text(&rt, damaged.as_str(), *text);
-    }
-    Ok(())
-}
-
-/// Both records are of bucket 0. The first is read as of bucket 1, and the second is below it then.
-#[test]
-fn lower_bucket(rt: HostRuntime) -> Result<(), Fail> {
-    let damaged = give_damaged(rt.alloc(), 0, 0, 1, 22)?;
-    expect_text(
-        &rt,
-        damaged.as_str(),
-        "none;1 x 11;the spill is damaged at 11: 0 in place of 1;",
-    );
-    Ok(())
-}
-
-/// Where the spill ends, and what is read.
-const ENDS: [(u64, &str); 5] = [
-    (0, "the spill is damaged at 0: 0 in place of 22;"),
-    (10, "the spill is damaged at 0: 10 in place of 22;"),
-    (11, "2 y 11;the spill is damaged at 11: 11 in place of 22;"),
-    (15, "2 y 11;the spill is damaged at 11: 15 in place of 22;"),
+    // Both records are of bucket 0. The first is read as of bucket 1, and the second is below it then.
     (
+        0,
+        0,
+        1,
+        22,
+        "none;1 x 11;the spill is damaged at 11: 0 in place of 1;",
+    ),
+    // The spill ends before a header or a key does.
+    (1, 22, 0, 0, "the spill is damaged at 0: 0 in place of 22;"),
+    (
+        1,
+        22,
+        0,
+        10,
+        "the spill is damaged at 0: 10 in place of 22;",
+    ),
+    (
+        1,
+        22,
+        0,
+        11,
+        "2 y 11;the spill is damaged at 11: 11 in place of 22;",
+    ),
+    (
+        1,
+        22,
+        0,
+        15,
+        "2 y 11;the spill is damaged at 11: 15 in place of 22;",
+    ),
+    (
+        1,
+        22,
+        0,
         21,
         "2 y 11;none;the spill is damaged at 11: 21 in place of 22;",
     ),
 ];
 
-/// The spill ends before a header or a key does.
 #[test]
-fn cut_spills(rt: HostRuntime) -> Result<(), Fail> {
-    let alloc = rt.alloc();
-    for (end, text) in &ENDS {
-        let cut = give_damaged(alloc, 1, 22, 0, *end)?;
-        expect_text(&rt, cut.as_str(), *text);
+fn damaged_records(rt: HostRuntime) -> Result<(), Fail> {
+    for (bucket, offset, byte, end, text) in &DAMAGES {
+        let damaged = give_damaged(rt.alloc(), *bucket, *offset, *byte, *end)?;
+        expect_text(&rt, damaged.as_str(), *text);
     }
-    Ok(())
-}
-
-/// Puts three records with keys of 40,000 bytes, and seals.
-fn put_long<P: Spill>(runs: &mut Runs<P>) -> Result<(), SpillError>
-    requires usable { runs.old.usable ≡ true }
-    requires open { runs.old.sealed ≡ false }
-    requires new { runs.old.last ≡ 0 }
-    ensures ready { OnOk result ((runs.new.usable ≡ true) × (runs.new.sealed ≡ true) × (runs.new.bucket ≡ 0)) }
-{
-    runs.put(1, 1, &[b'a'; 40_000])?;
-    runs.put(0, 2, &[b'b'; 40_000])?;
-    runs.put(1, 3, &[b'c'; 40_000])?;
-    runs.seal()
-}
-
-/// What a store with a buffer of this many bytes returns of the long records, and then their lines in the order in which they stand in
-/// the spill.
-fn give_long(alloc: Global, bytes: u32) -> Result<String, AllocError>
-    requires bytes { (65545 ≤ bytes) × (bytes ≤ 1073741824) }
-{
-    let mut key = KeyBuf::new();
-    let mut text = String::new(alloc);
-    let mut runs = match Runs::new(alloc, new_spill(alloc)?, bytes) {
-        Ok(runs) => runs,
-        Err(_) => return Ok(text),
-    };
-    if put_long(&mut runs).is_ok() {
-        let _ = note_buckets(alloc, &mut text, &mut runs, &mut key);
-    }
-    let mut spill = runs.into_spill();
-    let mut line = [0; 4];
-    for i in 0..3 {
-        if spill.read_at(40_010 * i + 4, &mut line).is_ok() {
-            let part = format!(in alloc; "{}", line[0])?;
-            text.push_str(part.as_str())?;
-        }
-    }
-    Ok(text)
-}
-
-/// With a small buffer each record is a run, and with a large one they are a run by bucket. Both return the same records.
-#[test]
-fn long_records(rt: HostRuntime) -> Result<(), Fail> {
-    let alloc = rt.alloc();
-    let small = give_long(alloc, 65_545)?;
-    expect_text(
-        &rt,
-        small.as_str(),
-        "2 b 80020;none;1 a 40010;3 c 120030;none;123",
-    );
-    let large = give_long(alloc, 4_194_304)?;
-    expect_text(
-        &rt,
-        large.as_str(),
-        "2 b 40010;none;1 a 80020;3 c 120030;none;213",
-    );
     Ok(())
 }
