@@ -1,108 +1,111 @@
-//! Builds over keys that change from pass to pass, a build after one that failed, and the cells of a path.
-ghost use Rattle.std.specs.Prelude.{◌≡◌, ◌⊎◌, ◌<◌, ◌≤◌, ◌+◌, None, length, slice_index_or, true};
-ghost use Rattle.test_commands.specs.Changing.{letter_at};
-ghost use Rattle.cm_spec.specs.declared.limits.TheConstants.{MAX_KEYS};
+//! Builds over keys that change from pass to pass, how a build takes its keys, and the cells of a path.
+ghost use Rattle.std.specs.Prelude.{◌≡◌, ◌<◌};
 
 use crate::equal::{expect_equal, expect_true};
 use cm_algo::{BuildFault, Built, assign, build};
 use cm_bits::{Cells, Fields};
 use cm_chm::ChmScheme;
 use cm_graph::{Edges, Steps, Xored};
-use cm_io::{KeyBuf, KeyFault, KeyPass, MAX_KEYS};
+use cm_io::{KeyBuf, KeyFault, KeyPass};
+use cm_keys::{Keys, LINE_END};
+use cm_outer::TurnSource;
 use cm_peel::peel;
 use cm_spec::MAX_EDGES;
+use cm_tool::MadeKeys;
 use std::alloc::{AllocError, Global};
 use std::marker::Brand;
-use std::process::Abort;
 use std::sync::ledger::{Blank, Ledger};
 use std::test::Fail;
 
-/// The letters, from which keys are taken in turn.
-const LETTERS: u32 = 26;
-
-/// Keys whose number changes from pass to pass, after `refusals` rewinds that fail. They are the keys a, b, c and so on. They are not
-/// known. After the last pass there are none. The next key may be buffered, but none is at first.
-#[derive(Drop)]
-struct Changing<'a> {
-    refusals: usize,
-    counts: &'a [u32],
-    pass: usize,
-    given: u32,
-    usable: bool,
-    failure: Option<KeyFault>,
-    faults: u64,
-    letter: [u8; 1],
-    buffered: bool,
-    ghost few: { given ≤ MAX_KEYS },
-    ghost next: { buffered ≡ true → letter ≡ letter_at given },
+/// The cells of a build by CHM with 2.09 vertices a key, with steps that nobody reads.
+fn build_by<P: KeyPass, L: Ledger>(
+    alloc: Global,
+    keys: &mut P,
+    blank: Blank,
+) -> Result<Built<Fields>, BuildFault>
+    requires name { blank.name ≡ L.name }
+    requires parts { blank.parts ≡ L.parts }
+    requires some { 0 < blank.parts }
+{
+    let mut steps = Steps::<L>::new(blank);
+    build::<ChmScheme, Xored<2>, P, 2, L>(
+        alloc,
+        &ChmScheme {},
+        keys,
+        2_090_000,
+        &[0, 1, 2, 3, 4, 5, 6, 7, 8, 9],
+        &mut steps,
+    )
 }
 
-/// Keys with these numbers of keys in the passes.
-fn keys_of<'a>(refusals: usize, counts: &'a [u32]) -> Changing<'a> {
-    Changing {
-        refusals,
-        counts,
-        pass: 0,
-        given: 0,
-        usable: false,
-        failure: None,
-        faults: 0,
-        letter: [0],
-        buffered: false,
+fn built<P: KeyPass>(alloc: Global, keys: &mut P) -> Result<Built<Fields>, BuildFault> {
+    build_by::<P, Brand>(alloc, keys, Blank::new(1))
+}
+
+#[test]
+fn keys_that_change(rt: HostRuntime) -> Result<(), Fail> {
+    let alloc = rt.alloc();
+    // A build rewinds before its first pass, so that the first entry isn't read.
+    let mut passes = vec![in alloc; Vec::new(alloc)]?;
+    passes.push(b"a\nb\n".to_vec(alloc)?)?;
+    passes.push(b"a\nb\nc\n".to_vec(alloc)?)?;
+    let mut keys = Keys::new(TurnSource::new(passes), None, LINE_END);
+    let outcome = built(alloc, &mut keys);
+    let _source = keys.into_source();
+    match outcome {
+        Err(BuildFault::Changed { first, now }) => expect_equal(&rt, &(first, now), &(2, 3)),
+        _ => panic!(rt; "another outcome"),
     }
+    Ok(())
 }
 
-impl KeyPass for Changing<'_> {
-    ghost use Rattle.test_commands.specs.Changing.{letter_at, letters_up_to};
-    ghost use Rattle.cm_spec.specs.declared.limits.TheConstants.{MAX_KEYS};
+/// A pass that counts the keys that are copied out of it.
+#[derive(Drop)]
+struct Counting<P> {
+    pass: P,
+    copied: u64,
+}
 
-    ghost told = { λ _. None };
+impl<P: KeyPass> KeyPass for Counting<P> {
+    ghost told = { λ s. P.told s.pass };
 
-    ghost place = { λ p. p.given };
+    ghost place = { λ s. P.place s.pass };
 
-    ghost last = { λ p. p.given };
+    ghost last = { λ s. P.last s.pass };
 
-    ghost usable = { λ p. p.usable };
+    ghost usable = { λ s. P.usable s.pass };
 
-    ghost faults = { λ p. p.faults };
+    ghost faults = { λ s. P.faults s.pass };
 
-    ghost failure = { λ p. p.failure };
+    ghost failure = { λ s. P.failure s.pass };
 
-    ghost gave = { λ p keys. keys ≡ letters_up_to p.given };
+    ghost gave = { λ s keys. P.gave s.pass keys };
 
-    ghost at_end = { λ p. slice_index_or p.counts.now p.pass 0 ≤ p.given ⊎ (p.given ≡ MAX_KEYS) };
+    ghost at_end = { λ s. P.at_end s.pass };
 
-    ghost stands = { λ p key. (p.buffered ≡ true) × (p.given < MAX_KEYS) × (key ≡ letter_at p.given) };
+    ghost stands = { λ s key. P.stands s.pass key };
 
-    ghost next_line = { λ p. p.given + 1 };
+    ghost next_line = { λ s. P.next_line s.pass };
 
     fn usable(&self) -> bool {
-        self.usable
+        self.pass.usable()
     }
 
     fn next(&mut self, key: &mut KeyBuf) -> Result<bool, KeyFault> {
-        self.failure = None;
-        self.buffered = false;
-        let count = self.counts.get(self.pass).copied().unwrap_or(0);
-        if self.given >= count || self.given == MAX_KEYS {
-            return Ok(false);
-        }
-        key.clear();
-        let _ = key.try_extend_from_slice(&[(self.given % LETTERS) as u8 + b'a']);
-        self.given += 1;
-        Ok(true)
+        self.copied = self.copied.saturating_add(1);
+        self.pass.next(key)
     }
 
     fn peek(&self) -> Option<(u32, &[u8])> {
-        if !self.buffered || self.given == MAX_KEYS {
-            return None;
-        }
-        Some((self.given + 1, &self.letter))
+        self.pass.peek()
     }
 
-    fn pass(&mut self, _len: usize) {
-        self.buffered = false;
-        self.given += 1;
+    fn pass(&mut self, len: usize) {
+        self.pass.pass(len);
+    }
+
+    fn skip(&mut self) -> u32 {
+        self.pass.skip()
     }
 
     fn hash_four(&mut self, _seed: u32) -> Option<[[u32; 3]; 4]> {
@@ -110,53 +113,30 @@ impl KeyPass for Changing<'_> {
     }
 
     fn rewind(&mut self) -> Result<(), KeyFault> {
-        if self.refusals > 0 {
-            self.refusals -= 1;
-            self.usable = false;
-            self.failure = Some(KeyFault::Read);
-            self.faults = self.faults.saturating_add(1);
-            return Err(KeyFault::Read);
-        }
-        if self.given > 0 {
-            self.pass = self.pass.saturating_add(1);
-        }
-        self.buffered = false;
-        self.given = 0;
-        self.usable = true;
-        self.failure = None;
-        Ok(())
+        self.pass.rewind()
     }
 
     fn line(&self) -> u32 {
-        self.given
+        self.pass.line()
     }
 }
 
-/// Builds CHM's cells with 1.5 vertices a key, with steps that nobody reads.
-fn build_pairs<L: Ledger>(
-    alloc: Global,
-    keys: &mut Changing,
-    seeds: &[u32],
-    blank: Blank,
-) -> Result<Built<Fields>, BuildFault>
-    requires name { blank.name ≡ L.name }
-    requires parts { blank.parts ≡ L.parts }
-    requires some { 0 < blank.parts }
-    requires seeds { 0 < length seeds.now }
-{
-    let mut steps = Steps::<L>::new(blank);
-    build::<ChmScheme, Xored<2>, Changing, 2, L>(
-        alloc,
-        &ChmScheme {},
-        keys,
-        1_500_000,
-        seeds,
-        &mut steps,
-    )
-}
-
-fn built(alloc: Global, keys: &mut Changing) -> Result<Built<Fields>, BuildFault> {
-    build_pairs::<Brand>(alloc, keys, &[0, 1], Blank::new(1))
+// 40,000 keys have 600,000 bytes, which come in ten reads. Each pass copies the keys that lie across two reads, and asks once more at
+// the end; there is a pass to count them, and one for each seed.
+#[test]
+fn keys_are_hashed_where_they_stand(rt: HostRuntime) -> Result<(), Fail> {
+    let mut keys = Counting {
+        pass: Keys::new(MadeKeys::new(40_000), None, LINE_END),
+        copied: 0,
+    };
+    let outcome = built(rt.alloc(), &mut keys);
+    let Counting { pass, copied } = keys;
+    let _text = pass.into_source();
+    match outcome {
+        Ok(function) => expect_true(&rt, copied <= (function.seed as u64 + 2) * 12),
+        Err(_) => panic!(rt; "no function"),
+    }
+    Ok(())
 }
 
 fn listed(alloc: Global, cells: &Fields) -> Result<Vec<u32>, AllocError> {
@@ -202,47 +182,6 @@ fn assign_pairs<L: Ledger>(
 
 fn assigned(alloc: Global, edges: &Edges<2>) -> Result<Option<Fields>, AllocError> {
     assign_pairs::<Brand>(alloc, edges, Blank::new(1))
-}
-
-/// Checks that a build over passes with these numbers of keys fails because the keys changed: at first there were `first` keys, and
-/// then `now` keys.
-fn check_change(rt: &impl Abort, alloc: Global, counts: &[u32], first: u32, now: u32) {
-    let mut keys = keys_of(0, counts);
-    match built(alloc, &mut keys) {
-        Err(BuildFault::Changed { first: f, now: n }) => expect_equal(rt, &(f, n), &(first, now)),
-        _ => panic!(rt; "another outcome"),
-    }
-}
-
-#[test]
-fn keys_that_change(rt: HostRuntime) -> Result<(), Fail> {
-    let alloc = rt.alloc();
-    check_change(&rt, alloc, &[2, 3], 2, 3);
-    check_change(&rt, alloc, &[3, 2], 3, 2);
-    // Under seed 0 the two edges are equal, so the third pass gathers them.
-    check_change(&rt, alloc, &[2, 2, 3], 2, 3);
-    check_change(&rt, alloc, &[2, 2, 1], 2, 1);
-    Ok(())
-}
-
-#[test]
-fn built_again_after_a_refusal(rt: HostRuntime) -> Result<(), Fail> {
-    let mut keys = keys_of(1, &[2, 2, 2, 2]);
-    match built(rt.alloc(), &mut keys) {
-        Err(BuildFault::Key(fault)) => expect_equal(&rt, &fault, &KeyFault::Read),
-        _ => panic!(rt; "another outcome"),
-    }
-    let Ok(function) = built(rt.alloc(), &mut keys) else {
-        return Err(Fail::new("no function"));
-    };
-    expect_equal(
-        &rt,
-        &(function.m, function.c, function.seed),
-        &(2, 1_500_000, 1),
-    );
-    let cells = listed(rt.alloc(), &function.cells)?;
-    expect_equal(&rt, &cells.as_slice(), &[1, 0, 0].as_slice());
-    Ok(())
 }
 
 #[test]

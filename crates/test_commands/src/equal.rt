@@ -1,5 +1,5 @@
-//! Comparisons as calls that fail the test: a test of many checks is much cheaper to prove if the branch of a check is proved once, here,
-//! and not at its place. What a test's proof needs is checked by `assert!` in the test.
+//! Comparisons as calls that fail the test: a test of many checks is much cheaper to prove if the two ways on from a check are
+//! proved once, here, and not at its place. What a test's proof needs is checked by `assert!` in the test.
 use std::fmt::Debug;
 use std::process::Abort;
 
@@ -18,12 +18,9 @@ pub fn expect_equal_at<R: PartialEq + Debug, T: PartialEq + Debug>(
     expect_equal(rt, &(row, left), &(row, right));
 }
 
-pub fn expect_bytes(rt: &impl Abort, left: &[u8], right: &[u8]) {
-    expect_equal(rt, &left, &right);
-}
-
-pub fn expect_text(rt: &impl Abort, left: &str, right: &str) {
-    expect_equal(rt, &left, &right);
+/// Fails the test if the part isn't a prefix of the whole. The message shows the row of the table.
+pub fn expect_prefix_at<R: PartialEq + Debug>(rt: &impl Abort, row: &R, part: &[u8], whole: &[u8]) {
+    expect_equal_at(rt, row, &Some(part), &whole.get(..part.len()));
 }
 
 /// Fails the test if this does not hold.

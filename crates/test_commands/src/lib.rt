@@ -1,10 +1,12 @@
-//! Whole commands over a disk in memory and over real files, and builds over keys that change, as tests.
+//! Whole commands over a disk in memory, of which each call fails in turn, and over real files; and builds over keys that change; as tests.
 #![tactic(auto)]
 
 #[cfg(test)]
-mod brz;
+mod buckets;
 #[cfg(test)]
 mod builds;
+#[cfg(test)]
+mod calls;
 #[cfg(test)]
 mod cases;
 #[cfg(test)]
@@ -12,18 +14,12 @@ mod changed;
 #[cfg(test)]
 mod commands;
 #[cfg(test)]
+mod dumps;
+#[cfg(test)]
 mod equal;
 #[cfg(test)]
-mod passes;
-#[cfg(test)]
-mod queries;
+mod functions;
 #[cfg(test)]
 mod real_files;
 #[cfg(test)]
-mod reports;
-#[cfg(test)]
 mod tested;
-#[cfg(test)]
-mod upgrades;
-#[cfg(test)]
-mod zero_ended;

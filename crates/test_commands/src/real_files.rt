@@ -1,10 +1,12 @@
 //! A build, queries and an upgrade over real files.
-use crate::cases::{LETTERS, changed};
-use crate::equal::{expect_bytes, expect_equal};
+use crate::cases::owned;
+use crate::equal::expect_equal;
+use crate::functions::{LETTERS, LETTERS_OLD};
 use cm_real::{FileDisk, StdSink};
 use cm_tool::run;
 use std::alloc::{AllocError, AllocGlobal, Global};
 use std::fs;
+use std::process::Abort;
 use std::rt::Files;
 use std::test::Fail;
 
@@ -24,62 +26,53 @@ fn new_file<R: Files + AllocGlobal>(rt: &R, bytes: &[u8]) -> Result<String, Fail
     Ok(String::new(rt.alloc()))
 }
 
-/// What a run left.
-#[derive(Drop)]
-struct Left {
-    status: u8,
-    out: Vec<u8>,
-    err: Vec<u8>,
+/// The status of a run with these arguments, and what out got.
+fn run_on<R: Files + AllocGlobal>(rt: &R, words: &[&str]) -> Result<(u8, Vec<u8>), Fail> {
+    let words = owned(rt.alloc(), words)?;
+    let mut disk = FileDisk::new(rt, rt.alloc(), 1);
+    let mut out = StdSink::new(Vec::new(rt.alloc()));
+    let mut err = StdSink::new(Vec::new(rt.alloc()));
+    let status = run(rt.alloc(), &words, &mut disk, &mut out, &mut err);
+    let _err = err.into_parts();
+    Ok((status, out.into_parts().0))
 }
 
-/// Runs with these arguments after the program's name.
-fn run_on<R: Files + AllocGlobal>(rt: &R, rest: &[&str]) -> Result<Left, Fail> {
-    let alloc = rt.alloc();
-    let mut words = Vec::new(alloc);
-    words.push(String::from_str(alloc, "cmph")?)?;
-    for word in rest {
-        words.push(String::from_str(alloc, *word)?)?;
-    }
-    let mut disk = FileDisk::new(rt, alloc, 1);
-    let mut out = StdSink::new(Vec::new(alloc));
-    let mut err = StdSink::new(Vec::new(alloc));
-    let status = run(alloc, &words, &mut disk, &mut out, &mut err);
-    let (out, _) = out.into_parts();
-    let (err, _) = err.into_parts();
-    Ok(Left { status, out, err })
+/// Fails the test unless a run over real files is done, and gives out this.
+fn expect_done<R: Files + AllocGlobal + Abort>(
+    rt: &R,
+    words: &[&str],
+    text: &[u8],
+) -> Result<(), Fail> {
+    let (status, out) = run_on(rt, words)?;
+    expect_equal(rt, &(status, out.as_slice()), &(0, text));
+    Ok(())
 }
 
-/// The status of a run.
-fn status_on<R: Files + AllocGlobal>(rt: &R, rest: &[&str]) -> Result<u8, Fail> {
-    Ok(run_on(rt, rest)?.status)
+/// Fails the test unless a file has these bytes.
+fn expect_bytes<R: Files + AllocGlobal + Abort>(
+    rt: &R,
+    path: &str,
+    bytes: &[u8],
+) -> Result<(), Fail> {
+    expect_equal(rt, &fs::read(rt, path)?.as_slice(), &bytes);
+    Ok(())
 }
 
+/// Out is flushed by the end of the query.
 #[test]
 fn real_files(rt: HostRuntime) -> Result<(), Fail> {
     let keys = new_file(&rt, b"a\nb\n")?;
     let function = format!(in rt.alloc(); "{}.mph", keys.as_str())?;
-    let built = status_on(&rt, &["-g", keys.as_str()])?;
-    let dump = fs::read(&rt, function.as_str())?;
-    let asked = run_on(&rt, &[keys.as_str()])?;
-    let older = changed(rt.alloc(), &LETTERS, LETTERS.len(), &[(7, b'1')])?;
-    fs::write(&rt, function.as_str(), older.as_slice())?;
-    let upgraded = status_on(&rt, &["-u", keys.as_str()])?;
-    let newer = fs::read(&rt, function.as_str())?;
-    fs::write(&rt, function.as_str(), b"CMPHDMP1")?;
-    let damaged = status_on(&rt, &[keys.as_str()])?;
+    expect_done(&rt, &["cmph", "-g", keys.as_str()], b"")?;
+    expect_bytes(&rt, function.as_str(), &LETTERS)?;
+    expect_done(&rt, &["cmph", keys.as_str()], b"a -> 0\nb -> 1\n")?;
+    fs::write(&rt, function.as_str(), LETTERS_OLD)?;
+    expect_done(&rt, &["cmph", "-u", keys.as_str()], b"")?;
+    expect_bytes(&rt, function.as_str(), &LETTERS)?;
     fs::remove_file(&rt, keys.as_str())?;
     fs::remove_file(&rt, function.as_str())?;
-    expect_equal(&rt, &(built, upgraded), &(0, 0));
-    expect_bytes(&rt, dump.as_slice(), &LETTERS);
-    expect_bytes(&rt, newer.as_slice(), &LETTERS);
-    // Out is flushed by the end of the query.
-    expect_equal(&rt, &asked.status, &0);
-    expect_bytes(&rt, asked.out.as_slice(), b"a -> 0\nb -> 1\n");
-    expect_bytes(&rt, asked.err.as_slice(), b"");
-    expect_equal(&rt, &damaged, &3);
-    // The file is gone now, and a folder can't be read.
-    expect_equal(&rt, &status_on(&rt, &["-g", keys.as_str()])?, &4);
-    expect_equal(&rt, &status_on(&rt, &["-g", "/tmp"])?, &4);
-    expect_equal(&rt, &status_on(&rt, &["/tmp"])?, &4);
+    // The file is gone now.
+    let (status, _out) = run_on(&rt, &["cmph", "-g", keys.as_str()])?;
+    expect_equal(&rt, &status, &4);
     Ok(())
 }
