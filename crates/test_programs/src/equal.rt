@@ -12,8 +12,3 @@ pub fn expect_equal_at<R: PartialEq + Debug, T: PartialEq + Debug>(
 ) {
     assert_eq!(rt; (row, left), (row, right));
 }
-
-/// Fails the test if the part isn't a prefix of the whole. The message shows the row of the table.
-pub fn expect_prefix_at<R: PartialEq + Debug>(rt: &impl Abort, row: &R, part: &[u8], whole: &[u8]) {
-    expect_equal_at(rt, row, &Some(part), &whole.get(..part.len()));
-}

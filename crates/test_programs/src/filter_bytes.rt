@@ -24,12 +24,6 @@ pub(crate) const NARROW_PADDED: [u8; 26] = [
     0, 0, 0, 2, 2,
 ];
 
-/// The file of `NARROW`, with a byte after it.
-pub(crate) const NARROW_LONGER: [u8; 27] = [
-    0x43, 0x4d, 0x50, 0x48, 0x46, 0x4c, 0x54, 0x31, 1, 0, 0, 0, 2, 0, 0, 0, 0xb0, 0xc4, 0x12, 0, 0,
-    0, 0, 0, 2, 0, 0,
-];
-
 /// The filter of the empty key and `a`, with fingerprints of 16 bits.
 pub(crate) const WIDE: [u8; 42] = [
     0x43, 0x4d, 0x50, 0x48, 0x46, 0x4c, 0x54, 0x31, 16, 0, 0, 0, 2, 0, 0, 0, 0xb0, 0xc4, 0x12, 0,

@@ -1,18 +1,13 @@
 //! What the judge of reports says of small reports, and of arguments and files that are none.
-use crate::equal::expect_equal_at;
-use crate::running::{AMPLE, Program, disk_with, expect_left, run_over};
-use cm_io::{Disk, Sink};
-use cm_judge::judge_run;
-use cm_outer::BentDisk;
-use std::alloc::{AllocError, Global};
-use std::process::Abort;
+use crate::running::{Given, Program, expect_changed, expect_run, sound};
+use cm_outer::DiskCall;
 use std::test::Fail;
 
 /// The report of a build over two empty keys.
-pub(crate) const TWO: &[u8] = b"core chm seed 0 edges 2\nedge 1 4 1\nedge 2 4 1\nequal 1 2\n";
+const TWO: &[u8] = b"core chm seed 0 edges 2\nedge 1 4 1\nedge 2 4 1\nequal 1 2\n";
 
 /// Two empty keys.
-pub(crate) const EMPTIES: &[u8] = b"\n\n";
+const EMPTIES: &[u8] = b"\n\n";
 
 /// Three empty keys, and `a` in the second line.
 const EMPTIES_AND_A: &[u8] = b"\na\n\n\n";
@@ -22,40 +17,7 @@ const TWICE: &[u8] =
     b"core brz split 0 bucket 0 seed 0 edges 2\nedge 1 2 5 8\nedge 2 2 5 8\nequal 1 2\n";
 
 /// The arguments of most runs.
-pub(crate) const PLAIN: &[&str] = &["cmph_judge", "report", "keys"];
-
-/// The judge of reports.
-pub(crate) struct Judge {}
-
-impl Program for Judge {
-    fn run<D: Disk, O: Sink, E: Sink>(
-        &self,
-        alloc: Global,
-        words: &[String],
-        disk: &mut D,
-        out: &mut O,
-        err: &mut E,
-    ) -> u8 {
-        judge_run(alloc, words, disk, out, err)
-    }
-}
-
-/// Runs a command over a disk with these files, and compares all that it leaves.
-fn expect_run(
-    rt: &impl Abort,
-    alloc: Global,
-    words: &[&str],
-    files: (Option<&[u8]>, Option<&[u8]>),
-    end: (u8, &[u8], &str),
-) -> Result<(), AllocError> {
-    let named = [("report", files.0), ("keys", files.1)];
-    let mut disk = disk_with(alloc, &named, None)?;
-    let left = run_over(&Judge {}, alloc, words, &mut disk, AMPLE)?;
-    expect_left(rt, words, &left, end.0, end.1, end.2);
-    expect_equal_at(rt, &words, &disk.get("report"), &files.0);
-    expect_equal_at(rt, &words, &disk.get("keys"), &files.1);
-    Ok(())
-}
+const PLAIN: &[&str] = &["cmph_judge", "report", "keys"];
 
 /// Reports and keys, each with the status and the output of its verdict.
 const VERDICTS: [(&[u8], &[u8], u8, &[u8]); 11] = [
@@ -107,50 +69,33 @@ const VERDICTS: [(&[u8], &[u8], u8, &[u8]); 11] = [
     ),
 ];
 
-/// Each verdict.
-#[test]
-fn verdicts(rt: HostRuntime) -> Result<(), Fail> {
-    for (report, keys, status, out) in VERDICTS {
-        let files = (Some(report), Some(keys));
-        expect_run(&rt, rt.alloc(), PLAIN, files, (status, out, ""))?;
-    }
-    Ok(())
-}
-
 /// Files that are no report, keys by which nothing is judged, and files that are not there.
-#[test]
-fn no_verdicts(rt: HostRuntime) -> Result<(), Fail> {
-    let rows: [(Option<&[u8]>, Option<&[u8]>, u8, &str); 7] = [
-        (
-            Some(b""),
-            Some(EMPTIES),
-            3,
-            "cmph_judge: report: bad report at line 1\n",
-        ),
-        // A line without its end.
-        (
-            Some(b"core chm seed 0 edges 1\nedge 1 4 1"),
-            Some(EMPTIES),
-            3,
-            "cmph_judge: report: bad report at line 2\n",
-        ),
-        // The head names the most edges that a report may have, and two follow.
-        (
-            Some(b"core chm seed 0 edges 67108864\nedge 1 4 1\nedge 2 4 1\n"),
-            None,
-            3,
-            "cmph_judge: report: bad report at line 4\n",
-        ),
-        (Some(TWO), Some(b""), 8, "cmph_judge: keys: no keys\n"),
-        (None, Some(EMPTIES), 4, "cmph_judge: report: cannot read\n"),
-        (Some(TWO), None, 4, "cmph_judge: keys: cannot read\n"),
-        (None, None, 4, "cmph_judge: report: cannot read\n"),
-    ];
-    for (report, keys, status, err) in rows {
-        expect_run(&rt, rt.alloc(), PLAIN, (report, keys), (status, b"", err))?;
-    }
-    Ok(())
-}
+const STOPS: [(Option<&[u8]>, Option<&[u8]>, u8, &str); 7] = [
+    (
+        Some(b""),
+        Some(EMPTIES),
+        3,
+        "cmph_judge: report: bad report at line 1\n",
+    ),
+    // A line without its end.
+    (
+        Some(b"core chm seed 0 edges 1\nedge 1 4 1"),
+        Some(EMPTIES),
+        3,
+        "cmph_judge: report: bad report at line 2\n",
+    ),
+    // The head names the most edges that a report may have, and two follow.
+    (
+        Some(b"core chm seed 0 edges 67108864\nedge 1 4 1\nedge 2 4 1\n"),
+        None,
+        3,
+        "cmph_judge: report: bad report at line 4\n",
+    ),
+    (Some(TWO), Some(b""), 8, "cmph_judge: keys: no keys\n"),
+    (None, Some(EMPTIES), 4, "cmph_judge: report: cannot read\n"),
+    (Some(TWO), None, 4, "cmph_judge: keys: cannot read\n"),
+    (None, None, 4, "cmph_judge: report: cannot read\n"),
+];
 
 /// Arguments and keys, each with the status and the output of its run, to out and to err.
 const ARGUMENTS: [(&[&str], &[u8], u8, &[u8], &str); 9] = [
@@ -219,33 +164,73 @@ const ARGUMENTS: [(&[&str], &[u8], u8, &[u8], &str); 9] = [
     ),
 ];
 
+/// Each verdict.
+#[test]
+fn verdicts(rt: HostRuntime) -> Result<(), Fail> {
+    for (report, keys, status, out) in &VERDICTS {
+        let given = sound(PLAIN, Some(*keys), Some(*report));
+        let end = (*status, *out, "");
+        expect_run(&rt, rt.alloc(), Program::Judge, &given, end, None)?;
+    }
+    Ok(())
+}
+
+#[test]
+fn stops(rt: HostRuntime) -> Result<(), Fail> {
+    for (report, keys, status, err) in &STOPS {
+        let given = sound(PLAIN, *keys, *report);
+        let end = (*status, b"".as_slice(), *err);
+        expect_run(&rt, rt.alloc(), Program::Judge, &given, end, None)?;
+    }
+    Ok(())
+}
+
 /// What options do, and arguments that ask for no job.
 #[test]
 fn arguments(rt: HostRuntime) -> Result<(), Fail> {
-    for (words, keys, status, out, err) in ARGUMENTS {
-        let files = (Some(TWO), Some(keys));
-        expect_run(&rt, rt.alloc(), words, files, (status, out, err))?;
+    for (words, keys, status, out, err) in &ARGUMENTS {
+        let given = sound(*words, Some(*keys), Some(TWO));
+        let end = (*status, *out, *err);
+        expect_run(&rt, rt.alloc(), Program::Judge, &given, end, None)?;
     }
+    Ok(())
+}
+
+/// Calls of the disk that fail, and what is said.
+const FAULTS: [(DiskCall, u64, &str); 4] = [
+    (DiskCall::Open, 0, "cmph_judge: report: cannot read\n"),
+    (DiskCall::Open, 1, "cmph_judge: keys: cannot read\n"),
+    (DiskCall::Read, 0, "cmph_judge: report: cannot read\n"),
+    (DiskCall::Rewind, 0, "cmph_judge: keys: cannot read\n"),
+];
+
+/// A call of the disk fails, or out has too little room.
+#[test]
+fn faults(rt: HostRuntime) -> Result<(), Fail> {
+    let plain = sound(PLAIN, Some(EMPTIES), Some(TWO));
+    for (call, number, err) in &FAULTS {
+        let given = Given {
+            fails: Some((*call, *number)),
+            ..plain
+        };
+        let end = (4, b"".as_slice(), *err);
+        expect_run(&rt, rt.alloc(), Program::Judge, &given, end, None)?;
+    }
+    let given = Given { room: 3, ..plain };
+    let end = (
+        5,
+        b"tru".as_slice(),
+        "cmph_judge: cannot write standard output\n",
+    );
+    expect_run(&rt, rt.alloc(), Program::Judge, &given, end, None)?;
     Ok(())
 }
 
 /// The report is read first, then the keys are counted, and then others come.
 #[test]
 fn keys_that_change(rt: HostRuntime) -> Result<(), Fail> {
-    let alloc = rt.alloc();
-    let rows: [(&[u8], &str); 2] = [
-        (b"x\n", "cmph_judge: keys: keys changed: 2, then 1\n"),
-        (b"\n\n\n\n", "cmph_judge: keys: keys changed: 2, then 3\n"),
-    ];
-    for (later, err) in rows {
-        let mut passes = Vec::new(alloc);
-        for bytes in [TWO, EMPTIES, later] {
-            passes.push(bytes.to_vec(alloc)?)?;
-        }
-        assert!(rt; !passes.is_empty());
-        let mut disk = BentDisk::new(alloc, AMPLE, passes, 0, 0);
-        let left = run_over(&Judge {}, alloc, PLAIN, &mut disk, AMPLE)?;
-        expect_left(&rt, PLAIN, &left, 7, b"", err);
-    }
+    let contents = [TWO, EMPTIES, b"\n\n\n\n"];
+    let err = "cmph_judge: keys: keys changed: 2, then 3\n";
+    expect_changed(&rt, rt.alloc(), Program::Judge, PLAIN, &contents, err)?;
     Ok(())
 }

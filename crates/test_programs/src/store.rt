@@ -1,30 +1,25 @@
 //! Stores that are built over a few lines, keys that are looked up in them, and arguments and files by which nothing is done.
-use crate::equal::expect_equal_at;
-use crate::running::{AMPLE, Program, disk_with, expect_left, run_over};
-use crate::store_bytes::{AFTER_LAST_SEED, ONE, SECOND_SEED, SPARSE, TWO};
-use cm_io::{Disk, Sink};
-use cm_store_dump::store_run;
-use std::alloc::{AllocError, Global};
-use std::process::Abort;
+use crate::running::{Given, Program, expect_run, sound};
+use crate::store_bytes::{AFTER_LAST_SEED, BAD_PLACE, ONE, SECOND_SEED, SPARSE, TWO};
+use cm_outer::DiskCall;
 use std::test::Fail;
 
 /// The empty key with the value `x`, and `a` with `yz`.
-pub(crate) const TWO_LINES: &[u8] = b"\tx\na\tyz\n";
+const TWO_LINES: &[u8] = b"\tx\na\tyz\n";
 
 /// The arguments of a build under seed 0.
-pub(crate) const BUILD: &[&str] = &["cmph_store", "-g", "-s", "0", "keys"];
+const BUILD: &[&str] = &["cmph_store", "-g", "-s", "0", "keys"];
 
 /// The arguments of a look-up.
-pub(crate) const LOOK_UP: &[&str] = &["cmph_store", "keys"];
+const LOOK_UP: &[&str] = &["cmph_store", "keys"];
 
 /// The report of a build over two lines with the empty key, and what is said after it.
-pub(crate) const TWO_EQUAL: &[u8] =
-    b"core bdz seed 0 edges 2\nedge 1 1 4 7\nedge 2 1 4 7\nequal 1 2\n";
+const TWO_EQUAL: &[u8] = b"core bdz seed 0 edges 2\nedge 1 1 4 7\nedge 2 1 4 7\nequal 1 2\n";
 
 const NO_SEED: &str = "cmph_store: no seed of the list gives an empty core\n";
 
 /// A file that is longer than each store file here.
-pub(crate) const OLDER: &[u8] = &[b'x'; 100];
+const OLDER: &[u8] = &[b'x'; 100];
 
 const BAD_STORE: &str = "cmph_store: keys.rec: bad store\n";
 
@@ -117,7 +112,8 @@ const LOOK_UPS: [LookUp; 9] = [
 
 /// Runs in which nothing is built and no value is written: the arguments, the keys file and the store file, if they are there, the status,
 /// and what is said.
-const STOPS: [(&[&str], Option<&[u8]>, Option<&[u8]>, u8, &str); 9] = [
+const STOPS: [(&[&str], Option<&[u8]>, Option<&[u8]>, u8, &str); 10] = [
+    (LOOK_UP, Some(b"a\n"), Some(&BAD_PLACE), 3, BAD_STORE),
     (
         BUILD,
         Some(b""),
@@ -183,23 +179,14 @@ const REFUSALS: [(&[&str], &[u8], &[u8]); 3] = [
     ),
 ];
 
-const BAD_ARGUMENTS: &str = "cmph_store: bad arguments\n";
-
-const BAD_B: &str = "cmph_store: bad value of -b\n";
-
 /// Arguments that ask for no job, and what is said of them.
-const ARGUMENTS: [(&[&str], &str); 14] = [
-    (&[], BAD_ARGUMENTS),
-    (&["cmph_store"], BAD_ARGUMENTS),
-    (&["cmph_store", "-g"], BAD_ARGUMENTS),
-    (&["cmph_store", "keys", "more"], BAD_ARGUMENTS),
-    (&["cmph_store", "-h", "keys"], BAD_ARGUMENTS),
-    (&["cmph_store", "-v", "-g", "keys"], BAD_ARGUMENTS),
-    (&["cmph_store", "-a", "bdz", "-g", "keys"], BAD_ARGUMENTS),
-    (&["cmph_store", "-w", "8", "-g", "keys"], BAD_ARGUMENTS),
-    (&["cmph_store", "-g", "-g", "keys"], BAD_ARGUMENTS),
-    (&["cmph_store", "-g", "-b", "2", "keys"], BAD_B),
-    (&["cmph_store", "-b", "11", "keys"], BAD_B),
+const ARGUMENTS: [(&[&str], &str); 6] = [
+    (&["cmph_store"], "cmph_store: bad arguments\n"),
+    (&["cmph_store", "-g"], "cmph_store: bad arguments\n"),
+    (
+        &["cmph_store", "-b", "11", "keys"],
+        "cmph_store: bad value of -b\n",
+    ),
     (
         &["cmph_store", "-k", "0", "keys"],
         "cmph_store: bad value of -k\n",
@@ -214,62 +201,63 @@ const ARGUMENTS: [(&[&str], &str); 14] = [
     ),
 ];
 
-/// The offsets in the worked file at which a byte that is xored by 1 leaves a store: b, two bytes of the ratio, and the values.
-const TAKEN: [usize; 7] = [26, 32, 33, 34, 59, 65, 66];
+/// Calls of the disk that fail: the arguments, the keys, the store file, the call, the status, and what is said.
+const FAULTS: [(&[&str], &[u8], &[u8], (DiskCall, u64), u8, &str); 5] = [
+    (
+        BUILD,
+        TWO_LINES,
+        OLDER,
+        (DiskCall::Read, 0),
+        4,
+        "cmph_store: keys: cannot read\n",
+    ),
+    (
+        BUILD,
+        TWO_LINES,
+        OLDER,
+        (DiskCall::Create, 0),
+        5,
+        "cmph_store: keys.rec: cannot write\n",
+    ),
+    (
+        LOOK_UP,
+        b"a\n",
+        &TWO,
+        (DiskCall::Open, 0),
+        4,
+        "cmph_store: keys.rec: cannot read\n",
+    ),
+    (
+        LOOK_UP,
+        b"a\n",
+        &TWO,
+        (DiskCall::Open, 1),
+        4,
+        "cmph_store: keys: cannot read\n",
+    ),
+    (
+        LOOK_UP,
+        b"a\n",
+        &TWO,
+        (DiskCall::Read, 0),
+        4,
+        "cmph_store: keys.rec: cannot read\n",
+    ),
+];
 
-/// The program of stores.
-pub(crate) struct Stores {}
-
-impl Program for Stores {
-    fn run<D: Disk, O: Sink, E: Sink>(
-        &self,
-        alloc: Global,
-        words: &[String],
-        disk: &mut D,
-        out: &mut O,
-        err: &mut E,
-    ) -> u8 {
-        store_run(alloc, words, disk, out, err)
-    }
-}
-
-/// Runs a command over this keys file and this store file, and compares all that it leaves. Without another store file at the end it is as
-/// before.
-fn expect_run(
-    rt: &impl Abort,
-    alloc: Global,
-    words: &[&str],
-    files: (Option<&[u8]>, Option<&[u8]>),
-    end: (u8, &[u8], &str),
-    made: Option<&[u8]>,
-) -> Result<(), AllocError> {
-    let named = [("keys", files.0), ("keys.rec", files.1)];
-    let mut disk = disk_with(alloc, &named, None)?;
-    let left = run_over(&Stores {}, alloc, words, &mut disk, AMPLE)?;
-    expect_left(rt, words, &left, end.0, end.1, end.2);
-    expect_equal_at(rt, &words, &disk.get("keys"), &files.0);
-    expect_equal_at(rt, &words, &disk.get("keys.rec"), &made.or(files.1));
-    Ok(())
-}
-
-/// Runs a build over these lines, without an older store file and in place of one, and compares all that it leaves.
-fn expect_build(
-    rt: &impl Abort,
-    alloc: Global,
-    words: &[&str],
-    lines: &[u8],
-    end: (u8, &[u8], &str),
-    made: Option<&[u8]>,
-) -> Result<(), AllocError> {
-    expect_run(rt, alloc, words, (Some(lines), None), end, made)?;
-    expect_run(rt, alloc, words, (Some(lines), Some(OLDER)), end, made)
-}
-
-/// Each build, also in place of a longer store file.
+/// Each build, in place of a longer store file.
 #[test]
 fn builds(rt: HostRuntime) -> Result<(), Fail> {
-    for (words, lines, file) in BUILDS {
-        expect_build(&rt, rt.alloc(), words, lines, (0, b"", ""), Some(file))?;
+    for (words, lines, file) in &BUILDS {
+        let given = sound(*words, Some(*lines), Some(OLDER));
+        expect_run(
+            &rt,
+            rt.alloc(),
+            Program::Store,
+            &given,
+            (0, b"", ""),
+            Some(*file),
+        )?;
     }
     Ok(())
 }
@@ -277,107 +265,61 @@ fn builds(rt: HostRuntime) -> Result<(), Fail> {
 /// Which keys are known, and with which values.
 #[test]
 fn look_ups(rt: HostRuntime) -> Result<(), Fail> {
-    for (words, keys, store, status, out, err) in LOOK_UPS {
-        let files = (Some(keys), Some(store));
-        expect_run(&rt, rt.alloc(), words, files, (status, out, err), None)?;
+    for (words, keys, store, status, out, err) in &LOOK_UPS {
+        let given = sound(*words, Some(*keys), Some(*store));
+        let end = (*status, *out, *err);
+        expect_run(&rt, rt.alloc(), Program::Store, &given, end, None)?;
     }
     Ok(())
 }
 
-/// A build that is refused leaves an older store file as it was.
-#[test]
-fn refusals(rt: HostRuntime) -> Result<(), Fail> {
-    for (words, lines, report) in REFUSALS {
-        expect_build(&rt, rt.alloc(), words, lines, (1, report, NO_SEED), None)?;
-    }
-    Ok(())
-}
-
-/// Files that are not there or hold nothing.
+/// Files that are not there or are no store.
 #[test]
 fn stops(rt: HostRuntime) -> Result<(), Fail> {
-    for (words, keys, store, status, err) in STOPS {
-        let files = (keys, store);
-        expect_run(&rt, rt.alloc(), words, files, (status, b"", err), None)?;
+    for (words, keys, store, status, err) in &STOPS {
+        let given = sound(*words, *keys, *store);
+        let end = (*status, b"".as_slice(), *err);
+        expect_run(&rt, rt.alloc(), Program::Store, &given, end, None)?;
     }
     Ok(())
 }
 
-/// Arguments that ask for no job.
+/// A build that is refused leaves an older store file as it was, and so do arguments that ask for no job.
 #[test]
-fn arguments(rt: HostRuntime) -> Result<(), Fail> {
-    for (words, err) in ARGUMENTS {
-        let files = (Some(TWO_LINES), Some(OLDER));
-        expect_run(&rt, rt.alloc(), words, files, (2, b"", err), None)?;
+fn refusals(rt: HostRuntime) -> Result<(), Fail> {
+    for (words, lines, report) in &REFUSALS {
+        let given = sound(*words, Some(*lines), Some(OLDER));
+        let end = (1, *report, NO_SEED);
+        expect_run(&rt, rt.alloc(), Program::Store, &given, end, None)?;
+    }
+    for (words, err) in &ARGUMENTS {
+        let given = sound(*words, Some(TWO_LINES), Some(OLDER));
+        let end = (2, b"".as_slice(), *err);
+        expect_run(&rt, rt.alloc(), Program::Store, &given, end, None)?;
     }
     Ok(())
 }
 
-/// A line that is too long after `b` and `a`: a build stops, and a look-up has written the value and the note of the keys before it.
+/// A call of the disk fails, or out has too little room.
 #[test]
-fn long_line(rt: HostRuntime) -> Result<(), Fail> {
-    let alloc = rt.alloc();
-    let err = "cmph_store: keys: line 3 is too long\n";
-    let both = "cmph_store: line 1: key is unknown\ncmph_store: keys: line 3 is too long\n";
-    let mut keys = b"b\na\n".to_vec(alloc)?;
-    keys.extend_from_slice(&vec![in alloc; b'k'; 65_536]?)?;
-    let files = (Some(keys.as_slice()), Some(&TWO as &[u8]));
-    expect_run(&rt, alloc, BUILD, files, (8, b"", err), None)?;
-    expect_run(&rt, alloc, LOOK_UP, files, (8, b"a\tyz\n", both), None)?;
-    Ok(())
-}
-
-/// Fails the test unless a file is refused, without a look at the keys.
-fn expect_refused(rt: &impl Abort, alloc: Global, file: &[u8]) -> Result<(), AllocError> {
-    let end = (3, b"" as &[u8], BAD_STORE);
-    expect_run(rt, alloc, LOOK_UP, (Some(b"a\n"), Some(file)), end, None)?;
-    expect_run(rt, alloc, LOOK_UP, (None, Some(file)), end, None)
-}
-
-/// Store files that are cut off, that are longer, or that have the second place as 0.
-#[test]
-fn bad_stores(rt: HostRuntime) -> Result<(), Fail> {
-    for len in 0..TWO.len() {
-        expect_refused(&rt, rt.alloc(), &TWO[..len])?;
+fn faults(rt: HostRuntime) -> Result<(), Fail> {
+    for (words, keys, store, call, status, err) in &FAULTS {
+        let given = Given {
+            fails: Some(*call),
+            ..sound(*words, Some(*keys), Some(*store))
+        };
+        let end = (*status, b"".as_slice(), *err);
+        expect_run(&rt, rt.alloc(), Program::Store, &given, end, None)?;
     }
-    let mut longer = TWO.to_vec(rt.alloc())?;
-    longer.push(0)?;
-    expect_refused(&rt, rt.alloc(), &longer)?;
-    let mut other = TWO.to_vec(rt.alloc())?;
-    if let Some(byte) = other.get_mut(51) {
-        *byte = 0;
-    }
-    expect_refused(&rt, rt.alloc(), &other)?;
-    Ok(())
-}
-
-/// Fails the test unless a file is refused, or else keys can be looked up in it.
-fn expect_changed(
-    rt: &impl Abort,
-    alloc: Global,
-    file: &[u8],
-    is_taken: bool,
-) -> Result<(), AllocError> {
-    if !is_taken {
-        return expect_refused(rt, alloc, file);
-    }
-    let files = [("keys", Some(b"b\n" as &[u8])), ("keys.rec", Some(file))];
-    let mut disk = disk_with(alloc, &files, None)?;
-    let left = run_over(&Stores {}, alloc, LOOK_UP, &mut disk, AMPLE)?;
-    let err = "cmph_store: line 1: key is unknown\n";
-    expect_left(rt, LOOK_UP, &left, 1, b"", err);
-    Ok(())
-}
-
-/// The worked file with one byte changed.
-#[test]
-fn changes(rt: HostRuntime) -> Result<(), Fail> {
-    for at in 0..TWO.len() {
-        let mut changed = TWO.to_vec(rt.alloc())?;
-        if let Some(byte) = changed.get_mut(at) {
-            *byte ^= 1;
-        }
-        expect_changed(&rt, rt.alloc(), &changed, TAKEN.contains(&at))?;
-    }
+    let given = Given {
+        room: 3,
+        ..sound(LOOK_UP, Some(b"a\n"), Some(&TWO))
+    };
+    let end = (
+        5,
+        b"a\ty".as_slice(),
+        "cmph_store: cannot write standard output\n",
+    );
+    expect_run(&rt, rt.alloc(), Program::Store, &given, end, None)?;
     Ok(())
 }
