@@ -1,4 +1,0 @@
-mod Answered
-mod Outcomes
-mod Progress
-mod Verdicts

@@ -1,3 +1,0 @@
-pub mod Asked
-pub mod Counts
-pub mod Ends
