@@ -15,6 +15,8 @@ use cm_lib::{
 use std::alloc::{AllocError, Global};
 
 #[cfg(test)]
+mod equal;
+#[cfg(test)]
 mod lent;
 #[cfg(test)]
 mod tests;

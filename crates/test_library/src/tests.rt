@@ -1,6 +1,7 @@
 //! The lines of a text, numbered, saved and loaded, and texts that have no function.
+use crate::equal::expect_equal;
 use crate::{loaded, number_of, numbered, saved};
-use cm_lib::{FuncFault, KeyFault, LoadFault, MAX_KEY_LEN, Pair};
+use cm_lib::{Func, FuncFault, KeyFault, LoadFault, MAX_KEY_LEN};
 use std::alloc::{AllocError, Global};
 use std::test::Fail;
 
@@ -13,22 +14,38 @@ const DUMP: [u8; 31] = [
     0, 0, 0, 0xc3, 0xff, 3, 0, 0, 0, 0,
 ];
 
+/// The numbers of the empty key and of `a`.
+fn numbers(function: &Func) -> [Option<u32>; 2] {
+    [number_of(function, b""), number_of(function, b"a")]
+}
+
 #[test]
 fn numbers_survive(rt: HostRuntime) -> Result<(), Fail> {
-    let alloc = rt.alloc();
-    let Ok(built) = numbered(alloc, b"\na", &SEEDS) else {
+    let Ok(built) = numbered(rt.alloc(), b"\na", &SEEDS) else {
         panic!(rt; "refused");
     };
-    let bytes = saved(alloc, &built)?;
-    assert_eq!(rt; bytes.as_slice(), DUMP.as_slice());
-    let Ok(read) = loaded(alloc, bytes) else {
+    expect_equal(&rt, &numbers(&built), &[Some(0), Some(1)]);
+    let bytes = saved(rt.alloc(), &built)?;
+    expect_equal(&rt, &bytes.as_slice(), &DUMP.as_slice());
+    let Ok(read) = loaded(rt.alloc(), bytes) else {
         panic!(rt; "not loaded");
     };
-    for function in [&built, &read] {
-        assert_eq!(rt; number_of(function, b""), Some(0));
-        assert_eq!(rt; number_of(function, b"a"), Some(1));
-    }
+    expect_equal(&rt, &numbers(&read), &[Some(0), Some(1)]);
     Ok(())
+}
+
+/// Why a text has no function: the line that is too long, or the first pair of equal lines.
+fn refusal(alloc: Global, text: &[u8]) -> (&'static str, u32, u32) {
+    match numbered(alloc, text, &SEEDS) {
+        Ok(_) => ("none", 0, 0),
+        Err(FuncFault::NoKeys) => ("no keys", 0, 0),
+        Err(FuncFault::Key(KeyFault::TooLong { line })) => ("too long", line, 0),
+        Err(FuncFault::Cored(shown)) => match shown.equal.first() {
+            Some(pair) => ("equal", pair.first, pair.again),
+            None => ("core", 0, 0),
+        },
+        Err(_) => ("another fault", 0, 0),
+    }
 }
 
 /// A line that is one byte too long, after an empty one.
@@ -41,19 +58,15 @@ fn long_line(alloc: Global) -> Result<Vec<u8>, AllocError> {
 #[test]
 fn refusals(rt: HostRuntime) -> Result<(), Fail> {
     let alloc = rt.alloc();
-    assert!(rt; matches!(numbered(alloc, b"", &SEEDS), Err(FuncFault::NoKeys)));
-    let long = numbered(alloc, &long_line(alloc)?, &SEEDS);
-    assert!(rt; matches!(long, Err(FuncFault::Key(KeyFault::TooLong { line: 2 }))));
-    match numbered(alloc, b"a\nb\na\n", &SEEDS) {
-        Err(FuncFault::Cored(shown)) => {
-            assert_eq!(rt;
-                shown.equal.as_slice(),
-                [Pair { first: 1, again: 3 }].as_slice()
-            );
-        }
-        _ => panic!(rt; "equal keys are not refused"),
-    }
-    let fault = loaded(alloc, b"CMPHDMP2".to_vec(alloc)?);
-    assert!(rt; matches!(fault, Err(LoadFault::Truncated { at: 8 })));
+    expect_equal(&rt, &refusal(alloc, b""), &("no keys", 0, 0));
+    expect_equal(&rt, &refusal(alloc, b"a\nb\na\n"), &("equal", 1, 3));
+    let long = long_line(alloc)?;
+    expect_equal(&rt, &refusal(alloc, &long), &("too long", 2, 0));
+    let fault = loaded(alloc, b"CMPHDMP2".to_vec(alloc)?).err();
+    expect_equal(
+        &rt,
+        &matches!(fault, Some(LoadFault::Truncated { at: 8 })),
+        &true,
+    );
     Ok(())
 }
