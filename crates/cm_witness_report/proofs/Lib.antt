@@ -9,3 +9,4 @@ pub mod BadLemmas
 pub mod LocalLemmas
 pub mod WindowLemmas
 pub mod LoopLemmas
+pub mod LaterLemmas

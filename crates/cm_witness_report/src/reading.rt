@@ -1,5 +1,5 @@
 //! A report, read line by line.
-ghost use Rattle.std.specs.Prelude.{◌≡◌, ◌++◌, ◌≤◌, ◌+◌, IfOk, OnOk, length, drop};
+ghost use Rattle.std.specs.Prelude.{◌≡◌, ◌++◌, ◌<◌, ◌≤◌, ◌+◌, Err, IfErr, IfOk, OnOk, length, drop};
 ghost use Rattle.std.specs.Option.{ForSome};
 ghost use Rattle.cm_spec.specs.declared.limits.TheConstants.{MAX_EDGES};
 ghost use Rattle.cm_witness_gather.specs.Gathers.{has_third};
@@ -7,6 +7,7 @@ ghost use Rattle.cm_witness_report.specs.Lines.{lines_in};
 ghost use Rattle.cm_witness_report.specs.Reading.{HasReportCause, Tells, edges_from, pairs_from, reading_of, rest_from, said_of};
 ghost use Rattle.cm_witness_report.specs.Reports.{AreEdges, ArePairs, IsHead, IsReport};
 ghost use Rattle.cm_witness_report.specs.Windows.{HasEnded, waiting};
+ghost use Rattle.cm_witness_report.specs.declared.report.ReportFault.{ReportFault};
 
 use crate::parts::Head;
 use crate::report::{Report, ReportFault};
@@ -45,6 +46,8 @@ fn read_edges<S: Source>(
         (λ v. (v.items, lines_in (waiting window.new.buf window.new.from window.new.until ++ drop (S.place source.new) bytes))) result
         (edges_from third 0 2 count (lines_in (waiting window.old.buf window.old.from window.old.until ++ drop (S.place source.old) bytes)))) }
     ensures cause { HasReportCause (S.faults source.old) (S.faults source.new) result }
+    ensures memory { result ≡ Err ReportFault.Memory → ForSome (S.told source.old) (λ bytes.
+        IfErr (edges_from third 0 2 count (lines_in (waiting window.old.buf window.old.from window.old.until ++ drop (S.place source.old) bytes))) (λ line. 2 < line)) }
 {
     let mut edges = Vec::new(alloc);
     let mut last = 0;
@@ -80,6 +83,8 @@ fn read_pairs<S: Source>(
     ensures exact { ForSome (S.told source.old) (λ bytes. Tells (λ v. v.items) result
         (pairs_from 0 start MAX_EDGES (lines_in (waiting window.old.buf window.old.from window.old.until ++ drop (S.place source.old) bytes)))) }
     ensures cause { HasReportCause (S.faults source.old) (S.faults source.new) result }
+    ensures memory { result ≡ Err ReportFault.Memory → ForSome (S.told source.old) (λ bytes.
+        IfErr (pairs_from 0 start MAX_EDGES (lines_in (waiting window.old.buf window.old.from window.old.until ++ drop (S.place source.old) bytes))) (λ line. start < line)) }
 {
     let mut pairs = Vec::new(alloc);
     let mut last = 0;
@@ -124,6 +129,8 @@ fn read_rest<S: Source>(
     ensures exact { ForSome (S.told source.old) (λ bytes. Tells said_of result
         (rest_from head (lines_in (waiting window.old.buf window.old.from window.old.until ++ drop (S.place source.old) bytes)))) }
     ensures cause { HasReportCause (S.faults source.old) (S.faults source.new) result }
+    ensures memory { result ≡ Err ReportFault.Memory → ForSome (S.told source.old) (λ bytes.
+        IfErr (rest_from head (lines_in (waiting window.old.buf window.old.from window.old.until ++ drop (S.place source.old) bytes))) (λ line. 2 < line)) }
 {
     match head {
         Head::Core {
@@ -166,13 +173,14 @@ fn read_rest<S: Source>(
 
 /// Reads the report that the bytes of a source are the text of. The source has to be at its start; it is read once. Returns `Bad` exactly
 /// if the bytes are no report, with the first line at which they are none, `Read` exactly if the source fails, and `Memory` only if memory
-/// runs out.
+/// runs out after the first two lines, neither of which is bad.
 pub fn read_report<S: Source>(alloc: Global, source: &mut S) -> Result<Report, ReportFault>
     requires start { ForSome (S.told source.old) (λ _. S.place source.old ≡ 0) }
     ensures told { S.told source.new ≡ S.told source.old }
     ensures valid { IfOk result (λ report. IsReport (said_of report)) }
     ensures exact { ForSome (S.told source.old) (λ bytes. Tells said_of result (reading_of bytes)) }
     ensures cause { HasReportCause (S.faults source.old) (S.faults source.new) result }
+    ensures memory { result ≡ Err ReportFault.Memory → ForSome (S.told source.old) (λ bytes. IfErr (reading_of bytes) (λ line. 2 < line)) }
 {
     let mut window = Window::new();
     match read_head(&mut window, source) {

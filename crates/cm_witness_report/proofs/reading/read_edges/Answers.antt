@@ -1,4 +1,4 @@
-use Rattle.std.proofs.Common.{◌≡◌, ◌∙◌, ◌+◌, ◌-◌, ◌++◌, ℕ, suc, List, [], ◌∷◌, Option, None, Some, drop, length, length-append, ap, sym, subst, arith}
+use Rattle.std.proofs.Common.{◌≡◌, ◌∙◌, ◌+◌, ◌-◌, ◌++◌, ℕ, suc, List, [], ◌∷◌, Option, None, Some, Result, drop, length, length-append, ap, sym, subst, arith}
 use Rattle.std.specs.Option.{IfSome}
 use Rattle.cm_witness_gather.specs.declared.certificate.CoreEdge.{CoreEdge}
 use Rattle.cm_witness_report.specs.Lines.{lines_in}
@@ -6,6 +6,7 @@ use Rattle.cm_witness_report.specs.Parts.{next_edge}
 use Rattle.cm_witness_report.specs.Reading.{edges_from}
 use Rattle.cm_witness_report.specs.Reports.{AreEdges, ComesNext}
 use Rattle.cm_witness_report.specs.Windows.{TakesLine, waiting}
+use Rattle.cm_witness_report.proofs.LaterLemmas.{IsBadAfter, with_edges_after}
 use Rattle.cm_witness_report.proofs.LoopLemmas.{edges_bad_line, edges_done, edges_next, edges_push, last_line, last_push, with_edges}
 use Rattle.cm_witness_report.proofs.reading.read_edges.Goals as goal
 
@@ -64,3 +65,20 @@ returns-clause-exact g c = λ x is.
     let none : c.args.count - c.loop-done.done ≡ 0 = omega (arith, c.loop-done-test.false) in
     sym (inv.same x is) ∙ ap (λ (k : ℕ). with_edges c.loop-done.edges.items (edges_from c.args.third c.loop-done.last (2 + c.loop-done.done) k (lines_in old))) none
     ∙ edges_done c.args.third c.loop-done.last (2 + c.loop-done.done) (lines_in old) c.loop-done.edges.items
+
+pub returns-in-Err-push-clause-memory : goal.returns-in-Err-push-clause-memory
+returns-in-Err-push-clause-memory g c = λ memory x is.
+    let inv = c.loop-done.invariant in
+    let w = c.loop-done.window in
+    let v = c.read_edge.new.window in
+    let es = c.loop-done.edges.items in
+    let edge = c.in-Ok-Some.edge in
+    let line = 2 + c.loop-done.done in
+    let left = (c.args.count - 1) - c.loop-done.done in
+    let old = waiting w.buf w.from w.until ++ drop (g.S.Source.place c.loop-done.source) x in
+    let new = waiting v.buf v.from v.until ++ drop (g.S.Source.place c.read_edge.new.source) x in
+    let more : c.args.count - c.loop-done.done ≡ suc left = omega (arith, c.loop-done-test.true) in
+    let takes : TakesLine (next_edge c.args.third c.loop-done.last left) old new (Some edge) = subst (TakesLine (next_edge c.args.third c.loop-done.last left) old new) c.in-Ok-Some.field-0-is (c.in-Ok-Some.ensures.takes x (inv.told ∙ is)) in
+    subst (λ (r : Result (List CoreEdge × List (List ℕ)) ℕ). IsBadAfter 2 r) (sym (edges_next c.args.third c.loop-done.last line left old new es edge takes)
+    ∙ ap (λ (k : ℕ). with_edges es (edges_from c.args.third c.loop-done.last line k (lines_in old))) (sym more)
+    ∙ inv.same x is) (with_edges_after c.args.third edge.line (line + 1) left (lines_in new) (es ++ edge ∷ []) 2 (omega arith))

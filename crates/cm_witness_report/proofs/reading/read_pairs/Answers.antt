@@ -7,6 +7,7 @@ use Rattle.cm_witness_report.specs.Parts.{next_pair}
 use Rattle.cm_witness_report.specs.Reading.{pairs_from}
 use Rattle.cm_witness_report.specs.Reports.{ArePairs, IsPairAfter}
 use Rattle.cm_witness_report.specs.Windows.{TakesLine, waiting}
+use Rattle.cm_witness_report.proofs.LaterLemmas.{IsBadAfter, with_pairs_after}
 use Rattle.cm_witness_report.proofs.LoopLemmas.{again_push, last_again, left_known, pairs_bad_line, pairs_done, pairs_many, pairs_next, pairs_push, with_pairs}
 use Rattle.cm_witness_report.proofs.reading.read_pairs.Goals as goal
 
@@ -117,3 +118,25 @@ returns-in-Ok-false-has_ended-clause-exact g c = λ x is.
     sym (inv.same x is) ∙ ap (λ (l : List ℕ). with_pairs ps (pairs_from last line (MAX_EDGES - c.loop-done.done) (lines_in l))) (sym all)
     ∙ ap (λ (k : ℕ). with_pairs ps (pairs_from last line k (lines_in old))) none
     ∙ pairs_many last line old ps some ∙ ap (λ (k : ℕ). let r : Result (List Pair) ℕ = Err k in r) at_end
+
+pub returns-in-Err-push-clause-memory : goal.returns-in-Err-push-clause-memory
+returns-in-Err-push-clause-memory g c = λ memory x is.
+    let inv = c.loop-done.invariant in
+    let w = c.loop-done.window in
+    let v = c.has_ended.new.self in
+    let u = c.read_pair.new.window in
+    let before = c.in-Ok-false.ensures in
+    let ps = c.loop-done.pairs.items in
+    let pair = c.in-Ok-Some.pair in
+    let last = c.loop-done.last in
+    let line = c.args.start + c.loop-done.done in
+    let left = MAX_EDGES - 1 - c.loop-done.done in
+    let old : List ℕ = waiting v.buf v.from v.until ++ drop (g.S.Source.place c.has_ended.new.source) x in
+    let new : List ℕ = waiting u.buf u.from u.until ++ drop (g.S.Source.place c.read_pair.new.source) x in
+    let all = left_known _ _ x _ _ _ _ before.told (inv.told ∙ is) before.left in
+    let more : MAX_EDGES - c.loop-done.done ≡ suc left = omega (arith, c.loop-done-test.true) in
+    let takes : TakesLine (next_pair last) old new (Some pair) = subst (TakesLine (next_pair last) old new) c.in-Ok-Some.field-0-is (c.in-Ok-Some.ensures.takes x (before.told ∙ (inv.told ∙ is))) in
+    subst (λ (r : Result (List Pair) ℕ). IsBadAfter c.args.start r) (sym (pairs_next last line left old new ps pair takes)
+    ∙ ap (λ (k : ℕ). with_pairs ps (pairs_from last line k (lines_in old))) (sym more)
+    ∙ ap (λ (l : List ℕ). with_pairs ps (pairs_from last line (MAX_EDGES - c.loop-done.done) (lines_in l))) all
+    ∙ inv.same x is) (with_pairs_after pair.again (line + 1) left (lines_in new) (ps ++ pair ∷ []) c.args.start (omega arith))
