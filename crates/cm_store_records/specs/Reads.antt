@@ -1,6 +1,7 @@
 -- The records of the lines of a pass, read into memory.
-use Rattle.std.specs.Prelude.{◌≡◌, ℕ, List, map, All, None, Some, Result, Ok, Err}
+use Rattle.std.specs.Prelude.{◌≡◌, ℕ, List, map, All, Option, None, Some, Result, Ok, Err}
 use Rattle.cm_io.specs.Passes.{HasKeyCause, Told}
+use Rattle.cm_io.specs.declared.key_pass.KeyFault.{KeyFault}
 use Rattle.cm_io.specs.declared.key_pass.KeyFault.TheVariants as key_fault
 use Rattle.cm_store_records.specs.RecordPass.{IsSmall}
 use Rattle.cm_store_records.specs.Records.{bytes_of, first_large, records_of_lines}
@@ -33,3 +34,9 @@ HasReadCause before now (Ok records) = now ≡ before
 HasReadCause before now (Err Memory) = now ≡ before
 HasReadCause before now (Err (Key fault)) = HasKeyCause {T = Unit {0}} before now (Err fault)
 HasReadCause before now (Err (TooLarge line)) = now ≡ before
+
+-- whatever the lines are: `Key` has the fault that the pass failed with last, and `TooLarge` names the line that it yielded last
+abbrev pub HasReadFailure : Option KeyFault → ℕ → ReadFault → Type 0
+HasReadFailure failure last Memory = Unit {0}
+HasReadFailure failure last (Key fault) = failure ≡ Some fault
+HasReadFailure failure last (TooLarge line) = line ≡ last

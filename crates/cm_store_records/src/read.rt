@@ -1,7 +1,7 @@
 //! The lines of a pass, read as records.
 ghost use Rattle.std.specs.Prelude.{◌≡◌, IfErr, IfOk, IsTrue};
 ghost use Rattle.std.specs.Option.{ForSome};
-ghost use Rattle.cm_store_records.specs.Reads.{FailsReading, HasReadCause, HoldsLines};
+ghost use Rattle.cm_store_records.specs.Reads.{FailsReading, HasReadCause, HasReadFailure, HoldsLines};
 
 use crate::limits::{HEAD_LEN, MAX_RECORD_BYTES};
 use crate::parts::split;
@@ -27,6 +27,7 @@ pub fn read_records<P: KeyPass>(alloc: Global, lines: &mut P) -> Result<Records,
     requires start { P.place lines.old ≡ 0 }
     ensures told { P.told lines.new ≡ P.told lines.old }
     ensures cause { HasReadCause (P.faults lines.old) (P.faults lines.new) result }
+    ensures failed { IfErr result (HasReadFailure (P.failure lines.new) (P.last lines.new)) }
     ensures holds { IfOk result (λ records. ForSome (P.told lines.old) (λ told. HoldsLines told records)) }
     ensures fails { IfErr result (λ fault. ForSome (P.told lines.old) (λ told. FailsReading told fault)) }
 {
