@@ -8,7 +8,7 @@ mod read;
 mod records;
 
 pub use crate::keys::RecordKeys;
-pub use crate::limits::{HEAD_LEN, MAX_RECORD_BYTES, TAB};
+pub use crate::limits::{HEAD_LEN, MAX_RECORD_BYTES, TAB, of_records};
 pub use crate::parts::{Parts, record_at};
 pub use crate::read::{ReadFault, read_records};
 pub use crate::records::Records;
