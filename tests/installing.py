@@ -221,7 +221,8 @@ def newcomer(room):
     alone = ["unshare", "-n"] if BY and run("unshare", "-n", "true").returncode == 0 else []
     if not alone:
         skipped("a newcomer without a network", "the network can't be taken away here")
-    case("a clone", run("git", "clone", "-q", TOP, clone, env={**os.environ, **around}).stderr)
+    left = run("git", "clone", "-q", TOP, clone, env={**os.environ, **around})
+    case("a clone", left.returncode and left)
     shutil.copytree(RELEASE, clone / "release", dirs_exist_ok=True)
     script = f'set -e\n{first_command()}\nPATH="$HOME/.local/bin:$PATH"\ncp examples/words "$HOME/words"\ncd\ncmph -g words\ncmph words | head -n 3\n'
     start = time.monotonic()
