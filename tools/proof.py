@@ -3,6 +3,7 @@
 The files that are packed are those below crates/. Each is certified by the gate, if tools/gated.py noted its bytes and today's sources and kit; or by `make`, if
 tools/prove.py left these bytes and proved today's sources. Where bin/ has a program, it must be the same.
 """
+import functools
 import json
 
 import gated
@@ -60,6 +61,7 @@ def faults_of_files():
             yield f"{name_of(copy)} is not {name_of(path)}: remove it, and run `make`"
 
 
+@functools.cache
 def certified():
     """By what all that is packed was proved, and the verdict on each crate. Raises Refused."""
     prove.kit_folder()
