@@ -320,6 +320,10 @@ def of_names(room):
                             ("d/all", ("e/f", "./e/g")), ("none/all", (room / "d/e/f", whole)), ("d", ("d/e/f", whole)), ("d/", ("e/f", "e/g")), ("d/all", ("d/d/e/f", "d/e/g"))):
         yield from ran(room, "-j", "-m", manifest, *names)
         yield from ran(room, "-m", manifest, "keys")
+    for manifest, names in (("d/all", ("d//e/f", "d///e/g")), ("./d/all", ("d/e/f", "d//e/g")), ("d/all", ("./d/e/f", ".//d//e/g")), (".//d/all", ("d/e/f", "./d/e/g")), (room / "d/all", (f"{room}/d//e/f", "e/g"))):
+        yield from said(0, room, "-j", "-m", manifest, *names, out=b"")
+        yield from difference(f"the names of {names} from {manifest}", ([shard.name for shard in plain.manifest_in((room / "d/all").read_bytes()).shards],), ([b"e/f", b"e/g"],))
+        yield from said(0, room, "-t", "-m", manifest, "keys", out=b"true\n")
 
 
 def of_equal_keys(room):

@@ -146,8 +146,20 @@ def path_of(manifest, name):
     return os.path.join(folder_of(manifest), name)
 
 
+def plain(path):
+    """A path without `./` at its start."""
+    return path[2:].lstrip("/") if path.startswith("./") else path
+
+
+def behind(folder, path):
+    """What follows a folder in a path, or None."""
+    return path[len(folder):].lstrip("/") if folder and path.startswith(folder) else None
+
+
 def name_of(manifest, function):
-    return function.removeprefix(folder_of(manifest))
+    folder = folder_of(manifest)
+    names = [behind(folder, function), behind(plain(folder), plain(function)), function]
+    return next(name for name in names if name is not None)
 
 
 # A split

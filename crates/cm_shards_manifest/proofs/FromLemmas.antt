@@ -1,5 +1,5 @@
 -- Items that stand one after another in bytes.
-use Rattle.std.proofs.Common.{◌≡◌, ◌∙◌, ℕ, ◌+◌, ◌<◌, ◌≤◌, ◌^◌, List, [], ◌++◌, length, length-append, ap, sym, subst, arith, refl, append_assoc, Ok}
+use Rattle.std.proofs.Common.{◌≡◌, ◌∙◌, ℕ, ◌+◌, ◌<◌, ◌≤◌, ◌^◌, List, [], ◌++◌, length, length-append, sym, arith, refl, append_assoc, Ok}
 use Rattle.std.specs.Int.{Width, byte_len, to_le_bytes, w64}
 use Rattle.std.proofs.lemmas.Nat.{from_le_bytes-to_le_bytes_8, le_bytes_8}
 use Rattle.cm_dump_items.specs.ItemLaws.{item_there}

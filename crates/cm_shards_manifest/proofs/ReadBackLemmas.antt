@@ -9,7 +9,7 @@ use Rattle.std.proofs.lemmas.Str.{IsUtf8-from_is_utf8}
 use Rattle.sha2.specs.Sha256.{sha256}
 use Rattle.cm_bits.specs.Bound.{AllBelow}
 use Rattle.cm_dump_items.specs.BackLaws.{Small, Stands, end_read, field_read, last_item, small_bytes, small_item, stands, zero_read}
-use Rattle.cm_dump_items.specs.Reading.{end_at, field_at, item_at, zeros_at}
+use Rattle.cm_dump_items.specs.Reading.{field_at, item_at, zeros_at}
 use Rattle.cm_dump_items.specs.StepLaws as items
 use Rattle.cm_dump_items.specs.WidthLaws.{of_four, of_one, of_two}
 use Rattle.cm_dump_items.specs.declared.fault.LoadFault.{LoadFault}

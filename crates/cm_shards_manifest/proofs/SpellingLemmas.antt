@@ -1,9 +1,7 @@
 -- The manifest that is read from a manifest's file.
-use Rattle.std.proofs.Common.{◌≡◌, ◌∙◌, ℕ, zero, suc, ◌+◌, ◌*◌, ◌%◌, ◌<◌, ◌≤◌, ◌^◌, List, [], ◌∷◌, ◌++◌, length, length-append, take, ap, sym, subst, arith, refl, append_assoc, append-nil, true, Ok, Result, w32, lit<}
+use Rattle.std.proofs.Common.{◌≡◌, ◌∙◌, ℕ, ◌+◌, ◌%◌, ◌<◌, ◌≤◌, ◌^◌, List, [], ◌∷◌, ◌++◌, length, length-append, take, ap, sym, subst, arith, refl, append_assoc, append-nil, Ok, w32, lit<}
 use Rattle.std.specs.Cmp.Lexicographic.{bytes_decides}
 use Rattle.std.specs.Int.{to_le_bytes, w8, w16, w64}
-use Rattle.std.specs.Prelude.{nat_eq}
-use Rattle.std.specs.Cmp.Lexicographic.{pointwise}
 use Rattle.std.proofs.lemmas.List.{take_at}
 use Rattle.sha2.specs.Sha256.{digest_bytes, sha256}
 use Rattle.cm_algo_names.specs.declared.algorithm.Algorithm.{Algorithm}
@@ -16,15 +14,12 @@ use Rattle.cm_route.specs.declared.route.TheConstants.{MAX_SHARDS}
 use Rattle.cm_spec.specs.declared.limits.TheConstants.{MAX_KEYS, MAX_VERTICES}
 use Rattle.cm_shards_manifest.specs.ManifestBytes.{algorithm_number, header_bytes, manifest_bytes, manifest_magic, rest_bytes, shard_bytes, shard_len, shards_bytes, shards_len, signed_bytes}
 use Rattle.cm_shards_manifest.specs.ManifestFiles.{digest_place, digest_unless, manifest_in, signed_at}
-use Rattle.cm_shards_manifest.specs.ManifestItems.{algorithm_of, header_at, magic_at, manifest_at, name_at, rest_at, shard_at, shards_at}
+use Rattle.cm_shards_manifest.specs.ManifestItems.{algorithm_of, header_at, magic_at, manifest_at, rest_at, shard_at, shards_at}
 use Rattle.cm_shards_manifest.specs.ManifestLaws.{spans_cons, spans_few}
 use Rattle.cm_shards_manifest.specs.Manifests.{AreShards, IsManifest, IsShard, Manifest, spans}
-use Rattle.cm_shards_manifest.specs.Steps.{lifted}
-use Rattle.cm_shards_manifest.specs.declared.fault.ManifestFault.{ManifestFault}
-use Rattle.cm_shards_manifest.specs.declared.header.Header.{Header}
 use Rattle.cm_shards_manifest.specs.declared.limits.TheConstants.{MAX_NAME}
 use Rattle.cm_shards_manifest.specs.declared.shard.Shard.{Shard}
-use Rattle.cm_shards_manifest.proofs.FromLemmas.{From, from_field, from_item, from_next, from_start, of_eight}
+use Rattle.cm_shards_manifest.proofs.FromLemmas.{From, from_field, from_item, from_next, of_eight}
 use Rattle.cm_shards_manifest.proofs.NameLemmas.{name_known}
 
 -- ---- the header, and any bytes after it

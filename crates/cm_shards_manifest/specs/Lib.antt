@@ -7,4 +7,5 @@ pub mod ManifestFiles
 pub mod Loads
 pub mod ManifestLaws
 pub mod Paths
+pub mod PathsLaws
 pub mod Examples

@@ -1,5 +1,5 @@
 -- Names in a manifest, and the paths that they mean.
-use Rattle.std.specs.Prelude.{ℕ, zero, suc, ◌==◌, List, [], ◌∷◌, length, take, drop, nat_eq, if◌then◌else◌}
+use Rattle.std.specs.Prelude.{ℕ, zero, suc, ◌==◌, Bool, List, [], ◌∷◌, Option, None, Some, length, take, drop, nat_eq, if◌then◌else◌, codes}
 use Rattle.std.specs.Cmp.Lexicographic.{pointwise}
 use Rattle.std.specs.Path as paths
 use Rattle.std.specs.Path.{path_join}
@@ -21,10 +21,32 @@ folder_of path = take (folder_len path) path
 abbrev pub path_of : List ℕ → List ℕ → List ℕ
 path_of manifest name = path_join (folder_of manifest) name
 
--- a text without these bytes, if it begins with them
-abbrev pub without : List ℕ → List ℕ → List ℕ
-without begin text = if pointwise nat_eq (take (length begin) text) begin then drop (length begin) text else text
+-- a text begins with these bytes
+abbrev pub begins : List ℕ → List ℕ → Bool
+begins begin text = pointwise nat_eq (take (length begin) text) begin
+
+-- a text without the slashes at its start
+abbrev pub no_slashes : List ℕ → List ℕ
+no_slashes [] = []
+no_slashes (b ∷ bytes) = if b == paths.slash then no_slashes bytes else b ∷ bytes
+
+-- a path without `./` at its start, and without the slashes that follow that
+abbrev pub plain : List ℕ → List ℕ
+plain path = if begins (codes "./") path then no_slashes (drop 2 path) else path
+
+-- what follows a folder in a path, without slashes at its start, if the path begins with the folder
+abbrev pub behind : List ℕ → List ℕ → Option (List ℕ)
+behind folder path = if length folder == 0 then None else if begins folder path then Some (no_slashes (drop (length folder) path)) else None
+
+-- what follows a folder in a path as both are, or else as both are without `./`, or else the path
+abbrev pub first_name : Option (List ℕ) → Option (List ℕ) → List ℕ → List ℕ
+first_name (Some name) plainly path = name
+first_name None (Some name) path = name
+first_name None None path = path
+
+abbrev pub name_in : List ℕ → List ℕ → List ℕ
+name_in folder path = first_name (behind folder path) (behind (plain folder) (plain path)) path
 
 -- the name of a function file in a manifest: its path without the manifest's folder, if it begins with that
 abbrev pub name_of : List ℕ → List ℕ → List ℕ
-name_of manifest function = without (folder_of manifest) function
+name_of manifest function = name_in (folder_of manifest) function

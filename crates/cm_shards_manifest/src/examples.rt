@@ -49,6 +49,11 @@ pub fn named()
     ensures at_root { path_of (codes "/all") (codes "x") ≡ codes "/x" }
     ensures name { name_of (codes "out/all") (codes "out/shard-0000.mph") ≡ codes "shard-0000.mph" }
     ensures name_here { name_of (codes "all") (codes "out/shard-0000.mph") ≡ codes "out/shard-0000.mph" }
+    ensures slashes { name_of (codes "out/all") (codes "out//x") ≡ codes "x" }
+    ensures dot_before { name_of (codes "./out/all") (codes "out/x") ≡ codes "x" }
+    ensures dot_after { name_of (codes "out/all") (codes ".//out///x") ≡ codes "x" }
+    ensures dot_here { name_of (codes "./all") (codes "./x") ≡ codes "x" }
+    ensures no_folder { name_of (codes "all") (codes "/x") ≡ codes "/x" }
     ensures elsewhere { name_of (codes "out/all") (codes "ou/x") ≡ codes "ou/x" }
     ensures no_name { name_of (codes "out/all") (codes "out/") ≡ [] }
 {}

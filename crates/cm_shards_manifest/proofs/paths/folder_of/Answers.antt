@@ -1,5 +1,4 @@
-use Rattle.std.proofs.Common.{◌≡◌, ◌≢◌, ◌∙◌, ◌+◌, ◌<◌, ℕ, List, ap, sym, take, arith, ◌-◌, length, get_or, lit<}
-use Rattle.std.specs.Option.{MatchOption}
+use Rattle.std.proofs.Common.{◌≡◌, ◌∙◌, ◌+◌, ℕ, ap, sym, take, arith, ◌-◌, lit<}
 use Rattle.std.proofs.lemmas.Str.Pattern.{rfind_char}
 use Rattle.cm_shards_manifest.specs.Paths.{folder_len, folder_of}
 use Rattle.cm_shards_manifest.proofs.FolderLemmas.{folder_known, no_folder}

@@ -1,4 +1,4 @@
-use Rattle.std.proofs.Common.{◌≡◌, ◌∙◌, ℕ, List, ap, rules, w32, w64}
+use Rattle.std.proofs.Common.{◌≡◌, rules, w32, w64}
 use Rattle.std.specs.Int.{to_le_bytes}
 use Rattle.cm_shards_manifest.specs.ManifestBytes.{rest_bytes}
 use Rattle.cm_shards_manifest.proofs.PieceLemmas.{five_pieces}

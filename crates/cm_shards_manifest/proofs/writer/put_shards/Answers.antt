@@ -1,4 +1,4 @@
-use Rattle.std.proofs.Common.{◌≡◌, ◌∙◌, ℕ, ◌+◌, ◌<◌, ◌≤◌, List, ◌++◌, length, take, get_or, ap, sym, subst, arith, append_assoc}
+use Rattle.std.proofs.Common.{◌≡◌, ◌∙◌, ℕ, ◌+◌, ◌<◌, List, ◌++◌, length, take, get_or, ap, sym, subst, arith, append_assoc}
 use Rattle.cm_shards_manifest.specs.ManifestBytes.{shard_bytes, shards_bytes}
 use Rattle.cm_shards_manifest.specs.ManifestLaws.{bytes_more, shard_valid}
 use Rattle.cm_shards_manifest.specs.Manifests.{IsShard}
