@@ -6,7 +6,7 @@ use Rattle.cm_io.specs.NotingLaws.{noted_nothing}
 use Rattle.cm_io.specs.States.{DiskState, IsSent, SinkState, outside}
 use Rattle.cm_io.specs.Writing.{then_bytes}
 use Rattle.cm_judge.specs.Judges.{Judges}
-use Rattle.cm_judge.specs.Leaves.{EndsFiles, HasStopCause, stop_message, stop_status}
+use Rattle.cm_judge.specs.Leaves.{EndDiffers, EndsFiles, HasStopCause, stop_message, stop_status}
 use Rattle.cm_judge.specs.Outcomes.{saying, verdict_status}
 use Rattle.cm_judge.specs.Texts.{program, verdict_text}
 use Rattle.cm_judge.specs.declared.stop.JudgeStop.{JudgeStop}
@@ -24,6 +24,7 @@ pub record Left (job : JudgeJob) (old new : DiskState) (end : Result Verdict Jud
   pub write_faults : new.write_faults ≡ old.write_faults
   pub cause : HasStopCause old.read_faults new.read_faults end
   pub ends : ForSome old.files (λ files. EndsFiles job files end)
+  pub numbers : EndDiffers end
 
 says_nothing : (err : SinkState) → Says err err []
 says_nothing err = says_all ((noted_nothing false err).wrote refl)
@@ -57,7 +58,7 @@ printed job old new out_old out_new err verdict status left is wrote fine sent =
       silent = λ zero one _. absurd (omega (arith, is, low, zero, one));
       sent = λ _ _. inl sent;
       err_sent = λ empty _. inl empty;
-      err = ([], inl (Ok verdict, is, refl), says_nothing err);
+      err = ([], inl (Ok verdict, is, refl, tt), says_nothing err);
     }
 
 -- out could not be written
@@ -105,5 +106,5 @@ unjudged job old new out err_old err_new stop status left is says sent =
       silent = λ _ _ _. refl;
       sent = λ empty _. inl empty;
       err_sent = λ _. sent;
-      err = (stop_message job stop, inl (Err stop, is, refl), says);
+      err = (stop_message job stop, inl (Err stop, is, refl, left.numbers), says);
     }

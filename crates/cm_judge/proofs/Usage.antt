@@ -16,7 +16,7 @@ use Rattle.cm_words_arguments.specs.declared.fault.UsageFault.TheVariants.{Memor
 
 -- a job that stopped before anything was done leaves the disk as it was
 untouched : (job : JudgeJob) (disk : DiskState) → Left job disk disk (Err (Report report_fault.Memory))
-untouched job disk = record { files = refl; spilled = refl; write_faults = refl; cause = refl; ends = λ files known. tt }
+untouched job disk = record { files = refl; spilled = refl; write_faults = refl; cause = refl; ends = λ files known. tt; numbers = tt }
 
 -- what the report of a fault of the arguments does
 pub refused : (asked : Read JudgeJob) (fault : UsageFault) (disk : DiskState) (out err_old err_new : SinkState) (status : ℕ) → (fault ≡ Memory) ⊎ (let r : Read JudgeJob = Err fault in r ≡ asked) → status ≡ usage_status_of fault

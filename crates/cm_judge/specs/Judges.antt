@@ -4,7 +4,7 @@ use Rattle.std.specs.Option.{ForSome}
 use Rattle.cm_io.specs.Files.{Files, file_at}
 use Rattle.cm_io.specs.States.{IsSent, Outside}
 use Rattle.cm_io.specs.Writing.{then_bytes}
-use Rattle.cm_judge.specs.Leaves.{ReadsAs, end_message, end_status}
+use Rattle.cm_judge.specs.Leaves.{EndDiffers, ReadsAs, end_message, end_status}
 use Rattle.cm_judge.specs.Outcomes.{keys_of, outcome_of, saying, settings_of, verdict_status}
 use Rattle.cm_judge.specs.Texts.{program, verdict_text}
 use Rattle.cm_judge.specs.declared.stop.JudgeStop.{JudgeStop}
@@ -50,9 +50,10 @@ pub record IsCutShort (job : JudgeJob) (old new : Outside) : Type 0 where
 abbrev pub StoppedReading : JudgeJob → Outside → Outside → Files → Type 0
 StoppedReading job old new files = Says old.err new.err (cannot_read program job.report) ⊎ ((said : Said) × ReadsAs files job.report said × Says old.err new.err (cannot_read program job.keys))
 
--- This is said with this status: nothing of a verdict, and else why there is none or that out can't be written.
+-- This is said with this status: nothing of a verdict, and else why there is none or that out can't be written. Keys that changed are said
+-- by two numbers that differ.
 abbrev pub IsJudgeMessage : JudgeJob → ℕ → List ℕ → Type 0
-IsJudgeMessage job status text = ((end : Result Verdict JudgeStop) × (status ≡ end_status end) × (text ≡ end_message job end)) ⊎ ((status ≡ 5) × (text ≡ cannot_write_out program))
+IsJudgeMessage job status text = ((end : Result Verdict JudgeStop) × (status ≡ end_status end) × (text ≡ end_message job end) × EndDiffers end) ⊎ ((status ≡ 5) × (text ≡ cannot_write_out program))
 
 -- A job that found disk, out and err in the old state left them in the new one, with this status.
 pub record Judges (job : JudgeJob) (old new : Outside) (result : ℕ) : Type 0 where
@@ -82,5 +83,6 @@ pub record Judges (job : JudgeJob) (old new : Outside) (result : ℕ) : Type 0 w
   -- If the buffer of out or err was empty before the call, it is empty after it, or the count of this sink rose.
   pub sent : old.out.waits ≡ 0 → IsSent old.out new.out
   pub err_sent : old.err.waits ≡ 0 → IsSent old.err new.err
-  -- Err gets nothing of a verdict, and else the message, or a prefix of that if err itself fails.
+  -- Err gets nothing of a verdict, and else the message, or a prefix of that if err itself fails. With status 7 the message has two numbers of
+  -- keys that differ.
   pub err : (text : List ℕ) × IsJudgeMessage job result text × Says old.err new.err text

@@ -7,7 +7,7 @@ use Rattle.cm_judge.specs.Texts.{bad_report, program}
 use Rattle.cm_judge.specs.declared.stop.BadReport.{BadReport}
 use Rattle.cm_judge.specs.declared.stop.JudgeStop.{JudgeStop}
 use Rattle.cm_judge.specs.declared.stop.JudgeStop.TheVariants.{Keys, Report}
-use Rattle.cm_judge_reports.specs.Faults.{FailsJudge, HasJudgeCause}
+use Rattle.cm_judge_reports.specs.Faults.{FailsJudge, HasJudgeCause, NumbersDiffer}
 use Rattle.cm_judge_reports.specs.declared.fault.JudgeFault.{JudgeFault}
 use Rattle.cm_judge_reports.specs.declared.fault.JudgeFault.TheVariants as judge_fault
 use Rattle.cm_judge_verdict.specs.Truth.{IsTrue}
@@ -64,6 +64,12 @@ end_status (Err stop) = stop_status stop
 abbrev pub end_message : JudgeJob → Result Verdict JudgeStop → List ℕ
 end_message job (Ok verdict) = []
 end_message job (Err stop) = stop_message job stop
+
+-- the two numbers of keys that changed differ
+abbrev pub EndDiffers : Result Verdict JudgeStop → Type 0
+EndDiffers (Ok verdict) = Unit {0}
+EndDiffers (Err (Report fault)) = Unit {0}
+EndDiffers (Err (Keys fault)) = NumbersDiffer fault
 
 -- a file can't be opened or read exactly if the count of reading rose
 abbrev pub HasStopCause : ℕ → ℕ → Result Verdict JudgeStop → Type 0

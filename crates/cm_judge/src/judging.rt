@@ -1,8 +1,8 @@
 //! A verdict on the report of a file, by the keys of another.
-ghost use Rattle.std.specs.Prelude.{◌≡◌};
+ghost use Rattle.std.specs.Prelude.{◌≡◌, IfErr};
 ghost use Rattle.std.specs.Option.{ForSome};
-ghost use Rattle.cm_judge.specs.Leaves.{EndsFiles, EndsKeys, HasStopCause};
-ghost use Rattle.cm_judge_reports.specs.Faults.{HasJudgeCause};
+ghost use Rattle.cm_judge.specs.Leaves.{EndDiffers, EndsFiles, EndsKeys, HasStopCause};
+ghost use Rattle.cm_judge_reports.specs.Faults.{HasJudgeCause, NumbersDiffer};
 ghost use Rattle.cm_witness_report.specs.Reading.{said_of};
 ghost use Rattle.cm_witness_report.specs.Reports.{IsReport};
 ghost use Rattle.cm_judge_words.specs.Limits.{IsJudgeJob};
@@ -30,6 +30,7 @@ fn judge_keys<D: Disk>(
     ensures spilled { (D.state disk.new).spilled ≡ (D.state disk.old).spilled }
     ensures write_faults { (D.state disk.new).write_faults ≡ (D.state disk.old).write_faults }
     ensures cause { HasJudgeCause (D.state disk.old).read_faults (D.state disk.new).read_faults result }
+    ensures numbers { IfErr result NumbersDiffer }
     ensures ends { ForSome (D.state disk.old).files (λ files. EndsKeys job.now (said_of report.now) files result) }
 {
     // Laws, for the proof alone.
@@ -58,6 +59,7 @@ pub(crate) fn judge_files<D: Disk>(
     ensures spilled { (D.state disk.new).spilled ≡ (D.state disk.old).spilled }
     ensures write_faults { (D.state disk.new).write_faults ≡ (D.state disk.old).write_faults }
     ensures cause { HasStopCause (D.state disk.old).read_faults (D.state disk.new).read_faults result }
+    ensures numbers { EndDiffers result }
     ensures ends { ForSome (D.state disk.old).files (λ files. EndsFiles job.now files result) }
 {
     let report = match load_report(alloc, job.report.as_str(), disk) {

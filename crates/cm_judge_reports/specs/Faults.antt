@@ -66,6 +66,11 @@ HasJudgeCounts K keys NoKeys = (K.place keys ≡ 0) × K.at_end keys
 HasJudgeCounts K keys (Changed first now) = DiffersInAll K keys first now ⊎ DiffersInBucket K keys first now
 HasJudgeCounts K keys fault = Unit {0}
 
+-- and so the two numbers of `Changed` differ
+abbrev pub NumbersDiffer : JudgeFault → Type 0
+NumbersDiffer (Changed first now) = now ≢ first
+NumbersDiffer fault = Unit {0}
+
 -- the failures over known keys: the keys never change
 abbrev pub FailsJudge : Told → JudgeFault → Type 0
 FailsJudge told Memory = Unit {0}

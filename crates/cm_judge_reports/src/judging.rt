@@ -4,7 +4,7 @@ ghost use Rattle.std.specs.Option.{ForSome};
 ghost use Rattle.cm_brz_split.specs.Passes.{AreCounted};
 ghost use Rattle.cm_io.specs.PassFaults.{IfChanged, IsOtherCount};
 ghost use Rattle.cm_judge_core.specs.Walks.{graph_judged};
-ghost use Rattle.cm_judge_reports.specs.Faults.{AreSettings, DiffersInBucket, FailsJudge, HasJudgeCause, HasJudgeCounts, HasJudgeFailure, PassesAgain};
+ghost use Rattle.cm_judge_reports.specs.Faults.{AreSettings, DiffersInBucket, FailsJudge, HasJudgeCause, HasJudgeCounts, HasJudgeFailure, NumbersDiffer, PassesAgain};
 ghost use Rattle.cm_judge_verdict.specs.Rising.{RisesBy};
 ghost use Rattle.cm_judge_verdict.specs.Truth.{HaveRisingLines};
 ghost use Rattle.cm_judge_verdict.specs.Verdicts.{first_reason, graph_reasons, verdict_of};
@@ -173,6 +173,7 @@ fn verdict_on<P: KeyPass>(
 /// Whether a report of a refused build is true for the keys of a pass, by the settings of the build, or the first reason why it is false.
 /// The report is one that has a text. The keys are passed four times at most: once to be counted, once for the lines of the report, and
 /// once each for the graph and for its equal keys.
+#[tactic(auto, using(crate::proofs::FaultLemmas::numbers_differ))]
 pub fn judge<P: KeyPass>(
     alloc: Global,
     report: &Report,
@@ -185,6 +186,7 @@ pub fn judge<P: KeyPass>(
     ensures cause { HasJudgeCause (P.faults keys.old) (P.faults keys.new) result }
     ensures failed { IfErr result (HasJudgeFailure (P.failure keys.new)) }
     ensures counts { IfErr result (HasJudgeCounts P.KeyPass keys.new) }
+    ensures differs { IfErr result NumbersDiffer }
     ensures some { IfOk result (λ _. ForSome (P.told keys.old) (λ told. (told.fault ≡ None) × (0 < length told.keys))) }
     ensures verdict { IfOk result (λ verdict. ForSome (P.told keys.old) (λ told. HaveRisingLines told.keys → verdict ≡ verdict_of (said_of report.now) told.keys settings.now)) }
     ensures fault { IfErr result (λ fault. ForSome (P.told keys.old) (λ told. FailsJudge told fault)) }
