@@ -326,6 +326,19 @@ def of_names(room):
         yield from said(0, room, "-t", "-m", manifest, "keys", out=b"true\n")
 
 
+def of_own_files(room):
+    """Splits of a file that they would make, and joins onto a file that they read, are refused, and every file is kept. Others are done."""
+    _, (first, second), _ = with_files(room)
+    for folder, shards, name in (("d", 1, "d/shard-0000"), ("d", 2, "d/shard-0001"), ("d", 4096, "d/shard-0001"), ("d/", 3, "d/counts"), ("./d", 3, "./d/counts"), (room / "d", 9, room / "d/shard-0001")):
+        yield from said(5, room, "-n", shards, "-d", folder, name, out=b"", err=f"{name}: would be overwritten")
+    yield from said(5, room, "-n", 2, "-d", "none", "none/shard-0001", out=b"", err="none/shard-0001: would be overwritten")
+    for manifest, functions in ((first, [first, second]), (second, [first, second]), (second, [first[2:], second[2:]]), ("d/counts", ["-d", "d", first, second]), ("d/counts", ["-d", "d", "d/none"])):
+        yield from said(5, room, "-j", "-m", manifest, *functions, out=b"", err=f"{manifest}: would be overwritten")
+    yield from said(0, room, "-j", "-m", "d/counts", first, second, out=b"")
+    yield from said(0, room, "-j", "-m", first, second, out=b"")
+    yield from said(0, room, "-n", 1, "-d", "d", "d/shard-0001", out=b"")
+
+
 def of_equal_keys(room):
     """A shard without keys, and one with equal keys, of which all lines are in it: no function is built."""
     (room / "d").mkdir()
@@ -580,7 +593,7 @@ def cases(room):
     put(commands / "one.mph", dumps.BDZ_ONE)
     (commands / "d").mkdir()
     yield of_commands(commands)
-    for body in (of_small, of_manifests, of_functions, of_other_algorithms, of_names, of_equal_keys, of_full_disks, of_outputs):
+    for body in (of_small, of_manifests, of_functions, of_other_algorithms, of_names, of_own_files, of_equal_keys, of_full_disks, of_outputs):
         yield case(body)
     for body, is_there, why in (
         (of_small_disk, can_mount(new_room(room, "mount")), "no file system can be mounted"), (of_calls, has_compiler(), "there is no C compiler"),

@@ -177,8 +177,15 @@ def shard_name(shard):
     return f"shard-{shard:04}"
 
 
+def keep(path, others):
+    """Stops the run if it would make a file that it reads."""
+    if path in others:
+        raise Stop(5, f"{path}: would be overwritten")
+
+
 def split(options, files, folder):
     where, (name,) = options["d"], files
+    keep(name, [os.path.join(where, made) for made in ["counts", *map(shard_name, range(options["n"]))]])
     end = b"\0" if "z" in options else b"\n"
     keys, long = filters.keys_in(folder.read(name), end, options.get("k"))
     if not folder.takes(os.path.join(where, "counts")):
@@ -260,6 +267,7 @@ def entry_of(name, text, function, offset):
 
 def join(options, files, folder):
     path, entries, algorithm, offset = options["m"], [], None, 0
+    keep(path, [path_of(path, name_of(path, file)) for file in files] + [os.path.join(options["d"], "counts") for letter in "d" if letter in options])
     for file in files:
         name = name_of(path, file)
         at = path_of(path, name)

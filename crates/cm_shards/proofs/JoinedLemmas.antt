@@ -1,5 +1,5 @@
 -- The functions that a join takes are those that a query finds.
-use Rattle.std.proofs.Common.{◌≡◌, ◌≢◌, ◌∙◌, ℕ, ◌+◌, suc, Bool, true, false, List, [], ◌∷◌, ◌++◌, length, Option, None, Some, Result, Ok, Err, ap, refl, sym, subst, append_assoc, append-nil}
+use Rattle.std.proofs.Common.{◌≡◌, ◌≢◌, ◌∙◌, ◌⊎◌, ℕ, ◌+◌, suc, inl, inr, arith, Bool, true, false, List, [], ◌∷◌, ◌++◌, length, Option, None, Some, Result, Ok, Err, ap, refl, sym, subst, append_assoc, append-nil}
 use Rattle.std.specs.Cmp.{nat_eq_equiv}
 use Rattle.std.specs.Cmp.Lexicographic.{bytes_decides}
 use Rattle.std.specs.FinMap as map
@@ -11,11 +11,14 @@ use Rattle.cm_func.specs.Functions.{span_by}
 use Rattle.cm_func.specs.declared.function.Func.{Func}
 use Rattle.cm_func.specs.declared.function.Func.TheVariants as func
 use Rattle.cm_io.specs.Files.{Files, file_at}
+use Rattle.cm_io.specs.States.{Outside}
 use Rattle.cm_route.specs.declared.route.TheConstants.{ROUTE_SEED}
-use Rattle.cm_shards.specs.Joined.{AreElsewhere, AreFilesOf, IsAsked, path_for, sharded}
+use Rattle.cm_shards.specs.Joined.{AreFilesOf, IsAsked, sharded}
 use Rattle.cm_shards_files.specs.FunctionFiles.{algorithm_by, function_file_in, is_by, keys_by}
 use Rattle.cm_shards_files.specs.Loading.{function_of, functions_of, is_of, sharded_if}
 use Rattle.cm_shards_files.specs.declared.file.FunctionFile.{FunctionFile}
+use Rattle.cm_shards_join.specs.Inputs.{ReadsManifest, ReplacesInput, path_for}
+use Rattle.cm_shards_join.specs.Joins.{Joins}
 use Rattle.cm_shards_join.specs.Taking.{Comes, Taken, ◌>>=◌, algorithm_or, compare_counts, fits, is_name, join_of, manifest_of, nothing, same_algorithm, shard_by, take_all, take_function, take_loaded, with_shard}
 use Rattle.cm_shards_join.specs.declared.stop.JoinStop.{JoinStop}
 use Rattle.cm_shards_join.specs.declared.stop.JoinStop.TheVariants as stop
@@ -130,6 +133,26 @@ record AreFound (files new : Files) (manifest : List ℕ) (arguments : List (Lis
   long : length more ≡ length arguments
   are : AreFilesOf files manifest arguments functions
   found : functions_of new manifest a more ≡ Some (Ok functions)
+
+-- none of these arguments is read at the path of the manifest
+abbrev pub AreElsewhere : List ℕ → List (List ℕ) → Type 0
+AreElsewhere manifest [] = Unit {0}
+AreElsewhere manifest (a ∷ arguments) = (path_for manifest a ≢ manifest) × AreElsewhere manifest arguments
+
+elsewhere_of : (manifest : List ℕ) (arguments : List (List ℕ)) → (ReadsManifest manifest arguments → ⊥) → AreElsewhere manifest arguments
+elsewhere_of manifest [] none = tt
+elsewhere_of manifest (a ∷ arguments) none = ((λ same. none (inl same)), elsewhere_of manifest arguments (λ rest. none (inr rest)))
+
+-- so it is after a join that is done
+pub not_replaced : (job : JoinJob) (old new : Outside) → Joins job old new 0 → ReplacesInput job → ⊥
+not_replaced job old new joins replaces = go 0 refl (joins.refused replaces).said
+  where
+    go : {A B : Type 0} (status : ℕ) → status ≡ 0 → ((status ≡ 5) × A) ⊎ ((status ≡ 6) × B) → ⊥
+    go status done (inl five) = absurd (omega (arith, done, five.0))
+    go status done (inr six) = absurd (omega (arith, done, six.0))
+
+pub joined_elsewhere : (job : JoinJob) (old new : Outside) → Joins job old new 0 → AreElsewhere job.manifest job.functions
+joined_elsewhere job old new joins = elsewhere_of job.manifest job.functions (λ reads. not_replaced job old new joins (inl reads))
 
 -- another file than the manifest is as before
 abbrev IsKept : Files → Files → List ℕ → Type 0

@@ -1,8 +1,10 @@
 -- Arguments that are no job, or for which memory ran out.
 use Rattle.std.proofs.Common.{◌≡◌, ◌⊎◌, ◌∙◌, ℕ, [], Ok, Err, ap, inl, inr, subst, sym}
 use Rattle.cm_io.specs.States.{DiskState, IsSent, Outside, SinkState, outside}
-use Rattle.cm_shards.proofs.Undone.{unasked, unjoined, unsplit}
+use Rattle.cm_shards.proofs.Undone.{unasked}
 use Rattle.cm_shards.specs.Runs.{Runs}
+use Rattle.cm_shards_join.specs.JoinsLaws.{unjoined}
+use Rattle.cm_shards_split.specs.SplitsLaws.{unsplit}
 use Rattle.cm_shards_words.specs.Program.{program}
 use Rattle.cm_shards_words.specs.declared.jobs.ShardsJob.{ShardsJob}
 use Rattle.cm_shards_words.specs.declared.jobs.ShardsJob.TheVariants.{Ask, Join, Split}

@@ -1,5 +1,5 @@
 -- What is joined is what is asked.
-use Rattle.std.specs.Prelude.{◌≡◌, ◌≢◌, ℕ, List, [], ◌∷◌, length, Some, Ok}
+use Rattle.std.specs.Prelude.{◌≡◌, ℕ, List, [], ◌∷◌, length, Some, Ok}
 use Rattle.std.specs.FinMap as map
 use Rattle.cm_func.specs.declared.function.Func.{Func}
 use Rattle.cm_io.specs.Files.{Files, file_at}
@@ -8,14 +8,10 @@ use Rattle.cm_shards_files.specs.FunctionFiles.{function_file_in}
 use Rattle.cm_shards_files.specs.Loading.{shards_of}
 use Rattle.cm_shards_files.specs.Shards.{Sharded}
 use Rattle.cm_shards_files.specs.declared.file.FunctionFile.{FunctionFile}
+use Rattle.cm_shards_join.specs.Inputs.{path_for}
 use Rattle.cm_shards_manifest.specs.ManifestBytes.{manifest_bytes}
 use Rattle.cm_shards_manifest.specs.Manifests.{Manifest}
-use Rattle.cm_shards_manifest.specs.Paths.{name_of, path_of}
 use Rattle.cm_shards_words.specs.declared.jobs.JoinJob.{JoinJob}
-
--- the path at which the function file of an argument of a join is read
-abbrev pub path_for : List ℕ → List ℕ → List ℕ
-path_for manifest function = path_of manifest (name_of manifest function)
 
 -- The file of a path is a function file, with this function.
 pub record IsFileOf (files : Files) (path : List ℕ) (f : Func) : Type 0 where
@@ -30,11 +26,6 @@ abbrev pub AreFilesOf : Files → List ℕ → List (List ℕ) → List Func →
 AreFilesOf files manifest [] [] = Unit {0}
 AreFilesOf files manifest (a ∷ arguments) (f ∷ functions) = IsFileOf files (path_for manifest a) f × AreFilesOf files manifest arguments functions
 AreFilesOf files manifest _ _ = ⊥
-
--- none of them is the file of the manifest
-abbrev pub AreElsewhere : List ℕ → List (List ℕ) → Type 0
-AreElsewhere manifest [] = Unit {0}
-AreElsewhere manifest (a ∷ arguments) = (path_for manifest a ≢ manifest) × AreElsewhere manifest arguments
 
 -- these functions, one for each shard
 abbrev pub sharded : List Func → Sharded

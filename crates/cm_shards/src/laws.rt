@@ -3,12 +3,15 @@ ghost use Rattle.std.specs.Prelude.{◌≡◌, ℕ, List, None, All, map};
 ghost use Rattle.cm_bdz.specs.Numbering.{AnswersApart};
 ghost use Rattle.cm_func.specs.Functions.{IsFunction};
 ghost use Rattle.cm_func.specs.declared.function.Func.{Func};
-ghost use Rattle.cm_io.specs.Files.{Files};
-ghost use Rattle.cm_shards.specs.Joined.{AreElsewhere, IsAsked, sharded};
+ghost use Rattle.std.specs.Option.{ForSome};
+ghost use Rattle.cm_io.specs.Files.{with_file};
+ghost use Rattle.cm_io.specs.States.{Outside};
+ghost use Rattle.cm_shards.specs.Joined.{IsAsked, sharded};
 ghost use Rattle.cm_shards.specs.Numbered.{AreBuiltOver, LeaveNone, shard_keys};
 ghost use Rattle.cm_shards_files.specs.Shards.{number_in, total_of};
 ghost use Rattle.cm_shards_files.specs.ShardsLaws.{AllAreTaken};
-ghost use Rattle.cm_shards_join.specs.Leaves.{IsJoined};
+ghost use Rattle.cm_shards_join.specs.Joins.{Joins};
+ghost use Rattle.cm_shards_manifest.specs.ManifestBytes.{manifest_bytes};
 ghost use Rattle.cm_shards_manifest.specs.Manifests.{Manifest};
 ghost use Rattle.cm_shards_split.specs.Outcomes.{lines_of, route_of, told_of};
 ghost use Rattle.cm_shards_split.specs.Shares.{share};
@@ -35,10 +38,11 @@ pub fn numbers()
     numbers_apart();
 }
 
-/// A query or a test by the manifest that a join has saved finds the functions that were joined, in the order of the arguments, and the
-/// route of a split into as many shards, if the manifest did not take the place of a function file.
+/// After a join with status 0, a query or a test by its manifest finds the functions that were joined, in the order of the arguments, and
+/// the route of a split into as many shards.
 pub fn joined_functions()
-    ensures asked { (job : JoinJob) (files : Files) (m : Manifest) → IsJoined job files m → AreElsewhere job.manifest job.functions → IsAsked job files m }
+    ensures asked { (job : JoinJob) (old new : Outside) → Joins job old new 0 → ForSome old.disk.files (λ files.
+        (m : Manifest) × (new.disk.files ≡ with_file job.manifest (manifest_bytes m) old.disk.files) × IsAsked job files m) }
 {
     files_spell();
 }

@@ -3,4 +3,5 @@ pub mod CountLemmas
 pub mod TakeLemmas
 pub mod Ends
 pub mod Promises
+mod InputLemmas
 mod ExampleLemmas

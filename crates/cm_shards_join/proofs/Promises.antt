@@ -4,7 +4,7 @@ use Rattle.cm_io.specs.Files.{Files, with_file}
 use Rattle.cm_io.specs.NotingLaws.{noted_nothing}
 use Rattle.cm_io.specs.States.{DiskState, IsSent, SinkState, outside}
 use Rattle.cm_io.specs.WritingLaws.{then_nothing}
-use Rattle.cm_shards_join.specs.Joins.{Joins}
+use Rattle.cm_shards_join.specs.Joins.{JoinsFunctions}
 use Rattle.cm_shards_join.specs.Leaves.{HasStopCause, Leaves}
 use Rattle.cm_shards_join.specs.Outcomes.{saving}
 use Rattle.cm_shards_join.specs.Texts.{message_of, status_of}
@@ -26,7 +26,7 @@ says_nothing : (err : SinkState) → Says err err []
 says_nothing err = says_all ((noted_nothing false err).wrote refl)
 
 -- the manifest is saved
-pub saved : (job : JoinJob) (old new : DiskState) (out err : SinkState) → Left job old new (Ok tt) → Joins job (outside old out err) (outside new out err) 0
+pub saved : (job : JoinJob) (old new : DiskState) (out err : SinkState) → Left job old new (Ok tt) → JoinsFunctions job (outside old out err) (outside new out err) 0
 saved job old new out err left = record {
   status = refl;
   out = refl;
@@ -55,7 +55,7 @@ saved job old new out err left = record {
 
 -- there is none
 pub unsaved : (job : JoinJob) (old new : DiskState) (out err_old err_new : SinkState) (stop : JoinStop) (status : ℕ) → Left job old new (Err stop) → status ≡ status_of stop → Says err_old err_new (message_of job stop) → IsSent err_old err_new
-    → Joins job (outside old out err_old) (outside new out err_new) status
+    → JoinsFunctions job (outside old out err_old) (outside new out err_new) status
 unsaved job old new out err_old err_new stop status left is says sent =
     let high = stop_high stop in
     record {

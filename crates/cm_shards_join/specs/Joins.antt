@@ -7,6 +7,8 @@ use Rattle.cm_shards_join.specs.Leaves.{IsCutShort, IsSaved, IsUnread}
 use Rattle.cm_shards_join.specs.Outcomes.{outcome_of}
 use Rattle.cm_shards_join.specs.Texts.{end_message, end_status}
 use Rattle.cm_shards_join.specs.declared.stop.JoinStop.{JoinStop}
+use Rattle.cm_shards_join.specs.Inputs.{ReplacesInput}
+use Rattle.cm_shards_words.specs.Overwriting.{RefusesOverwriting}
 use Rattle.cm_shards_words.specs.Program.{program}
 use Rattle.cm_shards_words.specs.declared.jobs.JoinJob.{JoinJob}
 use Rattle.cm_spec.specs.Lists.{has}
@@ -27,8 +29,9 @@ pub record IsEnd (job : JoinJob) (old new : Outside) (status : ℕ) (end : Resul
   pub status_is : status ≡ end_status end
   pub says : Says old.err new.err (end_message job end)
 
--- A join that found disk and err in the old state left them in the new one, with this status.
-pub record Joins (job : JoinJob) (old new : Outside) (result : ℕ) : Type 0 where
+-- A join whose manifest is none of the files that it reads found disk and err in the old state and left them in the new one, with this
+-- status.
+pub record JoinsFunctions (job : JoinJob) (old new : Outside) (result : ℕ) : Type 0 where
   pub status : has statuses result ≡ true
   -- Nothing is written to out, and no spill is made.
   pub out : new.out ≡ old.out
@@ -52,3 +55,9 @@ pub record Joins (job : JoinJob) (old new : Outside) (result : ℕ) : Type 0 whe
   pub err_sent : old.err.waits ≡ 0 → IsSent old.err new.err
   -- Err gets nothing if the manifest is saved, and else the message, or a prefix of that if err itself fails.
   pub err : (end : Result (Unit {0}) JoinStop) × IsEnd job old new result end
+
+-- A join that found disk and err in the old state left them in the new one, with this status. It is refused exactly if its manifest would
+-- take the place of a file that it reads.
+pub record Joins (job : JoinJob) (old new : Outside) (result : ℕ) : Type 0 where
+  pub refused : ReplacesInput job → RefusesOverwriting job.manifest old new result
+  pub functions : (ReplacesInput job → ⊥) → JoinsFunctions job old new result

@@ -4,5 +4,7 @@ pub mod Takings
 pub mod Texts
 pub mod Outcomes
 pub mod Leaves
+pub mod Inputs
 pub mod Joins
+pub mod JoinsLaws
 pub mod Examples

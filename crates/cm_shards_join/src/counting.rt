@@ -17,7 +17,7 @@ use std::alloc::{AllocError, Global};
 use std::path::Path;
 
 /// The path of the counts in the folder of a split.
-fn counts_path(alloc: Global, dir: &str) -> Result<Text, AllocError>
+pub(crate) fn counts_path(alloc: Global, dir: &str) -> Result<Text, AllocError>
     ensures path { IfOk result (λ path. path ≡ counts_path dir.now) }
 {
     let path = Path::new(dir).join(alloc, "counts")?;

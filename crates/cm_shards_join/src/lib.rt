@@ -4,6 +4,7 @@
 mod counting;
 mod driving;
 pub mod examples;
+mod inputs;
 mod making;
 mod reporting;
 mod stop;

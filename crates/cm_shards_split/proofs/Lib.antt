@@ -6,3 +6,4 @@ pub mod Created
 pub mod Ending
 pub mod Finished
 pub mod Promises
+mod Overwritten

@@ -10,7 +10,7 @@ use Rattle.cm_io.specs.declared.key_pass.KeyFault.TheVariants as key_fault
 use Rattle.cm_shards_split.specs.Leaves.{IsSplitInto, LeavesFiles}
 use Rattle.cm_shards_split.specs.Outcomes as outcomes
 use Rattle.cm_shards_split.specs.Outcomes.{lines_of, outcome_of, splitting, told_of}
-use Rattle.cm_shards_split.specs.Splits.{IsUnfinished, Splits}
+use Rattle.cm_shards_split.specs.Splits.{IsUnfinished, SplitsLines}
 use Rattle.cm_shards_split.specs.Stops.{statuses, stop_message, stop_status}
 use Rattle.cm_shards_split.specs.Streaming.{HasSplitCause}
 use Rattle.cm_shards_split.specs.declared.stop.SplitStop.{SplitStop}
@@ -43,7 +43,7 @@ outcome_there : (job : SplitJob) (files : Files) (bytes : List ℕ) → file_at 
 outcome_there job files bytes there none = none_some (sym none ∙ outcome_is job files bytes (told_of job bytes).fault there refl)
 
 -- all lines are split
-pub whole : (job : SplitJob) (old new : DiskState) (out err : SinkState) (status : ℕ) → Left job old new (Ok tt) → status ≡ 0 → Splits job (outside old out err) (outside new out err) status
+pub whole : (job : SplitJob) (old new : DiskState) (out err : SinkState) (status : ℕ) → Left job old new (Ok tt) → status ≡ 0 → SplitsLines job (outside old out err) (outside new out err) status
 whole job old new out err status left is = record {
   status = rw is refl;
   spilled = left.spilled;
@@ -132,7 +132,7 @@ stop_part job files old new TooMany known left either = absurd (omega (arith, ei
 
 -- the split stopped
 pub stopped : (job : SplitJob) (old new : DiskState) (out err_old err_new : SinkState) (stop : SplitStop) (status : ℕ) → Left job old new (Err stop) → status ≡ stop_status stop → Says err_old err_new (stop_message job stop) → IsSent err_old err_new
-    → Splits job (outside old out err_old) (outside new out err_new) status
+    → SplitsLines job (outside old out err_old) (outside new out err_new) status
 stopped job old new out err_old err_new stop status left is says sent = rw is (record {
   status = stop_listed stop;
   spilled = left.spilled;

@@ -9,5 +9,6 @@ pub mod Parts
 pub mod Streaming
 pub mod Stops
 pub mod Splits
+pub mod SplitsLaws
 pub mod Leaves
 pub mod Examples

@@ -1,5 +1,5 @@
 -- The paths of the files that a split makes.
-use Rattle.std.specs.Prelude.{ℕ, ◌/◌, ◌%◌, List, ◌++◌, codes}
+use Rattle.std.specs.Prelude.{◌≡◌, ◌⊎◌, ℕ, ◌/◌, ◌%◌, ◌<◌, List, ◌++◌, codes}
 use Rattle.std.specs.Fmt.{decimal}
 use Rattle.std.specs.Path.{path_join}
 
@@ -14,3 +14,7 @@ shard_path dir k = path_join dir (shard_name k)
 -- the path of the file of the counts
 abbrev pub counts_path : List ℕ → List ℕ
 counts_path dir = path_join dir (codes "counts")
+
+-- A path is one of those that a split makes: that of the counts, or of a shard. Paths are compared by their bytes.
+abbrev pub Makes : List ℕ → ℕ → List ℕ → Type 0
+Makes dir shards path = (path ≡ counts_path dir) ⊎ ((k : ℕ) × (k < shards) × (path ≡ shard_path dir k))

@@ -55,9 +55,9 @@ put_at dir k (suc i) (part ∷ parts) files inside few =
     ∙ ap (λ (n : ℕ). file_at (put_shares dir (k + 1) parts files) (shard_path dir n)) (omega arith)
     ∙ put_at dir (k + 1) i parts files (omega (arith, inside)) (omega (arith, few))
 
-put_kept : (dir : List ℕ) (k : ℕ) (parts : List (List ℕ)) (files : Files) (q : List ℕ) → ((i : ℕ) → q ≢ shard_path dir i) → file_at (put_shares dir k parts files) q ≡ file_at files q
+put_kept : (dir : List ℕ) (k : ℕ) (parts : List (List ℕ)) (files : Files) (q : List ℕ) → ((i : ℕ) → i < k + length parts → q ≢ shard_path dir i) → file_at (put_shares dir k parts files) q ≡ file_at files q
 put_kept dir k [] files q other = refl
-put_kept dir k (part ∷ parts) files q other = get_other (put_shares dir (k + 1) parts files) (shard_path dir k) part q (other k) ∙ put_kept dir (k + 1) parts files q other
+put_kept dir k (part ∷ parts) files q other = get_other (put_shares dir (k + 1) parts files) (shard_path dir k) part q (other k (omega arith)) ∙ put_kept dir (k + 1) parts files q (λ i below. other i (omega (arith, below)))
 
 -- The first file that is made is that of the counts.
 pub placed_none : (dir text : List ℕ) (files : Files) → map.insert files (counts_path dir) text ≡ placed dir [] text files
@@ -92,6 +92,6 @@ pub placed_counts : (dir : List ℕ) (parts : List (List ℕ)) (text : List ℕ)
 unfolding placed
 placed_counts dir parts text files = get_same (put_shares dir 0 parts files) (counts_path dir) text
 
-pub placed_kept : (dir : List ℕ) (parts : List (List ℕ)) (text : List ℕ) (files : Files) (q : List ℕ) → q ≢ counts_path dir → ((i : ℕ) → q ≢ shard_path dir i) → file_at (placed dir parts text files) q ≡ file_at files q
+pub placed_kept : (dir : List ℕ) (parts : List (List ℕ)) (text : List ℕ) (files : Files) (q : List ℕ) → q ≢ counts_path dir → ((i : ℕ) → i < length parts → q ≢ shard_path dir i) → file_at (placed dir parts text files) q ≡ file_at files q
 unfolding placed
-placed_kept dir parts text files q counts other = get_other (put_shares dir 0 parts files) (counts_path dir) text q counts ∙ put_kept dir 0 parts files q other
+placed_kept dir parts text files q counts other = get_other (put_shares dir 0 parts files) (counts_path dir) text q counts ∙ put_kept dir 0 parts files q (λ i below. other i (omega (arith, below)))

@@ -3,11 +3,13 @@ use Rattle.std.specs.Prelude.{◌≡◌, ◌≢◌, ◌<◌, ◌≤◌, ◌^◌,
 use Rattle.std.specs.Option.{ForSome}
 use Rattle.cm_io.specs.Files.{Files, file_at}
 use Rattle.cm_io.specs.States.{IsSent, Outside}
+use Rattle.cm_shards_split.specs.Names.{Makes}
 use Rattle.cm_shards_split.specs.Outcomes.{lines_of, outcome_of, route_of, told_of}
 use Rattle.cm_shards_split.specs.Placed.{placed}
 use Rattle.cm_shards_split.specs.Shares.{counts_text, share_bytes, share_counts, shares}
 use Rattle.cm_shards_split.specs.Stops.{end_message, end_status, statuses}
 use Rattle.cm_shards_split.specs.declared.stop.SplitStop.{SplitStop}
+use Rattle.cm_shards_words.specs.Overwriting.{RefusesOverwriting}
 use Rattle.cm_shards_words.specs.declared.jobs.SplitJob.{SplitJob}
 use Rattle.cm_spec.specs.Lists.{has}
 use Rattle.cm_tool_stops.specs.Ending.{LacksFile, Reaches}
@@ -38,8 +40,9 @@ pub record IsUnfinished (job : SplitJob) (files : Files) (status : ℕ) (new : O
   pub counts : (text ≡ []) ⊎ (((told_of job bytes).fault ≡ None) × AreWhole job (lines_of (told_of job bytes)) parts text)
   pub unread : status ≡ 4 → text ≡ []
 
--- A split that found disk and err in the old state left them in the new one, with this status. It writes nothing to out.
-pub record Splits (job : SplitJob) (old new : Outside) (result : ℕ) : Type 0 where
+-- A split of a keys file that it doesn't make found disk and err in the old state and left them in the new one, with this status. It writes
+-- nothing to out.
+pub record SplitsLines (job : SplitJob) (old new : Outside) (result : ℕ) : Type 0 where
   pub status : has statuses result ≡ true
   pub spilled : new.disk.spilled ≡ old.disk.spilled
   pub out : new.out ≡ old.out
@@ -57,3 +60,13 @@ pub record Splits (job : SplitJob) (old new : Outside) (result : ℕ) : Type 0 w
   pub err_sent : old.err.waits ≡ 0 → IsSent old.err new.err
   -- Err gets what is said of the end, or a prefix of that if err itself fails.
   pub err : (end : Result (Unit {0}) SplitStop) × (result ≡ end_status end) × Says old.err new.err (end_message job end)
+
+-- the keys file of a job is one of the files that its split makes
+abbrev pub MakesKeys : SplitJob → Type 0
+MakesKeys job = Makes job.dir job.shards job.keys
+
+-- A split that found disk and err in the old state left them in the new one, with this status. It is refused exactly if it would make its
+-- own keys file.
+pub record Splits (job : SplitJob) (old new : Outside) (result : ℕ) : Type 0 where
+  pub refused : MakesKeys job → RefusesOverwriting job.keys old new result
+  pub lines : (MakesKeys job → ⊥) → SplitsLines job old new result

@@ -7,6 +7,7 @@ mod driving;
 pub mod examples;
 mod finishing;
 pub mod laws;
+mod overwriting;
 mod part;
 mod parts;
 mod paths;

@@ -6,3 +6,4 @@ pub mod Meaning
 pub mod Examples
 pub mod Program
 pub mod Messages
+pub mod Overwriting

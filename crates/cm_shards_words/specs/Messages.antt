@@ -14,6 +14,10 @@ file_message file what = joined (program ∷ codes ": " ∷ file ∷ what ∷ []
 abbrev pub line_message : List ℕ → List ℕ → ℕ → List ℕ → List ℕ
 line_message file before line after = joined (program ∷ codes ": " ∷ file ∷ before ∷ decimal line ∷ after ∷ [])
 
+-- what is said of a file that is read, and that the job would make
+abbrev pub would_overwrite : List ℕ → List ℕ
+would_overwrite file = file_message file (codes ": would be overwritten\n")
+
 -- what is said of more lines than are read
 abbrev pub too_many_lines : List ℕ → List ℕ
 too_many_lines file = file_message file (codes ": too many lines\n")

@@ -16,7 +16,7 @@ pub use cm_words_arguments::{Text, UsageFault};
 pub use jobs::{AskJob, JoinJob, ShardsJob, SplitJob};
 pub use noting::{
     note_bad_dump, note_file, note_line, note_long_line, note_many_lines, note_no_memory,
-    note_unread, note_unwritten,
+    note_unread, note_unwritten, report_overwriting,
 };
 pub use program::PROGRAM;
 pub use reading::read_words;

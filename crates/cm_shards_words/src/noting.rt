@@ -1,8 +1,10 @@
 //! What the jobs of shards note on err. Each note begins with the name of the program.
 ghost use Rattle.std.specs.Prelude.{◌≡◌, codes, false};
 ghost use Rattle.cm_io.specs.Noting.{Noted};
-ghost use Rattle.cm_shards_words.specs.Messages.{file_message, line_message, too_many_lines};
+ghost use Rattle.cm_shards_words.specs.Messages.{file_message, line_message, too_many_lines, would_overwrite};
 ghost use Rattle.cm_shards_words.specs.Program.{program};
+ghost use Rattle.cm_io.specs.States.{IsSent};
+ghost use Rattle.cm_tool_stops.specs.Ends.{Says};
 ghost use Rattle.cm_tool_stops.specs.Messages.{bad_dump, cannot_read, cannot_write, line_too_long, out_of_memory};
 
 use crate::program::PROGRAM;
@@ -60,6 +62,17 @@ pub fn note_unwritten<E: Sink>(file: &str, err: &mut E, notes: &mut Notes)
     ensures sent { notes.new ≡ false → (E.state err.new).waits ≡ 0 }
 {
     note_file(file, b": cannot write\n", err, notes);
+}
+
+/// Says that a job would overwrite a file that it reads, and returns the status of that.
+pub fn report_overwriting<E: Sink>(file: &str, err: &mut E) -> u8
+    ensures status { result ≡ 5 }
+    ensures says { Says (E.state err.old) (E.state err.new) (would_overwrite file.now) }
+    ensures sent { IsSent (E.state err.old) (E.state err.new) }
+{
+    let mut notes = Notes::new();
+    note_file(file, b": would be overwritten\n", err, &mut notes);
+    5
 }
 
 /// Notes that a line of a file, counted from 1, is too long.
