@@ -31,3 +31,11 @@ pub fn of_graphs()
     ensures edges { MAX_EDGES ≡ 2 ^ 26 }
     ensures vertices { bdz_size MAX_EDGES 10000000 ≡ MAX_VERTICES }
 {}
+
+/// How many keys a function and a bucket have at most, and the ranges of the ratio and of the width.
+pub fn of_keys()
+    ensures keys { MAX_KEYS ≡ 67108864 }
+    ensures bucket { MAX_BUCKET ≡ 1023 }
+    ensures ratio { (MIN_RATIO ≡ 1000000) × (MAX_RATIO ≡ 10000000) }
+    ensures width { (MIN_WIDTH ≡ 64) × (MAX_WIDTH ≡ 700) }
+{}
