@@ -7,7 +7,7 @@ mod numbers;
 mod options;
 
 pub use fault::BadValue;
-pub use limits::{LINE_FEED, MAX_SEEDS, MAX_TEST_KEYS, MEGABYTE, ZERO_BYTE};
+pub use limits::{LINE_FEED, MAX_SEEDS, MAX_TEST_KEYS, MEGABYTE, ZERO_BYTE, of_options};
 pub use numbers::{millionths, whole};
 pub use options::{
     algorithm, bits, buffer, count, first, hash, number, optional, ratio, seed, test,

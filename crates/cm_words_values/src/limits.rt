@@ -1,4 +1,5 @@
 //! The numbers of options.
+ghost use Rattle.std.specs.Prelude.{◌≡◌};
 
 /// The bytes of a megabyte.
 pub const MEGABYTE: u32 = 1_048_576;
@@ -14,3 +15,12 @@ pub const LINE_FEED: u8 = 10;
 
 /// The byte that ends such a line if `-z` is given.
 pub const ZERO_BYTE: u8 = 0;
+
+/// The numbers of options, and the bytes that end a line: a line feed, or zero.
+pub fn of_options()
+    ensures megabyte { MEGABYTE ≡ 1048576 }
+    ensures seeds { MAX_SEEDS ≡ 1000 }
+    ensures test { MAX_TEST_KEYS ≡ 16777216 }
+    ensures feed { LINE_FEED ≡ 10 }
+    ensures zero { ZERO_BYTE ≡ 0 }
+{}
