@@ -1,19 +1,20 @@
 -- From the store of records to what a build makes of lines.
-use Rattle.std.proofs.Common.{◌≡◌, ◌∙◌, ℕ, List, length, Option, None, Result, Ok, Err, ap, refl, subst, sym, arith, lit<}
+use Rattle.std.proofs.Common.{◌≡◌, ◌∙◌, ℕ, List, length, Option, None, Some, Result, Ok, Err, ap, refl, subst, sym, arith, lit<}
 use Rattle.std.proofs.lemmas.List.{length-map}
 use Rattle.cm_algo_names.specs.declared.algorithm.Algorithm.TheVariants.{Bdz}
 use Rattle.cm_bdz.specs.Functions as functions
 use Rattle.cm_bdz.specs.Numbering.{bdz_under}
 use Rattle.cm_io.specs.Passes.{Told}
+use Rattle.cm_io.specs.declared.key_pass.KeyFault.{KeyFault}
 use Rattle.cm_io.specs.declared.key_pass.KeyFault.TheVariants as key_fault
 use Rattle.cm_spec.specs.Bdz.{bdz_rule}
 use Rattle.cm_store.specs.Stores.{Store, places_of}
 use Rattle.cm_store_dump.proofs.Built.{index_is}
 use Rattle.cm_store_dump.specs.Building.{IsStoreOf, fault_from, file_under, keys_told, meaning_of, recipe_of, unless_large, verdict_of}
-use Rattle.cm_store_dump.specs.Making.{IsStoreBy, keys_held}
+use Rattle.cm_store_dump.specs.Making.{HasLineFailure, IsStoreBy, keys_held}
 use Rattle.cm_store_dump.specs.declared.files.StoreFile.{StoreFile}
 use Rattle.cm_store_records.specs.PassLaws.{read_from}
-use Rattle.cm_store_records.specs.Reads.{FailsReading, HoldsLines, RecordBytes}
+use Rattle.cm_store_records.specs.Reads.{FailsReading, HasReadFailure, HoldsLines, RecordBytes}
 use Rattle.cm_store_records.specs.declared.read.ReadFault.{ReadFault}
 use Rattle.cm_store_records.specs.declared.read.ReadFault.TheVariants as read_fault
 use Rattle.cm_store_records.specs.Records.{first_large, keys_of_lines, record_of, records_in}
@@ -25,6 +26,7 @@ use Rattle.cm_tool_building.specs.declared.fault.Fault.TheVariants.{Memory, NoKe
 use Rattle.cm_tool_cells.specs.RecipeLaws.{made_of, made_verdict, over_fault, refuses}
 use Rattle.cm_tool_cells.specs.Recipes.{FailsCells, meaning_by, report_bytes, result_over, tried, verdict_over}
 use Rattle.cm_tool_cells.specs.Seeds.{IsBuiltFrom}
+use Rattle.cm_tool_cells.specs.declared.recipe.Recipe.{Recipe}
 use Rattle.cm_tool_cells.specs.declared.report.CoreReport.{CoreReport}
 
 -- the keys that are held are those of the lines
@@ -113,3 +115,25 @@ never_fails (SpillDamaged offset expected found) k w cause = (refl, refl)
 -- a build fails as its pass did, or as a pass over records does
 pub fails_as : (fault : Fault CoreReport) (k k_now w : ℕ) → k_now ≡ k → HasMakeCause {T = StoreFile} k k w w (Err fault) → HasMakeCause {T = StoreFile} k k_now w w (Err fault)
 fails_as fault k k_now w same cause = subst (λ (n : ℕ). HasMakeCause {T = StoreFile} k n w w (Err fault)) (sym same) cause
+
+none_some : (fault : KeyFault) → (let none : Option KeyFault = None in none) ≡ Some fault → ⊥
+none_some fault is = grind (arith, is)
+
+-- records in memory are read without a fault
+pub never_unread : (recipe : Recipe) (keys : List (ℕ × List ℕ)) (fault : Fault CoreReport) (failure : Option KeyFault) (last : ℕ) → FailsCells Bdz bdz_rule recipe (record { keys = keys; fault = None }) fault → HasMakeCause {T = StoreFile} 0 0 0 0 (Err fault) → HasLineFailure failure last fault
+never_unread recipe keys Memory failure last fails cause = tt
+never_unread recipe keys NoKeys failure last fails cause = tt
+never_unread recipe keys (Refused cored report) failure last fails cause = tt
+never_unread recipe keys (Key key_fault.Read) failure last fails cause = absurd (omega (arith, cause.0.1 (lit< tt)))
+never_unread recipe keys (Key (key_fault.TooLong line)) failure last fails cause = absurd (none_some _ fails)
+never_unread recipe keys (Key key_fault.TooMany) failure last fails cause = absurd (none_some _ fails)
+never_unread recipe keys (TooLarge line) failure last fails cause = absurd fails
+never_unread recipe keys (Changed first again) failure last fails cause = tt
+never_unread recipe keys Spill failure last fails cause = tt
+never_unread recipe keys (SpillDamaged offset expected found) failure last fails cause = tt
+
+-- a build whose lines aren't read fails as their pass did
+pub unread_as : (failure : Option KeyFault) (last : ℕ) (fault : ReadFault) → HasReadFailure failure last fault → HasLineFailure failure last (fault_from fault)
+unread_as failure last read_fault.Memory is = tt
+unread_as failure last (read_fault.Key fault) is = is
+unread_as failure last (read_fault.TooLarge line) is = is

@@ -1,10 +1,11 @@
 //! The store of lines.
-ghost use Rattle.std.specs.Prelude.{◌≡◌, ◌<◌, ℕ, IfErr, IfOk, IsTrue, Ok};
+ghost use Rattle.std.specs.Prelude.{◌≡◌, ◌<◌, ℕ, Option, IfErr, IfOk, IsTrue, Ok};
 ghost use Rattle.std.specs.Option.{ForSome};
 ghost use Rattle.cm_algo_names.specs.declared.algorithm.Algorithm.TheVariants.{Bdz};
+ghost use Rattle.cm_io.specs.declared.key_pass.KeyFault.{KeyFault};
 ghost use Rattle.cm_spec.specs.Bdz.{bdz_rule};
 ghost use Rattle.cm_store_dump.specs.Building.{IsStoreOf, MayStop, fault_from, meaning_of, recipe_of};
-ghost use Rattle.cm_store_dump.specs.Making.{IsStoreBy, keys_held};
+ghost use Rattle.cm_store_dump.specs.Making.{HasLineFailure, IsStoreBy, keys_held};
 ghost use Rattle.cm_store_words.specs.Limits.{IsStoreBuild};
 ghost use Rattle.cm_tool_building.specs.Makes.{HasMakeCause, IsAllowedFault, RefusesBy};
 ghost use Rattle.cm_tool_cells.specs.Recipes.{FailsCells, report_bytes};
@@ -44,6 +45,7 @@ fn store_of<L: Ledger>(
     requires some { 0 < blank.parts }
     requires job { IsStoreBuild job.now }
     ensures cause { (k w : ℕ) → HasMakeCause k k w w result }
+    ensures failed { (failure : Option KeyFault) (last : ℕ) → IfErr result (HasLineFailure failure last) }
     ensures made { IfOk result (IsStoreBy job.now records) }
     ensures refused { IfErr result (FailsCells Bdz bdz_rule (recipe_of job.now) (keys_held records)) }
     ensures form { IfErr result (IsAllowedFault MayStop) }
@@ -87,6 +89,7 @@ pub fn make_store<P: KeyPass, L: Ledger>(
     requires usable { IsTrue (P.usable lines.old) }
     requires start { P.place lines.old ≡ 0 }
     ensures cause { (w : ℕ) → HasMakeCause (P.faults lines.old) (P.faults lines.new) w w result }
+    ensures failed { IfErr result (HasLineFailure (P.failure lines.new) (P.last lines.new)) }
     ensures made { IfOk result (λ file. ForSome (P.told lines.old) (λ told. (meaning_of job.now).verdict told ≡ Ok file)) }
     ensures makes { IfOk result (λ file. ForSome (P.told lines.old) (λ told. IsStoreOf job.now told file)) }
     ensures refused { IfErr result (λ fault. ForSome (P.told lines.old) (λ told. RefusesBy report_bytes (meaning_of job.now) told fault)) }

@@ -1,4 +1,4 @@
-use Rattle.cm_store_dump.proofs.Made.{fails_as, is_made, is_refused}
+use Rattle.cm_store_dump.proofs.Made.{fails_as, is_made, is_refused, unread_as}
 use Rattle.cm_store_dump.proofs.making.make_store.Goals as goal
 
 pub returns-in-Ok-store_of-clause-made : goal.returns-in-Ok-store_of-clause-made
@@ -12,3 +12,9 @@ returns-in-Err-store_of-clause-cause g c = λ w. fails_as c.in-Err-store_of.faul
 
 pub returns-in-Err-store_of-clause-refused : goal.returns-in-Err-store_of-clause-refused
 returns-in-Err-store_of-clause-refused g c = λ told known. is_refused c.args.job.now told c.in-Ok.records c.in-Err-store_of.fault (c.in-Ok.ensures.holds told known) c.in-Err-store_of.ensures.refused
+
+pub returns-in-Err-clause-failed : goal.returns-in-Err-clause-failed
+returns-in-Err-clause-failed g c = rw c.fault_of.ensures.fault (unread_as _ _ c.in-Err.fault c.in-Err.ensures.failed)
+
+pub returns-in-Err-store_of-clause-failed : goal.returns-in-Err-store_of-clause-failed
+returns-in-Err-store_of-clause-failed g c = c.in-Err-store_of.ensures.failed _ _

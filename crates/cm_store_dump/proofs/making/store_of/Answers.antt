@@ -2,9 +2,10 @@ use Rattle.std.proofs.Common.{rules, ◌≡◌, ℕ, List, None, ap, refl, subst
 use Rattle.cm_algo_names.specs.declared.algorithm.Algorithm.TheVariants.{Bdz}
 use Rattle.cm_bits.specs.PackedLaws.{AllBelow-packed_cells}
 use Rattle.cm_spec.specs.Bdz.{bdz_rule}
-use Rattle.cm_store_dump.proofs.Made.{never_fails}
+use Rattle.cm_store_dump.proofs.Made.{never_fails, never_unread}
 use Rattle.cm_store_dump.proofs.making.store_of.Goals as goal
 use Rattle.cm_store_dump.specs.Building.{recipe_of}
+use Rattle.cm_store_dump.specs.Making.{keys_held}
 use Rattle.cm_store_records.specs.PassLaws.{keyed_long}
 use Rattle.cm_store_records.specs.RecordPass.{AreRecords, RecordPass}
 use Rattle.cm_store_records.specs.Reads.{RecordBytes}
@@ -13,6 +14,14 @@ use Rattle.cm_tool_cells.specs.Recipes.{FailsCells}
 pub returns-in-Err-clause-refused : goal.returns-in-Err-clause-refused
 returns-in-Err-clause-refused g c =
     subst (λ (keys : List (ℕ × List ℕ)). FailsCells Bdz bdz_rule (recipe_of c.args.job.now) (record { keys = keys; fault = None }) c.in-Err.fault) (ap (λ (p : RecordPass). p.keys) c.keys-keys.ensures.pass) (c.in-Err.ensures.refused _ refl)
+
+pub returns-in-Err-clause-failed : goal.returns-in-Err-clause-failed
+returns-in-Err-clause-failed g c = λ failure last.
+    let recipe = recipe_of c.args.job.now in
+    let held = keys_held c.args.records in
+    let fails : FailsCells Bdz bdz_rule recipe held c.in-Err.fault =
+    subst (λ (keys : List (ℕ × List ℕ)). FailsCells Bdz bdz_rule recipe (record { keys = keys; fault = None }) c.in-Err.fault) (ap (λ (p : RecordPass). p.keys) c.keys-keys.ensures.pass) (c.in-Err.ensures.refused _ refl) in
+    never_unread recipe held.keys c.in-Err.fault failure last fails (c.in-Err.ensures.cause 0)
 
 pub returns-in-Err-clause-cause : goal.returns-in-Err-clause-cause
 returns-in-Err-clause-cause g c = λ k w. never_fails c.in-Err.fault k w (c.in-Err.ensures.cause w)
