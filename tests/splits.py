@@ -672,7 +672,7 @@ def _(room):
     for files, status, text in [
         (["d/"], 3, "d/: bad name"), (["d/", "d/counts"], 3, "d/: bad name"), (["d/counts", "d/"], 3, "d/counts: bad dump: truncated at 4"), (["d/none", "d/counts"], 4, "d/none: cannot read"),
         (["d/counts", "d/none"], 3, "d/counts: bad dump: truncated at 4"), (["d/0.mph", "d/other"], 3, "d/other: another algorithm"), (["d/0.mph", "d/other", "d/none"], 3, "d/other: another algorithm"),
-        (["d/other", "d/0.mph"], 3, "d/0.mph: another algorithm"), (["d/none"], 4, "d/none: cannot read"), (["none"], 4, "d/none: cannot read"), (["./d/none"], 4, "d/./d/none: cannot read"),
+        (["d/other", "d/0.mph"], 3, "d/0.mph: another algorithm"), (["d/none"], 4, "d/none: cannot read"), (["none"], 4, "d/none: cannot read"), (["./d/none"], 4, "d/none: cannot read"),
         ([absolute], 4, f"{absolute}: cannot read"),
     ]:
         ends(run(room, "-j", "-m", "d/all", "-d", "none", *files), status, b"", noted(text))
