@@ -1,9 +1,9 @@
 -- The folder of a path, and texts without their first bytes.
 use Rattle.std.proofs.Common.{◌≡◌, ◌≢◌, ◌∙◌, ℕ, zero, suc, ◌+◌, ◌<◌, List, [], ◌∷◌, ◌++◌, length, take, drop, get_or, ap, sym, arith, refl, Bool, true, false}
-use Rattle.std.specs.Prelude.{◌==◌, None, Some, codes}
+use Rattle.std.specs.Prelude.{◌==◌, None, Some}
 use Rattle.std.specs.Cmp.Lexicographic.{bytes_decides}
 use Rattle.std.proofs.lemmas.List.{drop_at, take_at, take-append-drop}
-use Rattle.cm_shards_manifest.specs.Paths.{begins, behind, folder_len, no_slashes, plain}
+use Rattle.cm_shards_manifest.specs.Paths.{begins, behind, folder_len, no_slashes}
 
 eq_yes : (b : ℕ) → b ≡ 47 → (b == 47) ≡ true
 eq_yes b is = grind (arith, is)
@@ -25,14 +25,14 @@ folder_known (b ∷ bytes) (suc k) inside slash last =
     rw rest (let e : suc (suc k) ≡ suc k + 1 = omega arith in e)
 
 -- a text that begins with these bytes
-pub begins_there : (begin text rest : List ℕ) → text ≡ begin ++ rest → (begins begin text ≡ true) × (drop (length begin) text ≡ rest)
+begins_there : (begin text rest : List ℕ) → text ≡ begin ++ rest → (begins begin text ≡ true) × (drop (length begin) text ≡ rest)
 begins_there begin text rest is =
     let front : take (length begin) text ≡ begin = ap (λ (l : List ℕ). take (length begin) l) is ∙ take_at begin rest (length begin) refl in
     let left : drop (length begin) text ≡ rest = ap (λ (l : List ℕ). drop (length begin) l) is ∙ drop_at begin rest (length begin) refl in
     ((bytes_decides (take (length begin) text) begin).1 front, left)
 
 -- and one that doesn't
-pub begins_not : (begin text : List ℕ) → ((rest : List ℕ) → text ≡ begin ++ rest → ⊥) → begins begin text ≡ false
+begins_not : (begin text : List ℕ) → ((rest : List ℕ) → text ≡ begin ++ rest → ⊥) → begins begin text ≡ false
 begins_not begin text none = go (begins begin text) refl
   where
     go : (t : Bool) → begins begin text ≡ t → t ≡ false
@@ -41,22 +41,9 @@ begins_not begin text none = go (begins begin text) refl
         absurd (none (drop (length begin) text) (sym (take-append-drop (length begin) text) ∙ ap (λ (l : List ℕ). l ++ drop (length begin) text) front))
     go false is = refl
 
--- a path that begins with `./`, and one that doesn't
-pub plain_there : (path rest : List ℕ) → path ≡ codes "./" ++ rest → plain path ≡ no_slashes rest
-plain_there path rest is =
-    let there = begins_there (codes "./") path rest is in
-    let left : drop 2 path ≡ rest = there.1 in
-    rw (there.0, left) refl
-
-pub plain_not : (path : List ℕ) → ((rest : List ℕ) → path ≡ codes "./" ++ rest → ⊥) → plain path ≡ path
-plain_not path none = rw (begins_not (codes "./") path none) refl
-
 -- what follows a folder
 some_folder : (folder : List ℕ) → length folder ≢ 0 → (length folder == 0) ≡ false
 some_folder folder some = grind (arith, some)
-
-pub behind_none : (folder path : List ℕ) → length folder ≡ 0 → behind folder path ≡ None
-behind_none folder path none = rw none refl
 
 pub behind_there : (folder path rest : List ℕ) → length folder ≢ 0 → path ≡ folder ++ rest → behind folder path ≡ Some (no_slashes rest)
 behind_there folder path rest some is =
@@ -66,10 +53,7 @@ behind_there folder path rest some is =
 pub behind_not : (folder path : List ℕ) → length folder ≢ 0 → ((rest : List ℕ) → path ≡ folder ++ rest → ⊥) → behind folder path ≡ None
 behind_not folder path some none = rw (some_folder folder some, begins_not folder path none) refl
 
--- slashes at the start of a text
-pub slash_first : (text rest : List ℕ) → text ≡ 47 ∷ rest → no_slashes text ≡ no_slashes rest
-slash_first text rest is = ap no_slashes is
-
+-- a text that begins with no slash
 pub slash_none : (text : List ℕ) → ((rest : List ℕ) → text ≡ 47 ∷ rest → ⊥) → no_slashes text ≡ text
 slash_none [] none = refl
 slash_none (b ∷ bytes) none = rw (eq_no b (λ is. none bytes (ap (λ (c : ℕ). c ∷ bytes) is))) refl
