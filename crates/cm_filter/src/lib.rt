@@ -12,5 +12,5 @@ mod scheme;
 
 pub use crate::filter::Filter;
 pub use crate::laws::keys_hold;
-pub use crate::limits::{MAX_FINGERPRINT, MIN_FINGERPRINT};
+pub use crate::limits::{MAX_FINGERPRINT, MIN_FINGERPRINT, of_fingerprints};
 pub use crate::scheme::FilterScheme;

@@ -6,6 +6,12 @@ ghost use Rattle.cm_shards_manifest.specs.ManifestBytes.{manifest_bytes};
 ghost use Rattle.cm_shards_manifest.specs.ManifestFiles.{manifest_in};
 ghost use Rattle.cm_shards_manifest.specs.Manifests.{IsManifest, Manifest};
 ghost use Rattle.cm_shards_manifest.specs.Paths.{folder_of, name_of, path_of};
+ghost use Rattle.cm_shards_manifest.specs.declared.limits.TheConstants.{MAX_NAME};
+
+/// A name has at most 4,095 bytes, so that its length is a `u16`.
+pub fn max_name()
+    ensures { MAX_NAME ≡ 4095 }
+{}
 
 /// Bytes are the file of one manifest at most, and a manifest has one file. A manifest is read from its file as it was written, and so
 /// equal files come from equal manifests. Bytes from which a manifest is read are its file.
