@@ -6,13 +6,19 @@
     bench/gate.py --latest RECORD ..       the same, but of each crate and column the last record counts
 
 Twice a second it samples the provers below `rt ci`, so it misses up to half a second of each. What an earlier run on this machine has passed is
-not proved again; `--anew` proves all.
+not proved again; `--anew` proves all. A table leaves out crates that crates.txt no longer has. Below it stand the sum, and the chain of crates, each of
+which waits for the one before it, whose proofs take longest: that and the sum decide the time by the clock.
 """
 import json
 import os
 import subprocess
 import sys
 import time
+from pathlib import Path
+
+sys.path.insert(0, str(Path(__file__).resolve().parent.parent / "tools"))
+
+import prove  # noqa: E402
 
 TICKS = os.sysconf("SC_CLK_TCK")
 KINDS = ["proofs", "tests", "wrong bodies"]
@@ -68,11 +74,27 @@ def measure(record, arguments):
     return gate.returncode
 
 
+def longest_chain(seconds):
+    """The chain of crates whose proofs take longest, lowest first, and how long, by the seconds that each crate's proof takes."""
+    found = {}
+
+    def chain(name):
+        if name not in found:
+            below = [chain(it) for it in prove.named_by(name) if it in seconds]
+            before = max(below, key=lambda it: it[0], default=(0, []))
+            found[name] = before[0] + seconds[name], [*before[1], name]
+        return found[name]
+
+    return max(map(chain, seconds), key=lambda it: it[0])
+
+
 def table(records, adds):
-    by = {}
+    by, crates = {}, prove.listed()
     for record in records:
         with open(record) as file:
             for name, kinds in json.load(file)["by"].items():
+                if name not in crates:
+                    continue
                 for kind, (count, seconds) in kinds.items():
                     found = by.setdefault(name, {})
                     before = found.get(kind, (0, 0.0)) if adds else (0, 0.0)
@@ -84,7 +106,8 @@ def table(records, adds):
         print(f"| `{name}` | " + " | ".join(cell(by[name].get(kind, (0, 0.0))[1]) for kind in KINDS) + " |")
     sums = [sum(kinds.get(kind, (0, 0.0))[1] for kinds in by.values()) for kind in KINDS]
     print("| all | " + " | ".join(cell(total) for total in sums) + " |")
-    print(f"\nTogether {sum(sums) / 60:.0f} minutes.")
+    took, chain = longest_chain({name: kinds.get("proofs", (0, 0.0))[1] for name, kinds in by.items()})
+    print(f"\nTogether {sum(sums) / 60:.0f} minutes. The longest chain of proofs takes {took / 60:.0f} minutes: {', '.join(f'`{name}`' for name in chain)}.")
     return 0
 
 
