@@ -31,9 +31,15 @@ exec {install} "$@"
 """
 
 
+def interruptible():
+    """In the background of a shell Ctrl-C is ignored, and a script can't catch it then."""
+    signal.signal(signal.SIGINT, signal.SIG_DFL)
+
+
 def install(release, *words, path=os.environ["PATH"], cwd=None, **around):
     """What the install.sh of a folder does, as nobody."""
-    return run("sh", release / "install.sh", *words, cwd=cwd, env={"PATH": str(path), "HOME": "/nonexistent", **around}, start_new_session=True, **BY)
+    return run("sh", release / "install.sh", *words, cwd=cwd, env={"PATH": str(path), "HOME": "/nonexistent", **around}, start_new_session=True,
+               preexec_fn=interruptible, **BY)
 
 
 def folder(room, name, older=()):
