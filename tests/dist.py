@@ -100,6 +100,16 @@ def installed(room, release):
     return root
 
 
+def changed(room, release):
+    """A release of which one byte of the archive was changed: it is refused by name, and nothing is installed."""
+    copy, root = shutil.copytree(release, room / "changed"), room / "of_changed"
+    [archive] = copy.glob("*.tar.xz")
+    whole = archive.read_bytes()
+    archive.write_bytes(whole[:-1] + bytes([whole[-1] ^ 1]))
+    left = run("sh", copy / "install.sh", "/usr", env={"PATH": os.environ["PATH"], "DESTDIR": str(root)})
+    case("a changed byte", (left.returncode == 0 or f"{archive.name} was changed" not in left.stderr or root.exists()) and left)
+
+
 def compiled(root):
     """A caller in C, by the header and the libraries that were installed."""
     compiler = shutil.which("cc")
@@ -190,6 +200,7 @@ def main():
             case(f"{one.name} has the same bytes twice", one.read_bytes() != other.read_bytes())
         if room / "first" / "PROOF" in first:
             compiled(installed(room, room / "first"))
+            changed(room, room / "first")
         for deb in (path for path in first if path.suffix == ".deb"):
             package(room, deb)
         if shutil.which("dpkg-deb") is None:
