@@ -1,6 +1,6 @@
 -- What the program promises of a run: the theorem about the top call. A build does what the driver of builds promises (`Builds`) and its
 -- keys hold, and a test of keys does what that of queries promises (`Asks`).
-use Rattle.std.specs.Prelude.{ℕ, Ok, Err}
+use Rattle.std.specs.Prelude.{ℕ, [], Ok, Err}
 use Rattle.cm_filter_dump.specs.Asked.{asking_of}
 use Rattle.cm_filter_dump.specs.Program.{program}
 use Rattle.cm_filter_dump.specs.Running.{RunsBuild}
@@ -13,6 +13,6 @@ use Rattle.cm_words_arguments.specs.Options.{Read}
 
 -- With arguments that mean this, a run that found disk, out and err in the old state left them in the new one, with this status.
 abbrev pub Runs : Read FilterJob → Outside → Outside → ℕ → Type 0
-Runs (Err fault) old new result = Refuses program fault old new result
+Runs (Err fault) old new result = Refuses program [] fault old new result
 Runs (Ok (Build job)) old new result = RunsBuild job old new result
 Runs (Ok (Test job)) old new result = Asks (asking_of job) old new result

@@ -6,7 +6,7 @@ use Rattle.cm_io.specs.States.{Outside}
 use Rattle.cm_io.specs.WritingLaws.{then_nothing}
 use Rattle.cm_io.specs.declared.key_pass.KeyFault.{KeyFault}
 use Rattle.cm_io.specs.declared.key_pass.KeyFault.TheVariants as key_fault
-use Rattle.cm_judge.specs.Judges.{IsJudged, StoppedReading, statuses}
+use Rattle.cm_judge.specs.Judges.{IsJudged, StoppedReading, frame_of}
 use Rattle.cm_judge.specs.Leaves.{EndsFiles, HasStopCause, IsBad, ReadsAs, stop_message, stop_status}
 use Rattle.cm_judge.specs.Outcomes as outcomes
 use Rattle.cm_judge.specs.Outcomes.{judging, keys_of, outcome_by, outcome_in, outcome_of, saying, settings_of, verdict_status}
@@ -28,20 +28,25 @@ none_some : {o : Outcome} → None ≡ Some o → ⊥
 none_some e = absurd (cc)
 
 -- the statuses are those of a judge
-pub verdict_listed : (verdict : Verdict) → has statuses (verdict_status verdict) ≡ true
-verdict_listed Holds = refl
-verdict_listed (Fails reason) = refl
+pub verdict_listed : (job : JudgeJob) (verdict : Verdict) → has (frame_of job).statuses (verdict_status verdict) ≡ true
+verdict_listed job Holds = refl
+verdict_listed job (Fails reason) = refl
 
-pub stop_listed : (stop : JudgeStop) → has statuses (stop_status stop) ≡ true
-stop_listed (Report report_fault.Memory) = refl
-stop_listed (Report report_fault.Read) = refl
-stop_listed (Report (report_fault.Bad line)) = refl
-stop_listed (Keys judge_fault.Memory) = refl
-stop_listed (Keys judge_fault.NoKeys) = refl
-stop_listed (Keys (judge_fault.Key key_fault.Read)) = refl
-stop_listed (Keys (judge_fault.Key (key_fault.TooLong line))) = refl
-stop_listed (Keys (judge_fault.Key key_fault.TooMany)) = refl
-stop_listed (Keys (judge_fault.Changed first again)) = refl
+pub stop_listed : (job : JudgeJob) (stop : JudgeStop) → has (frame_of job).statuses (stop_status stop) ≡ true
+stop_listed job (Report report_fault.Memory) = refl
+stop_listed job (Report report_fault.Read) = refl
+stop_listed job (Report (report_fault.Bad line)) = refl
+stop_listed job (Keys judge_fault.Memory) = refl
+stop_listed job (Keys judge_fault.NoKeys) = refl
+stop_listed job (Keys (judge_fault.Key key_fault.Read)) = refl
+stop_listed job (Keys (judge_fault.Key (key_fault.TooLong line))) = refl
+stop_listed job (Keys (judge_fault.Key key_fault.TooMany)) = refl
+stop_listed job (Keys (judge_fault.Changed first again)) = refl
+
+-- a verdict is printed
+pub verdict_prints : (job : JudgeJob) (verdict : Verdict) → has (frame_of job).prints (verdict_status verdict) ≡ true
+verdict_prints job Holds = refl
+verdict_prints job (Fails reason) = refl
 
 -- that of a verdict is 0 or 1
 pub verdict_low : (verdict : Verdict) → verdict_status verdict < 2

@@ -21,7 +21,7 @@ untouched job disk = record { files = refl; spilled = refl; write_faults = refl;
 -- what the report of a fault of the arguments does
 pub refused : (asked : Read JudgeJob) (fault : UsageFault) (disk : DiskState) (out err_old err_new : SinkState) (status : ℕ) → (fault ≡ Memory) ⊎ (let r : Read JudgeJob = Err fault in r ≡ asked) → status ≡ usage_status_of fault
     → Says err_old err_new (usage_message program [] fault) → IsSent err_old err_new → Runs asked (outside disk out err_old) (outside disk out err_new) status
-refused (Err bad) fault disk out err_old err_new status cause is says sent = refuses {A = JudgeJob} program bad fault disk out err_old err_new status cause is says sent
+refused (Err bad) fault disk out err_old err_new status cause is says sent = refuses {A = JudgeJob} program [] bad fault disk out err_old err_new status cause is says sent
 refused (Ok job) fault disk out err_old err_new status (inl memory) is says sent =
-    unjudged job disk disk out err_old err_new (Report report_fault.Memory) status (untouched job disk) (is ∙ ap usage_status_of memory) (no_memory program err_old err_new fault memory says) sent
+    unjudged job disk disk out err_old err_new (Report report_fault.Memory) status (untouched job disk) (is ∙ ap usage_status_of memory) (no_memory program [] err_old err_new fault memory says) sent
 refused (Ok job) fault disk out err_old err_new status (inr same) is says sent = absurd (cc)

@@ -1,8 +1,8 @@
 -- What a job of the judge does to disk, out and err: what the top call promises.
-use Rattle.std.specs.Prelude.{◌≡◌, ◌≢◌, ◌<◌, ◌^◌, ◌⊎◌, ◌↔◌, ℕ, List, [], ◌∷◌, length, take, None, Some, Result, Ok, true}
+use Rattle.std.specs.Prelude.{◌≡◌, ◌<◌, ◌⊎◌, ◌↔◌, ℕ, List, [], ◌∷◌, length, take, None, Some, Result, Ok}
 use Rattle.std.specs.Option.{ForSome}
 use Rattle.cm_io.specs.Files.{Files, file_at}
-use Rattle.cm_io.specs.States.{IsSent, Outside}
+use Rattle.cm_io.specs.States.{Outside}
 use Rattle.cm_io.specs.Writing.{then_bytes}
 use Rattle.cm_judge.specs.Leaves.{EndDiffers, ReadsAs, end_message, end_status}
 use Rattle.cm_judge.specs.Outcomes.{keys_of, outcome_of, saying, settings_of, verdict_status}
@@ -11,16 +11,11 @@ use Rattle.cm_judge.specs.declared.stop.JudgeStop.{JudgeStop}
 use Rattle.cm_judge_verdict.specs.Truth.{IsTrue}
 use Rattle.cm_judge_verdict.specs.declared.verdict.Verdict.{Verdict}
 use Rattle.cm_judge_words.specs.declared.job.JudgeJob.{JudgeJob}
-use Rattle.cm_spec.specs.Lists.{has}
-use Rattle.cm_tool_stops.specs.Ending.{LacksFile, Reaches}
+use Rattle.cm_tool_stops.specs.Does.{Does, Frame}
 use Rattle.cm_tool_stops.specs.Ends.{Says}
 use Rattle.cm_tool_stops.specs.Messages.{cannot_read, cannot_write_out}
 use Rattle.cm_witness_report.specs.Reading.{reading_of}
 use Rattle.cm_witness_report.specs.Reports.{Said}
-
--- the statuses of a job
-abbrev pub statuses : List ℕ
-statuses = 0 ∷ 1 ∷ 3 ∷ 4 ∷ 5 ∷ 6 ∷ 7 ∷ 8 ∷ []
 
 -- The report and the keys file are there, the one is a report and the other has keys, with no fault at their end; and the status is 0
 -- exactly if the report is true for the keys.
@@ -55,34 +50,32 @@ StoppedReading job old new files = Says old.err new.err (cannot_read program job
 abbrev pub IsJudgeMessage : JudgeJob → ℕ → List ℕ → Type 0
 IsJudgeMessage job status text = ((end : Result Verdict JudgeStop) × (status ≡ end_status end) × (text ≡ end_message job end) × EndDiffers end) ⊎ ((status ≡ 5) × (text ≡ cannot_write_out program))
 
+-- what a failed job may leave: if a file can't be read, it is named, and the report comes first; if out fails, it got a prefix of the text
+pub record MayLeave (job : JudgeJob) (old new : Outside) (status : ℕ) : Type 0 where
+  pub read : status ≡ 4 → ForSome old.disk.files (StoppedReading job old new)
+  pub write : status ≡ 5 → IsCutShort job old new
+
+-- how a job may end: err gets nothing of a verdict, and else the message
+abbrev pub MayEnd : JudgeJob → Outside → Outside → ℕ → Type 0
+MayEnd job old new status = (text : List ℕ) × IsJudgeMessage job status text × Says old.err new.err text
+
+-- The frame of a job: a judge changes no file, and prints the text of a verdict alone.
+abbrev pub frame_of : JudgeJob → Frame
+frame_of job = record {
+  statuses = 0 ∷ 1 ∷ 3 ∷ 4 ∷ 5 ∷ 6 ∷ 7 ∷ 8 ∷ [];
+  outcome = outcome_of job;
+  saves = [];
+  prints = 0 ∷ 1 ∷ 5 ∷ [];
+  writes = ⊥;
+  spills = ⊥;
+  leaves = MayLeave job;
+  ends = MayEnd job;
+}
+
 -- A job that found disk, out and err in the old state left them in the new one, with this status.
 pub record Judges (job : JudgeJob) (old new : Outside) (result : ℕ) : Type 0 where
-  pub status : has statuses result ≡ true
-  -- A judge changes no file, and writes to none.
-  pub files : new.disk.files ≡ old.disk.files
-  pub spilled : new.disk.spilled ≡ old.disk.spilled
-  pub write_faults : new.disk.write_faults ≡ old.disk.write_faults
-  -- The status is 4 exactly if the count of read faults rises.
-  pub read : old.disk.read_faults < 2 ^ 63 → ((result ≡ 4) ↔ (old.disk.read_faults < new.disk.read_faults))
-  -- The status is 5 exactly if the count of out rises.
-  pub write : old.out.faults < 2 ^ 63 → ((result ≡ 5) ↔ (old.out.faults < new.out.faults))
-  -- If memory doesn't run out and nothing fails, status, out, err and files are what the report comes to by the keys.
-  pub outcome : result ≢ 4 → result ≢ 5 → result ≢ 6 → ForSome old.disk.files (λ files. Reaches old new (outcome_of job files) result)
-  -- Known keys never change.
-  pub unchanged : ForSome old.disk.files (λ _. result ≢ 7)
-  -- If a file can't be read, it is named, and the report comes first.
-  pub unread : result ≡ 4 → ForSome old.disk.files (StoppedReading job old new)
-  -- If a file that is needed isn't there, the status is 4, or 6 if memory runs out, and nothing is done.
-  pub missing : ForSome old.disk.files (λ files. outcome_of job files ≡ None → LacksFile old new result)
+  pub does : Does (frame_of job) old new result
   -- The status is 0 if the report is true, and 1 if it is false.
   pub truth : (result ≡ 0) ⊎ (result ≡ 1) → ForSome old.disk.files (IsJudged job result)
-  -- Out gets the text of the verdict, or a prefix of it if out fails, or nothing if there is no verdict.
+  -- Out gets the text of the verdict, whatever the files are.
   pub printed : (result ≡ 0) ⊎ (result ≡ 1) → IsPrinted old new result
-  pub cut : result ≡ 5 → IsCutShort job old new
-  pub silent : result ≢ 0 → result ≢ 1 → result ≢ 5 → new.out.written ≡ old.out.written
-  -- If the buffer of out or err was empty before the call, it is empty after it, or the count of this sink rose.
-  pub sent : old.out.waits ≡ 0 → IsSent old.out new.out
-  pub err_sent : old.err.waits ≡ 0 → IsSent old.err new.err
-  -- Err gets nothing of a verdict, and else the message, or a prefix of that if err itself fails. With status 7 the message has two numbers of
-  -- keys that differ.
-  pub err : (text : List ℕ) × IsJudgeMessage job result text × Says old.err new.err text

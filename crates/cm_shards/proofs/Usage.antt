@@ -24,10 +24,10 @@ undone (Ask job) disk out err_old err_new says sent = unasked job disk out err_o
 -- what the report of a fault of the arguments does
 pub refused : (asked : Read ShardsJob) (fault : UsageFault) (disk : DiskState) (out err_old err_new : SinkState) (status : ℕ) → (fault ≡ Memory) ⊎ (let r : Read ShardsJob = Err fault in r ≡ asked) → status ≡ usage_status_of fault
     → Says err_old err_new (usage_message program [] fault) → IsSent err_old err_new → Runs asked (outside disk out err_old) (outside disk out err_new) status
-refused (Err bad) fault disk out err_old err_new status cause is says sent = refuses {A = ShardsJob} program bad fault disk out err_old err_new status cause is says sent
+refused (Err bad) fault disk out err_old err_new status cause is says sent = refuses {A = ShardsJob} program [] bad fault disk out err_old err_new status cause is says sent
 refused (Ok job) fault disk out err_old err_new status (inl memory) is says sent =
     let six : status ≡ 6 = is ∙ ap usage_status_of memory in
-    rw six (undone job disk out err_old err_new (no_memory program err_old err_new fault memory says) sent)
+    rw six (undone job disk out err_old err_new (no_memory program [] err_old err_new fault memory says) sent)
 refused (Ok job) fault disk out err_old err_new status (inr same) is says sent = absurd (cc)
 
 -- what a job does is what the arguments ask for

@@ -1,9 +1,9 @@
 -- From the end of a join to what the top call promises.
-use Rattle.std.proofs.Common.{◌≡◌, ◌≢◌, ◌∙◌, ◌⊎◌, ◌↔◌, ℕ, ◌<◌, ◌^◌, [], Option, None, Some, Err, true, inl, inr, refl, ap, sym, arith}
+use Rattle.std.proofs.Common.{◌≡◌, ◌≢◌, ◌∙◌, ◌⊎◌, ◌↔◌, ℕ, ◌<◌, ◌^◌, [], Option, None, Some, Err, true, inl, inr, refl, ap, sym, arith, false}
 use Rattle.std.specs.Option.{ForSome, option_map}
 use Rattle.cm_io.specs.Files.{Files, with_file}
 use Rattle.cm_io.specs.States.{Outside}
-use Rattle.cm_shards_join.specs.Joins.{StoppedReading, statuses}
+use Rattle.cm_shards_join.specs.Joins.{StoppedReading, frame_of}
 use Rattle.cm_shards_join.specs.Leaves.{EndsStop, IsCutShort, IsJoined, IsReadCause, IsStopCause, LeavesStop}
 use Rattle.cm_shards_join.specs.Outcomes.{outcome_by, outcome_of, saving}
 use Rattle.cm_shards_join.specs.Taking.{join_of}
@@ -13,6 +13,7 @@ use Rattle.cm_shards_join.specs.declared.stop.JoinStop.TheVariants.{Another, Bad
 use Rattle.cm_shards_manifest.specs.Manifests.{Manifest}
 use Rattle.cm_shards_words.specs.declared.jobs.JoinJob.{JoinJob}
 use Rattle.cm_spec.specs.Lists.{has}
+use Rattle.cm_tool_stops.specs.DoesLaws.{neither}
 use Rattle.cm_tool_stops.specs.Ending.{Outcome, refusal}
 use Rattle.cm_tool_stops.specs.Ends.{Says}
 
@@ -42,14 +43,14 @@ made_leaves job r r' old new (BadCounts path line) cause same ends = (same, ends
 
 -- ---- the status
 
-pub stop_listed : (stop : JoinStop) → has statuses (status_of stop) ≡ true
-stop_listed Memory = refl
-stop_listed (Read path) = refl
-stop_listed Write = refl
-stop_listed (BadName path) = refl
-stop_listed (BadDump path fault) = refl
-stop_listed (Another path) = refl
-stop_listed (BadCounts path line) = refl
+pub stop_listed : (job : JoinJob) (stop : JoinStop) → has (frame_of job).statuses (status_of stop) ≡ true
+stop_listed job Memory = refl
+stop_listed job (Read path) = refl
+stop_listed job Write = refl
+stop_listed job (BadName path) = refl
+stop_listed job (BadDump path fault) = refl
+stop_listed job (Another path) = refl
+stop_listed job (BadCounts path line) = refl
 
 pub stop_high : (stop : JoinStop) → 2 < status_of stop
 stop_high Memory = omega arith
@@ -70,15 +71,25 @@ stop_read (BadDump path fault) r r' w w' cause low = (λ four. absurd (omega (ar
 stop_read (Another path) r r' w w' cause low = (λ four. absurd (omega (arith, four)), λ rose. absurd (omega (arith, rose, cause.0)))
 stop_read (BadCounts path line) r r' w w' cause low = (λ four. absurd (omega (arith, four)), λ rose. absurd (omega (arith, rose, cause.0)))
 
--- and 5 exactly if that of writing rose
-pub stop_write : (stop : JoinStop) (r r' w w' : ℕ) → IsStopCause r r' w w' stop → w < 2 ^ 63 → (status_of stop ≡ 5) ↔ (w < w')
-stop_write Memory r r' w w' cause low = (λ five. absurd (omega (arith, five)), λ rose. absurd (omega (arith, rose, cause.1)))
-stop_write (Read path) r r' w w' cause low = (λ five. absurd (omega (arith, five)), λ rose. absurd (omega (arith, rose, cause.2)))
-stop_write Write r r' w w' cause low = (λ _. cause.2 low, λ _. refl)
-stop_write (BadName path) r r' w w' cause low = (λ five. absurd (omega (arith, five)), λ rose. absurd (omega (arith, rose, cause.1)))
-stop_write (BadDump path fault) r r' w w' cause low = (λ five. absurd (omega (arith, five)), λ rose. absurd (omega (arith, rose, cause.1)))
-stop_write (Another path) r r' w w' cause low = (λ five. absurd (omega (arith, five)), λ rose. absurd (omega (arith, rose, cause.1)))
-stop_write (BadCounts path line) r r' w w' cause low = (λ five. absurd (omega (arith, five)), λ rose. absurd (omega (arith, rose, cause.1)))
+-- and 5 exactly if that of writing rose, as nothing is written to out
+pub stop_write : (stop : JoinStop) (r r' w w' o : ℕ) → IsStopCause r r' w w' stop → w < 2 ^ 63 → (status_of stop ≡ 5) ↔ ((w < w') ⊎ (o < o))
+stop_write Memory r r' w w' o cause low = (λ five. absurd (omega (arith, five)), λ either. neither w w' o o cause.1 refl either)
+stop_write (Read path) r r' w w' o cause low = (λ five. absurd (omega (arith, five)), λ either. neither w w' o o cause.2 refl either)
+stop_write Write r r' w w' o cause low = (λ _. inl (cause.2 low), λ _. refl)
+stop_write (BadName path) r r' w w' o cause low = (λ five. absurd (omega (arith, five)), λ either. neither w w' o o cause.1 refl either)
+stop_write (BadDump path fault) r r' w w' o cause low = (λ five. absurd (omega (arith, five)), λ either. neither w w' o o cause.1 refl either)
+stop_write (Another path) r r' w w' o cause low = (λ five. absurd (omega (arith, five)), λ either. neither w w' o o cause.1 refl either)
+stop_write (BadCounts path line) r r' w w' o cause low = (λ five. absurd (omega (arith, five)), λ either. neither w w' o o cause.1 refl either)
+
+-- it is never 7
+pub stop_known : (stop : JoinStop) → status_of stop ≢ 7
+stop_known Memory = λ seven. omega (arith, seven)
+stop_known (Read path) = λ seven. omega (arith, seven)
+stop_known Write = λ seven. omega (arith, seven)
+stop_known (BadName path) = λ seven. omega (arith, seven)
+stop_known (BadDump path fault) = λ seven. omega (arith, seven)
+stop_known (Another path) = λ seven. omega (arith, seven)
+stop_known (BadCounts path line) = λ seven. omega (arith, seven)
 
 -- ---- the outcome
 
@@ -99,14 +110,14 @@ stop_outcome job files old new (Another path) left known four five six = (stop_i
 stop_outcome job files old new (BadCounts path line) left known four five six = (stop_is job files (BadCounts path line) (left.1 files known), left.0 ∙ known)
 
 -- a refused join, and one that could not read, left every file as it was
-pub stop_kept : (job : JoinJob) (old new : Option Files) (stop : JoinStop) → LeavesStop job old new stop → (status_of stop ≡ 3) ⊎ (status_of stop ≡ 4) → new ≡ old
-stop_kept job old new Memory left either = absurd (omega (arith, either))
-stop_kept job old new (Read path) left either = left.0
-stop_kept job old new Write left either = absurd (omega (arith, either))
-stop_kept job old new (BadName path) left either = left.0
-stop_kept job old new (BadDump path fault) left either = left.0
-stop_kept job old new (Another path) left either = left.0
-stop_kept job old new (BadCounts path line) left either = left.0
+pub stop_kept : (job : JoinJob) (old new : Option Files) (stop : JoinStop) → LeavesStop job old new stop → has (frame_of job).saves (status_of stop) ≡ false → new ≡ old
+stop_kept job old new Memory left lacks = absurd (cc)
+stop_kept job old new (Read path) left lacks = left.0
+stop_kept job old new Write left lacks = absurd (cc)
+stop_kept job old new (BadName path) left lacks = left.0
+stop_kept job old new (BadDump path fault) left lacks = left.0
+stop_kept job old new (Another path) left lacks = left.0
+stop_kept job old new (BadCounts path line) left lacks = left.0
 
 -- one that could not read
 pub stop_unread : (job : JoinJob) (old new : Outside) (files : Files) (stop : JoinStop) → LeavesStop job old.disk.files new.disk.files stop → old.disk.files ≡ Some files → Says old.err new.err (message_of job stop) → status_of stop ≡ 4 → StoppedReading job old new files

@@ -9,9 +9,10 @@ use Rattle.cm_shards_join.specs.Leaves.{HasStopCause, Leaves}
 use Rattle.cm_shards_join.specs.Outcomes.{saving}
 use Rattle.cm_shards_join.specs.Texts.{message_of, status_of}
 use Rattle.cm_shards_join.specs.declared.stop.JoinStop.{JoinStop}
-use Rattle.cm_shards_join.proofs.Ends.{joined_outcome, none_some, stop_high, stop_kept, stop_lacks, stop_listed, stop_memory, stop_outcome, stop_part, stop_read, stop_unread, stop_write}
+use Rattle.cm_shards_join.proofs.Ends.{joined_outcome, none_some, stop_high, stop_kept, stop_known, stop_lacks, stop_listed, stop_memory, stop_outcome, stop_part, stop_read, stop_unread, stop_write}
 use Rattle.cm_shards_manifest.specs.ManifestBytes.{manifest_bytes}
 use Rattle.cm_shards_words.specs.declared.jobs.JoinJob.{JoinJob}
+use Rattle.cm_tool_stops.specs.DoesLaws.{neither}
 use Rattle.cm_tool_stops.specs.EndLaws.{says_all}
 use Rattle.cm_tool_stops.specs.Ending.{refusal}
 use Rattle.cm_tool_stops.specs.Ends.{Says}
@@ -28,29 +29,33 @@ says_nothing err = says_all ((noted_nothing false err).wrote refl)
 -- the manifest is saved
 pub saved : (job : JoinJob) (old new : DiskState) (out err : SinkState) → Left job old new (Ok tt) → JoinsFunctions job (outside old out err) (outside new out err) 0
 saved job old new out err left = record {
-  status = refl;
-  out = refl;
-  spilled = left.spilled;
-  read = λ _. (λ four. absurd (omega (arith, four)), λ rose. absurd (omega (arith, left.cause.0, rose)));
-  write = λ _. (λ five. absurd (omega (arith, five)), λ rose. absurd (omega (arith, left.cause.1, rose)));
-  outcome = λ _ _ _ files known.
-      let is = left.leaves files known in
-      record {
-        outcome = saving job files is.m;
-        is = joined_outcome job files is.m is.joined;
-        status_is = refl;
-        out = then_nothing out.written;
-        err = says_nothing err;
-        files_are = is.saved ∙ ap (λ (f : Option Files). with_file job.manifest (manifest_bytes is.m) f) known;
-      };
+  does = record {
+    status = refl;
+    read = λ _. (λ four. absurd (omega (arith, four)), λ rose. absurd (omega (arith, left.cause.0, rose)));
+    write = λ _. (λ five. absurd (omega (arith, five)), λ either. neither _ _ out.faults out.faults left.cause.1 refl either);
+    outcome = λ _ _ _ files known.
+        let is = left.leaves files known in
+        record {
+          outcome = saving job files is.m;
+          is = joined_outcome job files is.m is.joined;
+          status_is = refl;
+          out = then_nothing out.written;
+          err = says_nothing err;
+          files_are = is.saved ∙ ap (λ (f : Option Files). with_file job.manifest (manifest_bytes is.m) f) known;
+        };
+    missing = λ files known none. let is = left.leaves files known in absurd (none_some (sym none ∙ joined_outcome job files is.m is.joined));
+    unchanged = λ files known seven. absurd (omega (arith, seven));
+    kept = λ lacks. absurd (cc);
+    silent = λ _. refl;
+    out = λ _. refl;
+    unwritten = λ none. absurd (none tt);
+    unspilled = λ _. left.spilled;
+    left = λ either. absurd (omega (arith, either));
+    sent = λ empty _. inl empty;
+    err_sent = λ empty _. inl empty;
+    err = (Ok tt, record { status_is = refl; says = says_nothing err });
+  };
   saved = λ _. left.leaves;
-  kept = λ either. absurd (omega (arith, either));
-  unread = λ four. absurd (omega (arith, four));
-  missing = λ files known none. let is = left.leaves files known in absurd (none_some (sym none ∙ joined_outcome job files is.m is.joined));
-  part = λ five. absurd (omega (arith, five));
-  memory = λ six. absurd (omega (arith, six));
-  err_sent = λ empty _. inl empty;
-  err = (Ok tt, record { status_is = refl; says = says_nothing err });
 }
 
 -- there is none
@@ -59,29 +64,37 @@ pub unsaved : (job : JoinJob) (old new : DiskState) (out err_old err_new : SinkS
 unsaved job old new out err_old err_new stop status left is says sent =
     let high = stop_high stop in
     record {
-      status = rw is (stop_listed stop);
-      out = refl;
-      spilled = left.spilled;
-      read = λ low. rw is (stop_read stop _ _ _ _ left.cause low);
-      write = λ low. rw is (stop_write stop _ _ _ _ left.cause low);
-      outcome = λ four five six files known.
-          let reached = stop_outcome job files old.files new.files stop left.leaves known (rw is at four) (rw is at five) (rw is at six) in
-          record {
-            outcome = refusal (status_of stop) (message_of job stop) files;
-            is = reached.0;
-            status_is = is;
-            out = then_nothing out.written;
-            err = says;
-            files_are = reached.1;
-          };
+      does = record {
+        status = rw is (stop_listed job stop);
+        read = λ low. rw is (stop_read stop _ _ _ _ left.cause low);
+        write = λ low. rw is (stop_write stop _ _ _ _ out.faults left.cause (low.disk tt));
+        outcome = λ four five six files known.
+            let reached = stop_outcome job files old.files new.files stop left.leaves known (rw is at four) (rw is at five) (rw is at six) in
+            record {
+              outcome = refusal (status_of stop) (message_of job stop) files;
+              is = reached.0;
+              status_is = is;
+              out = then_nothing out.written;
+              err = says;
+              files_are = reached.1;
+            };
+        missing = λ files known none.
+            let lacks = stop_lacks job files old.files new.files stop left.leaves known none in
+            record { status_is = rw is lacks.0; files_are = lacks.1; out = refl };
+        unchanged = λ files known seven. stop_known stop (sym is ∙ seven);
+        kept = λ lacks. stop_kept job old.files new.files stop left.leaves (rw is at lacks);
+        silent = λ _. refl;
+        out = λ _. refl;
+        unwritten = λ none. absurd (none tt);
+        unspilled = λ _. left.spilled;
+        left = λ _. record {
+          read = λ four files known. stop_unread job (outside old out err_old) (outside new out err_new) files stop left.leaves known says (sym is ∙ four);
+          write = λ five. stop_part job old.files new.files stop left.leaves (sym is ∙ five);
+          memory = λ six. stop_memory job old.files new.files stop left.leaves (sym is ∙ six);
+        };
+        sent = λ empty _. inl empty;
+        err_sent = λ _. sent;
+        err = (Err stop, record { status_is = is; says = says });
+      };
       saved = λ zero. absurd (omega (arith, is, high, zero));
-      kept = λ either. stop_kept job old.files new.files stop left.leaves (rw is at either);
-      unread = λ four files known. stop_unread job (outside old out err_old) (outside new out err_new) files stop left.leaves known says (sym is ∙ four);
-      missing = λ files known none.
-          let lacks = stop_lacks job files old.files new.files stop left.leaves known none in
-          record { status_is = rw is lacks.0; files_are = lacks.1; out = refl };
-      part = λ five. stop_part job old.files new.files stop left.leaves (sym is ∙ five);
-      memory = λ six. stop_memory job old.files new.files stop left.leaves (sym is ∙ six);
-      err_sent = λ _. sent;
-      err = (Err stop, record { status_is = is; says = says });
     }

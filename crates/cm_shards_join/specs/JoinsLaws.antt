@@ -2,11 +2,12 @@
 use Rattle.std.proofs.Common.{◌≡◌, ℕ, Err, inl, inr, refl, arith}
 use Rattle.cm_io.specs.States.{DiskState, IsSent, Outside, SinkState, outside}
 use Rattle.cm_shards_join.specs.Inputs.{ReplacesInput}
-use Rattle.cm_shards_join.specs.Joins.{Joins, JoinsFunctions}
+use Rattle.cm_shards_join.specs.Joins.{Joins, JoinsFunctions, frame_of}
 use Rattle.cm_shards_join.specs.declared.stop.JoinStop.TheVariants.{Memory}
 use Rattle.cm_shards_words.specs.Messages.{would_overwrite}
 use Rattle.cm_shards_words.specs.Program.{program}
 use Rattle.cm_shards_words.specs.declared.jobs.JoinJob.{JoinJob}
+use Rattle.cm_tool_stops.specs.DoesLaws.{unbegun}
 use Rattle.cm_tool_stops.specs.Ends.{Says}
 use Rattle.cm_tool_stops.specs.Messages.{out_of_memory}
 
@@ -15,20 +16,8 @@ pub unjoined : (job : JoinJob) (disk : DiskState) (out err_old err_new : SinkSta
 unjoined job disk out err_old err_new says sent = record {
   refused = λ _. record { disk = refl; out = refl; said = inr (refl, says); err_sent = λ _. sent };
   functions = λ _. record {
-    status = refl;
-    out = refl;
-    spilled = refl;
-    read = λ _. (λ four. absurd (omega (arith, four)), λ rose. absurd (omega (arith, rose)));
-    write = λ _. (λ five. absurd (omega (arith, five)), λ rose. absurd (omega (arith, rose)));
-    outcome = λ _ _ six. absurd (six refl);
+    does = unbegun (frame_of job) disk out err_old err_new refl sent (record { read = λ four. absurd (omega (arith, four)); write = λ five. absurd (omega (arith, five)); memory = λ _. inl refl }) (Err Memory, record { status_is = refl; says = says });
     saved = λ zero. absurd (omega (arith, zero));
-    kept = λ either. refl;
-    unread = λ four. absurd (omega (arith, four));
-    missing = λ files known none. record { status_is = inr refl; files_are = refl; out = refl };
-    part = λ five. absurd (omega (arith, five));
-    memory = λ _. inl refl;
-    err_sent = λ _. sent;
-    err = (Err Memory, record { status_is = refl; says = says });
   };
 }
 

@@ -14,7 +14,7 @@ use Rattle.cm_shards_files.specs.Shards.{Sharded, key_total, number_in}
 use Rattle.cm_shards_files.specs.declared.fault.ShardsFault.{ShardsFault}
 use Rattle.cm_shards_files.specs.declared.fault.ShardsFault.TheVariants as shards_fault
 use Rattle.cm_shards_query.proofs.Truth.{test_truth}
-use Rattle.cm_shards_query.specs.Asks.{IsCutShort, IsTested, statuses}
+use Rattle.cm_shards_query.specs.Asks.{IsCutShort, IsTested, frame_of}
 use Rattle.cm_shards_query.specs.Leaves.{AnsweredAll, EndsJob, EndsLoaded, IsPartBefore, IsStopCause, lines_there, stop_message, stop_status}
 use Rattle.cm_shards_query.specs.Outcomes as outcomes
 use Rattle.cm_shards_query.specs.Outcomes.{fault_said, lines_of, outcome_by, outcome_of, replying}
@@ -27,6 +27,7 @@ use Rattle.cm_spec.specs.Lists.{has}
 use Rattle.cm_tool_asking.specs.Asking.{status_by}
 use Rattle.cm_tool_asking.specs.Leaves.{Wrote, wrote}
 use Rattle.cm_tool_asking.specs.Meanings.{text_of}
+use Rattle.cm_tool_stops.specs.DoesLaws.{neither}
 use Rattle.cm_tool_stops.specs.EndLaws.{says_all}
 use Rattle.cm_tool_stops.specs.Ending.{LacksFile, Outcome, Reaches, refusal}
 use Rattle.cm_tool_stops.specs.Ends.{Says}
@@ -35,25 +36,30 @@ none_some : {o : Outcome} → None ≡ Some o → ⊥
 none_some e = absurd (cc)
 
 -- the status is one of a job's
-pub done_status : (complete : Bool) → has statuses (status_by complete) ≡ true
-done_status true = refl
-done_status false = refl
+pub done_status : (job : AskJob) (complete : Bool) → has (frame_of job).statuses (status_by complete) ≡ true
+done_status job true = refl
+done_status job false = refl
 
-load_listed : (fault : ShardsFault) → has statuses (load_status fault) ≡ true
-load_listed shards_fault.Memory = refl
-load_listed shards_fault.NoManifest = refl
-load_listed (shards_fault.BadManifest fault) = refl
-load_listed (shards_fault.NoFunction path) = refl
-load_listed (shards_fault.BadFunction path fault) = refl
-load_listed (shards_fault.Another path) = refl
+-- one that came to its end may have printed
+pub printed : (job : AskJob) (complete : Bool) → has (frame_of job).prints (status_by complete) ≡ false → ⊥
+printed job true lacks = absurd (cc)
+printed job false lacks = absurd (cc)
 
-pub stop_listed : (stop : AskStop) → has statuses (stop_status stop) ≡ true
-stop_listed Memory = refl
-stop_listed (Load fault) = load_listed fault
-stop_listed Read = refl
-stop_listed Write = refl
-stop_listed (TooLong line) = refl
-stop_listed TooMany = refl
+load_listed : (job : AskJob) (fault : ShardsFault) → has (frame_of job).statuses (load_status fault) ≡ true
+load_listed job shards_fault.Memory = refl
+load_listed job shards_fault.NoManifest = refl
+load_listed job (shards_fault.BadManifest fault) = refl
+load_listed job (shards_fault.NoFunction path) = refl
+load_listed job (shards_fault.BadFunction path fault) = refl
+load_listed job (shards_fault.Another path) = refl
+
+pub stop_listed : (job : AskJob) (stop : AskStop) → has (frame_of job).statuses (stop_status stop) ≡ true
+stop_listed job Memory = refl
+stop_listed job (Load fault) = load_listed job fault
+stop_listed job Read = refl
+stop_listed job Write = refl
+stop_listed job (TooLong line) = refl
+stop_listed job TooMany = refl
 
 -- that of a job that came to its end is 0 or 1
 pub done_low : (complete : Bool) → status_by complete ≤ 1
@@ -95,13 +101,47 @@ stop_read (TooLong line) r r_now o o_now cause low = (λ four. absurd (omega (ar
 stop_read TooMany r r_now o o_now cause low = (λ four. absurd (omega (arith, four)), λ rose. absurd (omega (arith, rose, cause.0)))
 
 -- it is 5 exactly if that of out rose
-pub stop_write : (stop : AskStop) (r r_now o o_now : ℕ) → IsStopCause r r_now o o_now stop → o < 2 ^ 63 → (stop_status stop ≡ 5) ↔ (o < o_now)
-stop_write Memory r r_now o o_now cause low = (λ five. absurd (omega (arith, five)), λ rose. absurd (omega (arith, rose, cause.1)))
-stop_write (Load fault) r r_now o o_now cause low = (λ five. absurd ((load_high fault).1 five), λ rose. absurd (omega (arith, rose, cause.1)))
-stop_write Read r r_now o o_now cause low = (λ five. absurd (omega (arith, five)), λ rose. absurd (omega (arith, rose, cause.2)))
-stop_write Write r r_now o o_now cause low = (λ _. cause.2 low, λ _. refl)
-stop_write (TooLong line) r r_now o o_now cause low = (λ five. absurd (omega (arith, five)), λ rose. absurd (omega (arith, rose, cause.1)))
-stop_write TooMany r r_now o o_now cause low = (λ five. absurd (omega (arith, five)), λ rose. absurd (omega (arith, rose, cause.1)))
+pub stop_write : (stop : AskStop) (r r_now w w_now o o_now : ℕ) → IsStopCause r r_now o o_now stop → w_now ≡ w → o < 2 ^ 63 → (stop_status stop ≡ 5) ↔ ((w < w_now) ⊎ (o < o_now))
+stop_write Memory r r_now w w_now o o_now cause same low = (λ five. absurd (omega (arith, five)), λ either. neither w w_now o o_now same cause.1 either)
+stop_write (Load fault) r r_now w w_now o o_now cause same low = (λ five. absurd ((load_high fault).1 five), λ either. neither w w_now o o_now same cause.1 either)
+stop_write Read r r_now w w_now o o_now cause same low = (λ five. absurd (omega (arith, five)), λ either. neither w w_now o o_now same cause.2 either)
+stop_write Write r r_now w w_now o o_now cause same low = (λ _. inr (cause.2 low), λ _. refl)
+stop_write (TooLong line) r r_now w w_now o o_now cause same low = (λ five. absurd (omega (arith, five)), λ either. neither w w_now o o_now same cause.1 either)
+stop_write TooMany r r_now w w_now o o_now cause same low = (λ five. absurd (omega (arith, five)), λ either. neither w w_now o o_now same cause.1 either)
+
+-- it is never 7
+load_known : (fault : ShardsFault) → load_status fault ≢ 7
+load_known shards_fault.Memory = λ seven. omega (arith, seven)
+load_known shards_fault.NoManifest = λ seven. omega (arith, seven)
+load_known (shards_fault.BadManifest fault) = λ seven. omega (arith, seven)
+load_known (shards_fault.NoFunction path) = λ seven. omega (arith, seven)
+load_known (shards_fault.BadFunction path fault) = λ seven. omega (arith, seven)
+load_known (shards_fault.Another path) = λ seven. omega (arith, seven)
+
+pub stop_known : (stop : AskStop) → stop_status stop ≢ 7
+stop_known Memory = λ seven. omega (arith, seven)
+stop_known (Load fault) = load_known fault
+stop_known Read = λ seven. omega (arith, seven)
+stop_known Write = λ seven. omega (arith, seven)
+stop_known (TooLong line) = λ seven. omega (arith, seven)
+stop_known TooMany = λ seven. omega (arith, seven)
+
+-- out may have got something, unless memory ran out
+load_silent : (job : AskJob) (fault : ShardsFault) → has (frame_of job).prints (load_status fault) ≡ false → load_status fault ≡ 6
+load_silent job shards_fault.Memory lacks = refl
+load_silent job shards_fault.NoManifest lacks = absurd (cc)
+load_silent job (shards_fault.BadManifest fault) lacks = absurd (cc)
+load_silent job (shards_fault.NoFunction path) lacks = absurd (cc)
+load_silent job (shards_fault.BadFunction path fault) lacks = absurd (cc)
+load_silent job (shards_fault.Another path) lacks = absurd (cc)
+
+pub stop_silent : (job : AskJob) (stop : AskStop) → has (frame_of job).prints (stop_status stop) ≡ false → stop_status stop ≡ 6
+stop_silent job Memory lacks = refl
+stop_silent job (Load fault) lacks = load_silent job fault lacks
+stop_silent job Read lacks = absurd (cc)
+stop_silent job Write lacks = absurd (cc)
+stop_silent job (TooLong line) lacks = absurd (cc)
+stop_silent job TooMany lacks = absurd (cc)
 
 -- the outcome over the bytes of the keys file
 keys_outcome : (job : AskJob) (files : Files) (s : Sharded) (bytes : List ℕ) → shards_of files job.manifest ≡ Some (Ok s) → file_at files job.keys ≡ Some bytes → outcome_of job files ≡ Some (replying job files (reply_by job.test job.end (numbers_of s) (lines_of job bytes)))

@@ -1,5 +1,6 @@
 -- From each end of a split to all that its job promises.
 use Rattle.std.proofs.Common.{◌≡◌, ◌≢◌, ◌∙◌, ◌⊎◌, ◌↔◌, ℕ, ◌<◌, ◌^◌, List, [], Option, None, Some, Result, Ok, Err, true, false, inl, inr, refl, ap, sym, arith}
+use Rattle.std.proofs.lemmas.Bool.{false≢true}
 use Rattle.std.specs.Option.{ForSome, option_map}
 use Rattle.cm_io.specs.Files.{Files, file_at}
 use Rattle.cm_io.specs.NotingLaws.{noted_nothing}
@@ -10,14 +11,16 @@ use Rattle.cm_io.specs.declared.key_pass.KeyFault.TheVariants as key_fault
 use Rattle.cm_shards_split.specs.Leaves.{IsSplitInto, LeavesFiles}
 use Rattle.cm_shards_split.specs.Outcomes as outcomes
 use Rattle.cm_shards_split.specs.Outcomes.{lines_of, outcome_of, splitting, told_of}
-use Rattle.cm_shards_split.specs.Splits.{IsUnfinished, SplitsLines}
-use Rattle.cm_shards_split.specs.Stops.{statuses, stop_message, stop_status}
+use Rattle.cm_shards_split.specs.Splits.{IsUnfinished, frame_of}
+use Rattle.cm_shards_split.specs.Stops.{stop_message, stop_status}
 use Rattle.cm_shards_split.specs.Streaming.{HasSplitCause}
 use Rattle.cm_shards_split.specs.declared.stop.SplitStop.{SplitStop}
 use Rattle.cm_shards_split.specs.declared.stop.SplitStop.TheVariants.{Memory, Read, TooLong, TooMany, Write}
 use Rattle.cm_shards_words.specs.Messages.{line_fault_message}
 use Rattle.cm_shards_words.specs.declared.jobs.SplitJob.{SplitJob}
 use Rattle.cm_spec.specs.Lists.{has}
+use Rattle.cm_tool_stops.specs.Does.{Does}
+use Rattle.cm_tool_stops.specs.DoesLaws.{neither, unlisted}
 use Rattle.cm_tool_stops.specs.EndLaws.{says_all}
 use Rattle.cm_tool_stops.specs.Ending.{LacksFile, Outcome, Reaches}
 use Rattle.cm_tool_stops.specs.Ends.{Says}
@@ -43,13 +46,11 @@ outcome_there : (job : SplitJob) (files : Files) (bytes : List ℕ) → file_at 
 outcome_there job files bytes there none = none_some (sym none ∙ outcome_is job files bytes (told_of job bytes).fault there refl)
 
 -- all lines are split
-pub whole : (job : SplitJob) (old new : DiskState) (out err : SinkState) (status : ℕ) → Left job old new (Ok tt) → status ≡ 0 → SplitsLines job (outside old out err) (outside new out err) status
+pub whole : (job : SplitJob) (old new : DiskState) (out err : SinkState) (status : ℕ) → Left job old new (Ok tt) → status ≡ 0 → Does (frame_of job) (outside old out err) (outside new out err) status
 whole job old new out err status left is = record {
   status = rw is refl;
-  spilled = left.spilled;
-  out = refl;
   read = λ _. (λ four. absurd (omega (arith, is, four)), λ rose. absurd (omega (arith, left.cause.0, rose)));
-  write = λ _. (λ five. absurd (omega (arith, is, five)), λ rose. absurd (omega (arith, left.cause.1, rose)));
+  write = λ _. (λ five. absurd (omega (arith, is, five)), λ either. neither _ _ out.faults out.faults left.cause.1 refl either);
   outcome = λ _ _ _ files known.
       let split = left.leaves files known in
       record {
@@ -61,17 +62,32 @@ whole job old new out err status left is = record {
         files_are = split.3;
       };
   missing = λ files known none. absurd (outcome_there job files (left.leaves files known).0 (left.leaves files known).1 none);
-  part = λ stopped. absurd (omega (arith, is, stopped));
+  unchanged = λ files known seven. absurd (omega (arith, is, seven));
+  kept = λ lacks. absurd (unlisted (frame_of job).saves status 0 lacks refl is);
+  silent = λ _. refl;
+  out = λ _. refl;
+  unwritten = λ none. absurd (none tt);
+  unspilled = λ _. left.spilled;
+  left = λ stopped. absurd (omega (arith, is, stopped));
+  sent = λ empty _. inl empty;
   err_sent = λ empty _. inl empty;
   err = (Ok tt, is, says_nothing err);
 }
 
-stop_listed : (stop : SplitStop) → has statuses (stop_status stop) ≡ true
-stop_listed Memory = refl
-stop_listed Read = refl
-stop_listed Write = refl
-stop_listed (TooLong line) = refl
-stop_listed TooMany = refl
+stop_listed : (job : SplitJob) (stop : SplitStop) → has (frame_of job).statuses (stop_status stop) ≡ true
+stop_listed job Memory = refl
+stop_listed job Read = refl
+stop_listed job Write = refl
+stop_listed job (TooLong line) = refl
+stop_listed job TooMany = refl
+
+-- it is not 7
+stop_known : (stop : SplitStop) → stop_status stop ≢ 7
+stop_known Memory = λ seven. omega (arith, seven)
+stop_known Read = λ seven. omega (arith, seven)
+stop_known Write = λ seven. omega (arith, seven)
+stop_known (TooLong line) = λ seven. omega (arith, seven)
+stop_known TooMany = λ seven. omega (arith, seven)
 
 stop_read : (stop : SplitStop) (r r' w w' : ℕ) → HasSplitCause {T = Unit {0}} r r' w w' (Err stop) → r < 2 ^ 63 → (stop_status stop ≡ 4) ↔ (r < r')
 stop_read Memory r r' w w' cause low = (λ four. absurd (omega (arith, four)), λ rose. absurd (omega (arith, rose, cause.0)))
@@ -80,12 +96,12 @@ stop_read Write r r' w w' cause low = (λ four. absurd (omega (arith, four)), λ
 stop_read (TooLong line) r r' w w' cause low = (λ four. absurd (omega (arith, four)), λ rose. absurd (omega (arith, rose, cause.0)))
 stop_read TooMany r r' w w' cause low = (λ four. absurd (omega (arith, four)), λ rose. absurd (omega (arith, rose, cause.0)))
 
-stop_write : (stop : SplitStop) (r r' w w' : ℕ) → HasSplitCause {T = Unit {0}} r r' w w' (Err stop) → w < 2 ^ 63 → (stop_status stop ≡ 5) ↔ (w < w')
-stop_write Memory r r' w w' cause low = (λ five. absurd (omega (arith, five)), λ rose. absurd (omega (arith, rose, cause.1)))
-stop_write Read r r' w w' cause low = (λ five. absurd (omega (arith, five)), λ rose. absurd (omega (arith, rose, cause.2)))
-stop_write Write r r' w w' cause low = (λ _. cause.2 low, λ _. refl)
-stop_write (TooLong line) r r' w w' cause low = (λ five. absurd (omega (arith, five)), λ rose. absurd (omega (arith, rose, cause.1)))
-stop_write TooMany r r' w w' cause low = (λ five. absurd (omega (arith, five)), λ rose. absurd (omega (arith, rose, cause.1)))
+stop_write : (stop : SplitStop) (r r' w w' o : ℕ) → HasSplitCause {T = Unit {0}} r r' w w' (Err stop) → w < 2 ^ 63 → (stop_status stop ≡ 5) ↔ ((w < w') ⊎ (o < o))
+stop_write Memory r r' w w' o cause low = (λ five. absurd (omega (arith, five)), λ either. neither w w' o o cause.1 refl either)
+stop_write Read r r' w w' o cause low = (λ five. absurd (omega (arith, five)), λ either. neither w w' o o cause.2 refl either)
+stop_write Write r r' w w' o cause low = (λ _. inl (cause.2 low), λ _. refl)
+stop_write (TooLong line) r r' w w' o cause low = (λ five. absurd (omega (arith, five)), λ either. neither w w' o o cause.1 refl either)
+stop_write TooMany r r' w w' o cause low = (λ five. absurd (omega (arith, five)), λ either. neither w w' o o cause.1 refl either)
 
 -- a fault of the lines is the outcome
 stop_reaches : (job : SplitJob) (files : Files) (old new : Outside) (fault : KeyFault) → IsSplitInto job files new.disk.files (Some fault) (λ lines. []) → Says old.err new.err (line_fault_message job.keys fault) → new.out.written ≡ old.out.written → Reaches old new (outcome_of job files) 8
@@ -132,16 +148,21 @@ stop_part job files old new TooMany known left either = absurd (omega (arith, ei
 
 -- the split stopped
 pub stopped : (job : SplitJob) (old new : DiskState) (out err_old err_new : SinkState) (stop : SplitStop) (status : ℕ) → Left job old new (Err stop) → status ≡ stop_status stop → Says err_old err_new (stop_message job stop) → IsSent err_old err_new
-    → SplitsLines job (outside old out err_old) (outside new out err_new) status
+    → Does (frame_of job) (outside old out err_old) (outside new out err_new) status
 stopped job old new out err_old err_new stop status left is says sent = rw is (record {
-  status = stop_listed stop;
-  spilled = left.spilled;
-  out = refl;
+  status = stop_listed job stop;
   read = stop_read stop _ _ _ _ left.cause;
-  write = stop_write stop _ _ _ _ left.cause;
+  write = λ low. stop_write stop _ _ _ _ out.faults left.cause (low.disk tt);
   outcome = λ four five six files known. stop_outcome job files (outside old out err_old) (outside new out err_new) stop (left.leaves files known) says refl four five six;
   missing = λ files known none. stop_lacks job files (outside old out err_old) (outside new out err_new) stop known (left.leaves files known) refl none;
-  part = λ either files known. stop_part job files old.files new.files stop known (left.leaves files known) either;
+  unchanged = λ files known. stop_known stop;
+  kept = λ lacks. absurd (false≢true (sym lacks ∙ stop_listed job stop));
+  silent = λ _. refl;
+  out = λ _. refl;
+  unwritten = λ none. absurd (none tt);
+  unspilled = λ _. left.spilled;
+  left = λ either files known. stop_part job files old.files new.files stop known (left.leaves files known) either;
+  sent = λ empty _. inl empty;
   err_sent = λ _. sent;
   err = (Err stop, refl, says);
 })

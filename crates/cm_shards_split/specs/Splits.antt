@@ -1,18 +1,17 @@
 -- What a split does to disk and err: what its job promises.
-use Rattle.std.specs.Prelude.{◌≡◌, ◌≢◌, ◌<◌, ◌≤◌, ◌^◌, ◌⊎◌, ◌↔◌, ℕ, List, [], length, take, Option, None, Some, Result, slice_index_or, true}
+use Rattle.std.specs.Prelude.{◌≡◌, ◌<◌, ◌≤◌, ◌⊎◌, ℕ, List, [], ◌∷◌, length, take, Option, None, Some, Result, slice_index_or}
 use Rattle.std.specs.Option.{ForSome}
 use Rattle.cm_io.specs.Files.{Files, file_at}
-use Rattle.cm_io.specs.States.{IsSent, Outside}
+use Rattle.cm_io.specs.States.{Outside}
 use Rattle.cm_shards_split.specs.Names.{Makes}
 use Rattle.cm_shards_split.specs.Outcomes.{lines_of, outcome_of, route_of, told_of}
 use Rattle.cm_shards_split.specs.Placed.{placed}
 use Rattle.cm_shards_split.specs.Shares.{counts_text, share_bytes, share_counts, shares}
-use Rattle.cm_shards_split.specs.Stops.{end_message, end_status, statuses}
+use Rattle.cm_shards_split.specs.Stops.{end_message, end_status}
 use Rattle.cm_shards_split.specs.declared.stop.SplitStop.{SplitStop}
 use Rattle.cm_shards_words.specs.Overwriting.{RefusesOverwriting}
 use Rattle.cm_shards_words.specs.declared.jobs.SplitJob.{SplitJob}
-use Rattle.cm_spec.specs.Lists.{has}
-use Rattle.cm_tool_stops.specs.Ending.{LacksFile, Reaches}
+use Rattle.cm_tool_stops.specs.Does.{Does, Frame}
 use Rattle.cm_tool_stops.specs.Ends.{Says}
 
 -- a prefix of bytes
@@ -40,26 +39,26 @@ pub record IsUnfinished (job : SplitJob) (files : Files) (status : ℕ) (new : O
   pub counts : (text ≡ []) ⊎ (((told_of job bytes).fault ≡ None) × AreWhole job (lines_of (told_of job bytes)) parts text)
   pub unread : status ≡ 4 → text ≡ []
 
--- A split of a keys file that it doesn't make found disk and err in the old state and left them in the new one, with this status. It writes
--- nothing to out.
-pub record SplitsLines (job : SplitJob) (old new : Outside) (result : ℕ) : Type 0 where
-  pub status : has statuses result ≡ true
-  pub spilled : new.disk.spilled ≡ old.disk.spilled
-  pub out : new.out ≡ old.out
-  -- The status is 4 exactly if the count of read faults rises.
-  pub read : old.disk.read_faults < 2 ^ 63 → ((result ≡ 4) ↔ (old.disk.read_faults < new.disk.read_faults))
-  -- The status is 5 exactly if the count of write faults rises.
-  pub write : old.disk.write_faults < 2 ^ 63 → ((result ≡ 5) ↔ (old.disk.write_faults < new.disk.write_faults))
-  -- If memory doesn't run out and nothing fails, status, err and files are what the lines of the keys file come to.
-  pub outcome : result ≢ 4 → result ≢ 5 → result ≢ 6 → ForSome old.disk.files (λ files. Reaches old new (outcome_of job files) result)
-  -- If the keys file isn't there, the status is 4, or 6 if memory runs out, and nothing is done.
-  pub missing : ForSome old.disk.files (λ files. outcome_of job files ≡ None → LacksFile old new result)
-  -- Else the files are as before, or those of the shards have prefixes of their shares.
-  pub part : (result ≡ 4) ⊎ (result ≡ 5) ⊎ (result ≡ 6) → ForSome old.disk.files (λ files. (new.disk.files ≡ old.disk.files) ⊎ IsUnfinished job files result new.disk.files)
-  -- If the buffer of err was empty before the call, it is empty after it, or the count of err rose.
-  pub err_sent : old.err.waits ≡ 0 → IsSent old.err new.err
-  -- Err gets what is said of the end, or a prefix of that if err itself fails.
-  pub err : (end : Result (Unit {0}) SplitStop) × (result ≡ end_status end) × Says old.err new.err (end_message job end)
+-- what a failed split may leave: the files are as before, or those of the shards have prefixes of their shares
+abbrev pub MayLeave : SplitJob → Outside → Outside → ℕ → Type 0
+MayLeave job old new status = ForSome old.disk.files (λ files. (new.disk.files ≡ old.disk.files) ⊎ IsUnfinished job files status new.disk.files)
+
+-- how a split may end
+abbrev pub MayEnd : SplitJob → Outside → Outside → ℕ → Type 0
+MayEnd job old new status = (end : Result (Unit {0}) SplitStop) × (status ≡ end_status end) × Says old.err new.err (end_message job end)
+
+-- The frame of a split of a keys file that it doesn't make: it writes files with each status, and nothing to out.
+abbrev pub frame_of : SplitJob → Frame
+frame_of job = record {
+  statuses = 0 ∷ 4 ∷ 5 ∷ 6 ∷ 8 ∷ [];
+  outcome = outcome_of job;
+  saves = 0 ∷ 4 ∷ 5 ∷ 6 ∷ 8 ∷ [];
+  prints = [];
+  writes = Unit {0};
+  spills = ⊥;
+  leaves = MayLeave job;
+  ends = MayEnd job;
+}
 
 -- the keys file of a job is one of the files that its split makes
 abbrev pub MakesKeys : SplitJob → Type 0
@@ -69,4 +68,4 @@ MakesKeys job = Makes job.dir job.shards job.keys
 -- own keys file.
 pub record Splits (job : SplitJob) (old new : Outside) (result : ℕ) : Type 0 where
   pub refused : MakesKeys job → RefusesOverwriting job.keys old new result
-  pub lines : (MakesKeys job → ⊥) → SplitsLines job old new result
+  pub lines : (MakesKeys job → ⊥) → Does (frame_of job) old new result

@@ -1,15 +1,11 @@
 -- The statuses and messages of splits.
-use Rattle.std.specs.Prelude.{ℕ, List, [], ◌∷◌, Result, Ok, Err}
+use Rattle.std.specs.Prelude.{ℕ, List, [], Result, Ok, Err}
 use Rattle.cm_shards_split.specs.declared.stop.SplitStop.{SplitStop}
 use Rattle.cm_shards_split.specs.declared.stop.SplitStop.TheVariants.{Memory, Read, TooLong, TooMany, Write}
 use Rattle.cm_shards_words.specs.Messages.{too_many_lines}
 use Rattle.cm_shards_words.specs.Program.{program}
 use Rattle.cm_shards_words.specs.declared.jobs.SplitJob.{SplitJob}
 use Rattle.cm_tool_stops.specs.Messages.{cannot_read, cannot_write, line_too_long, out_of_memory}
-
--- the statuses of a split
-abbrev pub statuses : List ℕ
-statuses = 0 ∷ 4 ∷ 5 ∷ 6 ∷ 8 ∷ []
 
 -- the status of a split that stopped
 abbrev pub stop_status : SplitStop → ℕ

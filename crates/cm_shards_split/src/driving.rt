@@ -1,7 +1,8 @@
 //! A split.
 ghost use Rattle.cm_io.specs.States.{SinkState, outside};
-ghost use Rattle.cm_shards_split.specs.Splits.{Splits, SplitsLines};
+ghost use Rattle.cm_shards_split.specs.Splits.{Splits, frame_of};
 ghost use Rattle.cm_shards_words.specs.Limits.{IsSplitJob};
+ghost use Rattle.cm_tool_stops.specs.Does.{Does};
 
 use crate::finishing::split_files;
 use crate::overwriting::makes_keys;
@@ -20,7 +21,7 @@ fn split_keys<D: AppendDisk, E: Sink>(
     err: &mut E,
 ) -> u8
     requires job { IsSplitJob job.now }
-    ensures splits { (out : SinkState) → SplitsLines job.now (outside (D.state disk.old) out (E.state err.old)) (outside (D.state disk.new) out (E.state err.new)) result }
+    ensures splits { (out : SinkState) → Does (frame_of job.now) (outside (D.state disk.old) out (E.state err.old)) (outside (D.state disk.new) out (E.state err.new)) result }
 {
     match split_files(alloc, job, disk) {
         Ok(()) => 0,

@@ -19,15 +19,15 @@ use Rattle.cm_words_arguments.specs.declared.fault.UsageFault.TheVariants.{Memor
 -- what the report of a fault of the arguments does
 pub refused : (asked : Read StoreJob) (fault : UsageFault) (disk : DiskState) (out err_old err_new : SinkState) (status : ℕ) → (fault ≡ Memory) ⊎ (let r : Read StoreJob = Err fault in r ≡ asked) → status ≡ usage_status_of fault
     → Says err_old err_new (usage_message program [] fault) → IsSent err_old err_new → Runs asked (outside disk out err_old) (outside disk out err_new) status
-refused (Err bad) fault disk out err_old err_new status cause is says sent = refuses {A = StoreJob} program bad fault disk out err_old err_new status cause is says sent
+refused (Err bad) fault disk out err_old err_new status cause is says sent = refuses {A = StoreJob} program [] bad fault disk out err_old err_new status cause is says sent
 refused (Ok (Build job)) fault disk out err_old err_new status (inl memory) is says sent =
     let six : status ≡ 6 = is ∙ ap usage_status_of memory in
     rw six (record {
-      builds = unbuilt (building_of job) disk out err_old err_new (no_memory program err_old err_new fault memory says) sent;
+      builds = unbuilt (building_of job) disk out err_old err_new (no_memory program [] err_old err_new fault memory says) sent;
       answers = λ zero. absurd (omega (arith, zero));
     })
 refused (Ok (Build job)) fault disk out err_old err_new status (inr same) is says sent = absurd (cc)
 refused (Ok (Look job)) fault disk out err_old err_new status (inl memory) is says sent =
     let six : status ≡ 6 = is ∙ ap usage_status_of memory in
-    rw six (unasked (asking_of job) disk out err_old err_new (no_memory program err_old err_new fault memory says) sent)
+    rw six (unasked (asking_of job) disk out err_old err_new (no_memory program [] err_old err_new fault memory says) sent)
 refused (Ok (Look job)) fault disk out err_old err_new status (inr same) is says sent = absurd (cc)

@@ -1,8 +1,6 @@
-mod Asks
 mod Makes
-mod Clauses
-mod Outcomes
-mod Builds
-mod Words
+mod Printing
+mod Saved
 mod Tests
 mod Upgrades
+mod Usage

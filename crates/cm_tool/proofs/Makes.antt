@@ -1,14 +1,11 @@
 -- From a build over a pass to what the driver of builds asks of a builder.
 use Rattle.std.proofs.Common.{◌≡◌, ◌∙◌, Ok, Err, ap, arith}
-use Rattle.cm_algo_names.specs.declared.algorithm.Algorithm.{Algorithm}
-use Rattle.cm_algo_names.specs.declared.algorithm.Algorithm.TheVariants.{Chm, Bdz, BdzPh, Brz}
 use Rattle.cm_func.specs.declared.function.Func.{Func}
 use Rattle.cm_io.specs.Passes.{Told}
 use Rattle.cm_io.specs.declared.key_pass.KeyFault.TheVariants as key_fault
-use Rattle.cm_tool_builds.specs.Faults.{FailsFunc, HasNone, UsesSpill}
+use Rattle.cm_tool_builds.specs.Faults.{FailsFunc, HasNone}
 use Rattle.cm_tool_builds.specs.FuncOf.{IsFuncOf}
 use Rattle.cm_tool_builds.specs.Results.{FailureReport}
-use Rattle.cm_tool_builds.specs.Spills.{UnlessSpilled}
 use Rattle.cm_tool_builds.specs.declared.fault.FuncFault.{FuncFault}
 use Rattle.cm_tool_builds.specs.declared.fault.FuncFault.TheVariants.{Memory, NoKeys, Cored, Overfull, Key, Changed, Spill, SpillDamaged}
 use Rattle.cm_tool_building.specs.Makes.{RefusesBy}
@@ -38,10 +35,3 @@ refuses_from job told (Key key_fault.TooMany) fails = over_fault (verdict_of job
 refuses_from job told (Changed first again) fails = absurd fails
 refuses_from job told Spill fails = tt
 refuses_from job told (SpillDamaged offset expected found) fails = absurd fails
-
--- BRZ alone uses a spill
-pub unless_spilled : (P : Type 0) (algorithm : Algorithm) → ((UsesSpill algorithm → ⊥) → P) → UnlessSpilled algorithm P
-unless_spilled P Chm holds = holds (λ uses. absurd uses)
-unless_spilled P Bdz holds = holds (λ uses. absurd uses)
-unless_spilled P BdzPh holds = holds (λ uses. absurd uses)
-unless_spilled P Brz holds = tt

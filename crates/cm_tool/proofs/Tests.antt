@@ -1,5 +1,5 @@
 -- From the tests of algorithms to the outcome of a test.
-use Rattle.std.proofs.Common.{◌≡◌, ◌≢◌, ◌∙◌, ◌⊎◌, ℕ, ◌+◌, ◌^◌, ◌<◌, ◌≤◌, List, [], ◌∷◌, ◌++◌, length, take, Option, None, Some, Result, Ok, Err, inl, inr, refl, ap, sym, subst, arith, append-nil, append_assoc, lit<}
+use Rattle.std.proofs.Common.{◌≡◌, ◌≢◌, ◌∙◌, ◌⊎◌, ℕ, ◌+◌, ◌^◌, ◌<◌, ◌≤◌, List, [], ◌∷◌, ◌++◌, length, take, Option, None, Some, Result, Ok, Err, inl, inr, refl, ap, sym, subst, arith, append-nil, append_assoc, lit<, true}
 use Rattle.cm_algo_names.specs.declared.algorithm.Algorithm.{Algorithm}
 use Rattle.cm_algo_names.specs.declared.algorithm.Algorithm.TheVariants.{Chm, Bdz, BdzPh, Brz}
 use Rattle.cm_dump.specs.Dumps.{dump_of}
@@ -23,27 +23,27 @@ use Rattle.cm_query_batch.specs.Stops.{StopsAt}
 use Rattle.cm_query.specs.Sums.{answer_sum}
 use Rattle.cm_query_batch.specs.declared.fault.QueryFault.TheVariants.{Key}
 use Rattle.cm_tool_stops.specs.Ends.{Says, message_of, status_of}
-use Rattle.cm_tool.specs.Said.{seed_failure_message}
 use Rattle.cm_tool_stops.specs.declared.stop.Stop.TheVariants.{Memory, Read, Write, WriteOut, Refused, Changed, Spill, SpillDamaged, NoKeys, TooLong, TooMany, TooLarge}
 use Rattle.cm_tool_stops.specs.declared.stop.Stop.{Stop}
-use Rattle.cm_tool_builds.specs.Faults.{FailsFunc, HasFuncCause, HasFuncForm, IsChangeBy, IsSeedFailureBy, UsesSpill, shown_core, shown_overfull}
+use Rattle.cm_tool_builds.specs.Faults.{FailsFunc, HasFuncCause, HasFuncForm, IsSeedFailureBy, UsesSpill, shown_core, shown_overfull}
 use Rattle.cm_tool_cells.specs.Seeds.{seeds_of}
 use Rattle.cm_tool_builds.specs.FuncOf.{IsFuncOf}
 use Rattle.cm_tool_building.specs.Leaves.{GotReport, IsOutCause, KeepsOut}
 use Rattle.cm_tool.specs.Building.{StopsFor}
 use Rattle.cm_tool.specs.Ending.{Outcome, printing, reporting}
-use Rattle.cm_tool.specs.Run.{IsStatus, Reaches}
+use Rattle.cm_spec.specs.Lists.{has}
+use Rattle.cm_tool_stops.specs.Ending.{Reaches}
 use Rattle.cm_tool.specs.Spills.{TestSpilled, TestsSpilled}
-use Rattle.cm_tool.specs.TestEnds.{EndsTest, FailsTest, GotPrefix, HasTestForm, IsTestMessage, IsUnfinishedTest, StopsSpilling, test_name}
+use Rattle.cm_tool.specs.TestEnds.{EndsTest, FailsTest, GotPrefix, HasTestForm, IsUnfinishedTest, MayLeave, StopsSpilling, test_frame, test_name}
 use Rattle.cm_tool.specs.Tested as tested
 use Rattle.cm_tool.specs.Tested.{line_text, test_plan, tested_by, tested_then, usual_b}
 use Rattle.cm_tool_builds.specs.Results.{FailureReport}
 use Rattle.cm_tool_builds.specs.declared.fault.FuncFault.{FuncFault}
 use Rattle.cm_tool_builds.specs.declared.fault.FuncFault.TheVariants as func_fault
 use Rattle.cm_tool_builds.specs.declared.plan.Plan.{Plan}
-use Rattle.cm_tool.specs.Said.{naming}
-use Rattle.cm_tool.proofs.Outcomes.{nothing_said}
-use Rattle.cm_words.specs.declared.jobs.Job.TheVariants.{Test}
+use Rattle.cm_tool.specs.Said.{cmph, naming}
+use Rattle.cm_tool_stops.specs.Messages.{seed_failure_message}
+use Rattle.cm_tool.proofs.Printing.{nothing_said}
 use Rattle.cm_words.specs.declared.jobs.TestJob.{TestJob}
 
 -- out got nothing of a text
@@ -71,7 +71,7 @@ report_ends files shown old new Memory got = absurd got
 report_ends files shown old new Read got = absurd got
 report_ends files shown old new Write got = absurd got
 report_ends files shown old new WriteOut got = got
-report_ends files shown old new (Refused failure) got = (refl, ap seed_failure_message (sym got.0), got.1)
+report_ends files shown old new (Refused failure) got = (refl, ap (seed_failure_message cmph) (sym got.0), got.1)
 report_ends files shown old new (Changed first again) got = absurd got
 report_ends files shown old new Spill got = absurd got
 report_ends files shown old new (SpillDamaged offset expected found) got = absurd got
@@ -330,46 +330,16 @@ unfinished_test job files old new (TooLong line) ends spilling count says five =
 unfinished_test job files old new TooMany ends spilling count says five = absurd (omega arith)
 unfinished_test job files old new (TooLarge line) ends spilling count says five = absurd (omega arith)
 
--- the message of a test that stopped goes with its status
-differs_by : (algorithm : Algorithm) (first again : ℕ) → IsChangeBy algorithm first again → again ≢ first
-differs_by Chm first again change = change.differs
-differs_by Bdz first again change = change.differs
-differs_by BdzPh first again change = change.differs
-differs_by Brz first again change = change
-
-pub test_message : (job : TestJob) (algorithm : Algorithm) (before now : ℕ) (stop : Stop) → HasTestForm algorithm stop → IsOutCause before now stop → IsTestMessage job before now (status_of stop) (message_of (naming test_name []) job.dir stop)
-test_message job algorithm before now Memory form count = record { done = λ e. absurd (omega arith); refused = λ e. absurd (omega arith); write = λ e. absurd (omega arith); memory = λ e. refl; changed = λ e. absurd (omega arith); keys = λ e. absurd (omega arith) }
-test_message job algorithm before now Read form count = absurd form
-test_message job algorithm before now Write form count = absurd form
-test_message job algorithm before now WriteOut form count = record { done = λ e. absurd (omega arith); refused = λ e. absurd (omega arith); write = λ e. inr (count.1, refl); memory = λ e. absurd (omega arith); changed = λ e. absurd (omega arith); keys = λ e. absurd (omega arith) }
-test_message job algorithm before now (Refused failure) form count = record { done = λ e. absurd (omega arith); refused = λ e. (algorithm, failure, form, refl); write = λ e. absurd (omega arith); memory = λ e. absurd (omega arith); changed = λ e. absurd (omega arith); keys = λ e. absurd (omega arith) }
-test_message job algorithm before now (Changed first again) form count = record {
-  done = λ e. absurd (omega arith);
-  refused = λ e. absurd (omega arith);
-  write = λ e. absurd (omega arith);
-  memory = λ e. absurd (omega arith);
-  changed = λ e. inl (first, again, differs_by algorithm first again form, refl);
-  keys = λ e. absurd (omega arith);
+-- what a test that stopped may leave
+pub may_leave : (job : TestJob) (old new : Outside) (stop : Stop) → ((files : Files) → old.disk.files ≡ Some files → EndsTest (tested.test_outcome job files) old.out.written new.out.written (Err stop)) → ((files : Files) → old.disk.files ≡ Some files → StopsSpilling job files algorithms old.out.written new.out.written stop)
+    → IsOutCause old.out.faults new.out.faults stop → Says old.err new.err (message_of (naming test_name []) job.dir stop) → (status_of stop ≡ 5) ⊎ (status_of stop ≡ 6) → MayLeave job old new (status_of stop)
+may_leave job old new stop ends spilling count says either = record {
+  part = λ files is. part_of_test (tested.test_outcome job files) old.out.written new.out.written stop (ends files is) either;
+  unfinished = λ five files is. unfinished_test job files old new stop (ends files is) (spilling files is) count says five;
 }
-test_message job algorithm before now Spill form count = record { done = λ e. absurd (omega arith); refused = λ e. absurd (omega arith); write = λ e. inl (count, refl); memory = λ e. absurd (omega arith); changed = λ e. absurd (omega arith); keys = λ e. absurd (omega arith) }
-test_message job algorithm before now (SpillDamaged offset expected found) form count = record {
-  done = λ e. absurd (omega arith);
-  refused = λ e. absurd (omega arith);
-  write = λ e. absurd (omega arith);
-  memory = λ e. absurd (omega arith);
-  changed = λ e. inr (offset, expected, found, form.1, refl);
-  keys = λ e. absurd (omega arith);
-}
-test_message job algorithm before now NoKeys form count = record { done = λ e. absurd (omega arith); refused = λ e. absurd (omega arith); write = λ e. absurd (omega arith); memory = λ e. absurd (omega arith); changed = λ e. absurd (omega arith); keys = λ e. inl refl }
-test_message job algorithm before now (TooLong line) form count = record { done = λ e. absurd (omega arith); refused = λ e. absurd (omega arith); write = λ e. absurd (omega arith); memory = λ e. absurd (omega arith); changed = λ e. absurd (omega arith); keys = λ e. inr (inr (line, refl)) }
-test_message job algorithm before now TooMany form count = record { done = λ e. absurd (omega arith); refused = λ e. absurd (omega arith); write = λ e. absurd (omega arith); memory = λ e. absurd (omega arith); changed = λ e. absurd (omega arith); keys = λ e. inr (inl refl) }
-test_message job algorithm before now (TooLarge line) form count = absurd form
 
-pub done_message : (job : TestJob) (before now : ℕ) → IsTestMessage job before now 0 []
-done_message job before now = record { done = λ e. refl; refused = λ e. absurd (omega arith); write = λ e. absurd (omega arith); memory = λ e. absurd (omega arith); changed = λ e. absurd (omega arith); keys = λ e. absurd (omega arith) }
-
--- a test reads no file, has no function file, and its arguments are those of a job
-pub test_status : (job : TestJob) (algorithm : Algorithm) (stop : Stop) → HasTestForm algorithm stop → IsStatus (Ok (Test job)) (status_of stop)
+-- a test reads no file and has no function file: its status is one of a test's, with which out may have got lines
+pub test_status : (job : TestJob) (algorithm : Algorithm) (stop : Stop) → HasTestForm algorithm stop → has (test_frame job).statuses (status_of stop) ≡ true
 test_status job algorithm Memory form = refl
 test_status job algorithm Read form = absurd form
 test_status job algorithm Write form = absurd form
@@ -381,7 +351,7 @@ test_status job algorithm (SpillDamaged offset expected found) form = refl
 test_status job algorithm NoKeys form = refl
 test_status job algorithm (TooLong line) form = refl
 test_status job algorithm TooMany form = refl
-test_status job algorithm (TooLarge line) form = refl
+test_status job algorithm (TooLarge line) form = absurd form
 
 pub test_known : (algorithm : Algorithm) (stop : Stop) → HasTestForm algorithm stop → status_of stop ≢ 4
 test_known algorithm Memory form = λ e. omega (arith, e)
@@ -396,6 +366,11 @@ test_known algorithm NoKeys form = λ e. omega (arith, e)
 test_known algorithm (TooLong line) form = λ e. omega (arith, e)
 test_known algorithm TooMany form = λ e. omega (arith, e)
 test_known algorithm (TooLarge line) form = λ e. omega (arith, e)
+
+-- one that failed could not write, or memory ran out
+pub written_or_short : (algorithm : Algorithm) (stop : Stop) → HasTestForm algorithm stop → (status_of stop ≡ 4) ⊎ (status_of stop ≡ 5) ⊎ (status_of stop ≡ 6) → (status_of stop ≡ 5) ⊎ (status_of stop ≡ 6)
+written_or_short algorithm stop form (inl four) = absurd (test_known algorithm stop form four)
+written_or_short algorithm stop form (inr either) = either
 
 -- nothing waits after what was sent on, and then something more
 pub sent_on : (a b d : SinkState) → b.faults ≡ a.faults → IsSent a b → (b.waits ≡ 0 → IsSent b d) → IsSent a d

@@ -1,10 +1,7 @@
 -- What a query of `cmph` asks, for the driver of queries.
-use Rattle.std.specs.Prelude.{ℕ, List, Option}
 use Rattle.cm_dump_items.specs.declared.fault.LoadFault.{LoadFault}
-use Rattle.cm_io.specs.Files.{Files, file_at}
 use Rattle.cm_tool_asking.specs.Asking.{Asking}
-use Rattle.cm_tool_asking.specs.Leaves.{Question, keys_there}
-use Rattle.cm_tool_files.specs.Asked.{func_meaning, replies_by}
+use Rattle.cm_tool_files.specs.Asked.{func_meaning}
 use Rattle.cm_tool_files.specs.declared.asked.AskedFunc.{AskedFunc}
 use Rattle.cm_tool_stops.specs.Messages as messages
 use Rattle.cm_tool.specs.Said.{naming}
@@ -19,7 +16,3 @@ asking_of job = record {
   meaning = func_meaning;
   message = λ fault names. messages.bad_dump names.program names.function fault;
 }
-
--- a function is asked for the keys of a query's keys file, if there is one
-abbrev pub question_of : (List ℕ → Option ℕ) → Files → QueryJob → Question
-question_of f files job = record { replies = replies_by f job.end; keys = keys_there job.first job.end (file_at files job.keys) }

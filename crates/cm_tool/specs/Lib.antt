@@ -6,9 +6,10 @@ pub mod Summaries
 pub mod Texts
 pub mod Ending
 pub mod Tested
-pub mod Outcome
 pub mod TestEnds
 pub mod Building
 pub mod Asking
-pub mod Run
+pub mod Numbers
+pub mod Printing
+pub mod Upgrading
 pub mod Runs

@@ -1,17 +1,22 @@
 -- How a test ends, by its outcome over files with known contents.
-use Rattle.std.specs.Prelude.{◌≡◌, ◌≢◌, ◌⊎◌, ◌++◌, ℕ, List, [], ◌∷◌, codes, take, Option, Result, Ok, Err}
+use Rattle.std.specs.Prelude.{◌≡◌, ◌⊎◌, ◌++◌, ℕ, List, [], ◌∷◌, codes, take, Option, Some, Result, Ok, Err}
+use Rattle.std.specs.Option.{ForSome}
 use Rattle.cm_algo_names.specs.declared.algorithm.Algorithm.{Algorithm}
-use Rattle.cm_algo_names.specs.declared.algorithm.Algorithm.TheVariants.{Chm, Bdz, BdzPh}
+use Rattle.cm_algo_names.specs.declared.algorithm.Algorithm.TheVariants.{Chm, Bdz, BdzPh, Brz}
 use Rattle.cm_io.specs.Causes.{Rose}
 use Rattle.cm_io.specs.Files.{Files}
 use Rattle.cm_io.specs.States.{Outside, SinkState}
 use Rattle.cm_io.specs.Writing.{then_bytes}
-use Rattle.cm_tool_stops.specs.Ends.{Says}
-use Rattle.cm_tool.specs.Said.{cannot_use_spill, cannot_write_out, keys_changed, line_too_long, no_keys, out_of_memory, seed_failure_message, spill_damaged, too_many_keys}
-use Rattle.cm_witness_gather.specs.declared.failure.SeedFailure.{SeedFailure}
+use Rattle.cm_tool_stops.specs.Does.{Does, Frame}
+use Rattle.cm_tool_stops.specs.Ends.{Says, message_of}
+use Rattle.cm_tool.specs.Said.{cmph, naming}
+use Rattle.cm_tool.specs.Spills.{TestSpilled}
+use Rattle.cm_tool_building.specs.Builds.{end_status}
+use Rattle.cm_tool_building.specs.Leaves.{HasOutCause}
+use Rattle.cm_tool_stops.specs.Messages.{cannot_use_spill, cannot_write_out, seed_failure_message}
 use Rattle.cm_tool_stops.specs.declared.stop.Stop.TheVariants.{Memory, Read, Refused, Spill, Write, WriteOut}
 use Rattle.cm_tool_stops.specs.declared.stop.Stop.{Stop}
-use Rattle.cm_tool_builds.specs.Faults.{IsSeedFailureBy, UsesSpill, shown_core, shown_overfull}
+use Rattle.cm_tool_builds.specs.Faults.{UsesSpill, shown_core, shown_overfull}
 use Rattle.cm_tool.specs.Stops.{HasStopForm}
 use Rattle.cm_tool.specs.Ending.{Outcome}
 use Rattle.cm_tool.specs.Tested.{test_outcome, test_result, tested_by}
@@ -34,7 +39,7 @@ GotPrefix text old new = (n : ℕ) × (new ≡ then_bytes old (take n text))
 -- a test with this outcome came to its end, or why it stopped, and what out had before and has now
 abbrev pub EndsTest : Outcome → Option (List ℕ) → Option (List ℕ) → Result (Unit {0}) Stop → Type 0
 EndsTest o old new (Ok _) = (o.status ≡ 0) × (o.err ≡ []) × (new ≡ then_bytes old o.out)
-EndsTest o old new (Err (Refused failure)) = (o.status ≡ 1) × (o.err ≡ seed_failure_message failure) × (new ≡ then_bytes old o.out)
+EndsTest o old new (Err (Refused failure)) = (o.status ≡ 1) × (o.err ≡ seed_failure_message cmph failure) × (new ≡ then_bytes old o.out)
 EndsTest o old new (Err Memory) = GotPrefix o.out old new
 EndsTest o old new (Err Spill) = GotPrefix o.out old new
 EndsTest o old new (Err WriteOut) = GotPrefix o.out old new
@@ -55,34 +60,58 @@ HasTestForm algorithm stop = HasStopForm algorithm stop
 abbrev pub test_name : List ℕ
 test_name = codes "-T"
 
--- what a test could not write: the spill, or out, whose count rose
-abbrev pub IsUnwrittenTest : TestJob → ℕ → ℕ → List ℕ → Type 0
-IsUnwrittenTest job before now text = ((now ≡ before) × (text ≡ cannot_use_spill job.dir)) ⊎ (Rose before now × (text ≡ cannot_write_out))
-
--- what changed between two reads of a test: two numbers differ
-abbrev pub IsChangedTest : TestJob → List ℕ → Type 0
-IsChangedTest job text = ((first : ℕ) × (again : ℕ) × (again ≢ first) × (text ≡ keys_changed test_name first again))
-    ⊎ ((offset : ℕ) × (expected : ℕ) × (found : ℕ) × (expected ≢ found) × (text ≡ spill_damaged job.dir offset expected found))
-
--- the message of a test that goes with a status and the count of out before and now
-pub record IsTestMessage (job : TestJob) (before now status : ℕ) (text : List ℕ) : Type 0 where
-  pub done : status ≡ 0 → text ≡ []
-  pub refused : status ≡ 1 → (algorithm : Algorithm) × (failure : SeedFailure) × IsSeedFailureBy algorithm failure × (text ≡ seed_failure_message failure)
-  pub write : status ≡ 5 → IsUnwrittenTest job before now text
-  pub memory : status ≡ 6 → text ≡ out_of_memory
-  pub changed : status ≡ 7 → IsChangedTest job text
-  pub keys : status ≡ 8 → (text ≡ no_keys test_name) ⊎ (text ≡ too_many_keys test_name) ⊎ ((line : ℕ) × (text ≡ line_too_long test_name line))
-
 -- out failed, and got a prefix of what the test prints; the message is that of out
 abbrev pub PrintedPart : SinkState → SinkState → Files → List ℕ → TestJob → Type 0
-PrintedPart old new files text job = GotPrefix (test_outcome job files).out old.written new.written × Rose old.faults new.faults × (text ≡ cannot_write_out)
+PrintedPart old new files text job = GotPrefix (test_outcome job files).out old.written new.written × Rose old.faults new.faults × (text ≡ cannot_write_out cmph)
 
 -- the spill of BRZ failed, after out got the lines of the other algorithms; the message names the directory
 abbrev pub PrintedOthers : SinkState → SinkState → Files → List ℕ → TestJob → Type 0
-PrintedOthers old new files text job = EndsTest (tested_by job files (Chm ∷ Bdz ∷ BdzPh ∷ [])) old.written new.written (Ok tt) × (new.faults ≡ old.faults) × (text ≡ cannot_use_spill job.dir)
+PrintedOthers old new files text job = EndsTest (tested_by job files (Chm ∷ Bdz ∷ BdzPh ∷ [])) old.written new.written (Ok tt) × (new.faults ≡ old.faults) × (text ≡ cannot_use_spill cmph job.dir)
 
 -- what a test that could not write leaves of out, by what its message names
 pub record IsUnfinishedTest (old new : Outside) (files : Files) (job : TestJob) : Type 0 where
   pub text : List ℕ
   pub says : Says old.err new.err text
   pub part : PrintedPart old.out new.out files text job ⊎ PrintedOthers old.out new.out files text job
+
+-- what a test that could not write, or for which memory ran out, may leave: lines of its text on out
+pub record MayLeave (job : TestJob) (old new : Outside) (status : ℕ) : Type 0 where
+  pub part : ForSome old.disk.files (λ files. GotPrefix (test_outcome job files).out old.out.written new.out.written)
+  pub unfinished : status ≡ 5 → ForSome old.disk.files (λ files. IsUnfinishedTest old new files job)
+
+-- the form of an end, and what is said of it
+abbrev pub IsTestForm : Result (Unit {0}) Stop → Type 0
+IsTestForm (Ok _) = Unit {0}
+IsTestForm (Err stop) = (algorithm : Algorithm) × HasTestForm algorithm stop
+
+abbrev pub end_message : TestJob → Result (Unit {0}) Stop → List ℕ
+end_message job (Ok _) = []
+end_message job (Err stop) = message_of (naming test_name []) job.dir stop
+
+-- The test came to its end, or stopped: which count the stop raised, its status, and what was said.
+pub record IsEnd (job : TestJob) (old new : Outside) (status : ℕ) (end : Result (Unit {0}) Stop) : Type 0 where
+  pub form : IsTestForm end
+  pub out_cause : HasOutCause old.out.faults new.out.faults end
+  pub status_is : status ≡ end_status end
+  pub says : Says old.err new.err (end_message job end)
+
+abbrev pub MayEnd : TestJob → Outside → Outside → ℕ → Type 0
+MayEnd job old new status = (end : Result (Unit {0}) Stop) × IsEnd job old new status end
+
+-- Its frame: it reads and changes no file, and prints the lines of its algorithms.
+abbrev pub test_frame : TestJob → Frame
+test_frame job = record {
+  statuses = 0 ∷ 1 ∷ 5 ∷ 6 ∷ 7 ∷ 8 ∷ [];
+  outcome = λ files. Some (test_outcome job files);
+  saves = [];
+  prints = 0 ∷ 1 ∷ 5 ∷ 6 ∷ 7 ∷ 8 ∷ [];
+  writes = Unit {0};
+  spills = Unit {0};
+  leaves = MayLeave job;
+  ends = MayEnd job;
+}
+
+-- A test. It ends with a build by BRZ, whose spill holds the records of the generated keys.
+pub record Tests (job : TestJob) (old new : Outside) (result : ℕ) : Type 0 where
+  pub does : Does (test_frame job) old new result
+  pub spilled : result ≡ 0 → ForSome old.disk.files (λ _. TestSpilled job Brz old.disk.spilled new.disk.spilled)

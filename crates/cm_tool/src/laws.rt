@@ -8,7 +8,7 @@ ghost use Rattle.cm_io.specs.Files.{Files, file_at};
 ghost use Rattle.cm_tool_builds.specs.FuncOf.{IsFuncOf};
 ghost use Rattle.cm_tool.specs.Jobs.{seeds_tried};
 ghost use Rattle.cm_keys.specs.Lines.{keys_in};
-ghost use Rattle.cm_tool.specs.Run.{SavedNumbers};
+ghost use Rattle.cm_tool.specs.Numbers.{SavedNumbers};
 ghost use Rattle.cm_words.specs.Limits.{IsBuild};
 ghost use Rattle.cm_words.specs.declared.jobs.BuildJob.{BuildJob};
 

@@ -1,8 +1,7 @@
 //! Tests over generated keys.
-ghost use Rattle.std.specs.Prelude.{◌≡◌, ◌≢◌, ◌<◌, ◌≤◌, ◌^◌, ◌⊎◌, ◌↔◌, ℕ, List, [], ◌∷◌, None, Some, Ok, IfOk, IfErr, OnOk, true};
+ghost use Rattle.std.specs.Prelude.{◌≡◌, ◌≤◌, [], ◌∷◌, None, Some, Ok, IfOk, IfErr, OnOk, true};
 ghost use Rattle.std.specs.Option.{ForSome};
 ghost use Rattle.cm_algo_names.specs.declared.algorithm.Algorithm.{Algorithm};
-ghost use Rattle.cm_algo_names.specs.declared.algorithm.Algorithm.TheVariants.{Brz};
 ghost use Rattle.cm_func.specs.Functions.{IsFunction, answer_by};
 ghost use Rattle.cm_words_values.specs.Limits.{IsBuffer};
 ghost use Rattle.cm_words_values.specs.Options.{bits_value, usual_ratio};
@@ -11,17 +10,14 @@ ghost use Rattle.cm_io.specs.States.{IsSent, outside};
 ghost use Rattle.cm_io.specs.Writing.{Writes};
 ghost use Rattle.cm_spec.specs.declared.limits.TheConstants.{MAX_KEYS};
 ghost use Rattle.cm_query.specs.Sums.{answer_sum};
-ghost use Rattle.cm_tool_stops.specs.Ends.{Says};
 ghost use Rattle.cm_tool_builds.specs.Faults.{HasFuncCause, HasFuncForm};
 ghost use Rattle.cm_tool_building.specs.Leaves.{HasOutCause, HasStopCause, KeepsOut};
 ghost use Rattle.cm_tool_builds.specs.Plans.{IsPlan};
-ghost use Rattle.cm_tool.specs.Run.{IsStatus, Reaches};
 ghost use Rattle.cm_tool_builds.specs.Spills.{HasSpilled, UnlessSpilled};
 ghost use Rattle.cm_tool.specs.Spills.{TestSpilled, TestsSpilled};
-ghost use Rattle.cm_tool.specs.TestEnds.{EndsTest, FailsTest, GotPrefix, HasTestForm, IsTestMessage, IsUnfinishedTest, StopsSpilling};
-ghost use Rattle.cm_tool.specs.Tested.{generated, line_text, test_outcome, test_plan, test_result, tested_by, usual_b};
+ghost use Rattle.cm_tool.specs.TestEnds.{EndsTest, FailsTest, HasTestForm, StopsSpilling, Tests};
+ghost use Rattle.cm_tool.specs.Tested.{generated, line_text, test_plan, test_result, tested_by, usual_b};
 ghost use Rattle.cm_words.specs.Limits.{IsTest};
-ghost use Rattle.cm_words.specs.declared.jobs.Job.TheVariants.{Test};
 
 use crate::program::PROGRAM;
 use crate::reports::fault_of;
@@ -247,22 +243,7 @@ pub(crate) fn run_test<D: Disk, O: Sink, E: Sink>(
     err: &mut E,
 ) -> u8
     requires job { IsTest job.now }
-    ensures status { IsStatus (Ok (Test job.now)) result }
-    ensures known { result ≢ 4 }
-    ensures files { (D.state disk.new).files ≡ (D.state disk.old).files }
-    ensures read_faults { (D.state disk.new).read_faults ≡ (D.state disk.old).read_faults }
-    ensures write { (D.state disk.old).write_faults < 2 ^ 63 → (O.state out.old).faults < 2 ^ 63 →
-        ((result ≡ 5) ↔ (((D.state disk.old).write_faults < (D.state disk.new).write_faults) ⊎ ((O.state out.old).faults < (O.state out.new).faults))) }
-    ensures outcome { result ≢ 5 → result ≢ 6 → ForSome (D.state disk.old).files (λ files.
-        Reaches (outside (D.state disk.old) (O.state out.old) (E.state err.old)) (outside (D.state disk.new) (O.state out.new) (E.state err.new)) (Some (test_outcome job.now files)) result) }
-    ensures spilled { result ≡ 0 → ForSome (D.state disk.old).files (λ _. TestSpilled job.now Brz (D.state disk.old).spilled (D.state disk.new).spilled) }
-    ensures unchanged { ForSome (D.state disk.old).files (λ _. (result ≢ 7) × (result ≢ 8)) }
-    ensures part { (result ≡ 5) ⊎ (result ≡ 6) → ForSome (D.state disk.old).files (λ files. GotPrefix (test_outcome job.now files).out (O.state out.old).written (O.state out.new).written) }
-    ensures unfinished { result ≡ 5 → ForSome (D.state disk.old).files (λ files.
-        IsUnfinishedTest (outside (D.state disk.old) (O.state out.old) (E.state err.old)) (outside (D.state disk.new) (O.state out.new) (E.state err.new)) files job.now) }
-    ensures sent { (O.state out.old).waits ≡ 0 → IsSent (O.state out.old) (O.state out.new) }
-    ensures err_sent { (E.state err.old).waits ≡ 0 → IsSent (E.state err.old) (E.state err.new) }
-    ensures err { (text : List ℕ) × IsTestMessage job.now (O.state out.old).faults (O.state out.new).faults result text × Says (E.state err.old) (E.state err.new) text }
+    ensures tests { Tests job.now (outside (D.state disk.old) (O.state out.old) (E.state err.old)) (outside (D.state disk.new) (O.state out.new) (E.state err.new)) result }
 {
     let algorithms = [
         Algorithm::Chm,

@@ -2,6 +2,7 @@
 ghost use Rattle.std.specs.Prelude.{map, string_bytes};
 ghost use Rattle.cm_io.specs.States.{outside};
 ghost use Rattle.cm_tool.specs.Runs.{Runs};
+ghost use Rattle.cm_words.specs.Meaning.{job_of};
 
 use crate::building::run_build;
 use crate::program::{HINT, PROGRAM};
@@ -27,7 +28,7 @@ pub fn run<D: Disk, O: Sink, E: Sink>(
     err: &mut E,
 ) -> u8
     // What a run does to disk, out and err, clause by clause: the theorem of the program.
-    ensures runs { Runs (map string_bytes words.now) (outside (D.state disk.old) (O.state out.old) (E.state err.old)) (outside (D.state disk.new) (O.state out.new) (E.state err.new)) result }
+    ensures runs { Runs (job_of (map string_bytes words.now)) (outside (D.state disk.old) (O.state out.old) (E.state err.old)) (outside (D.state disk.new) (O.state out.new) (E.state err.new)) result }
 {
     match read_words(alloc, words) {
         Ok(Job::Help) => {

@@ -10,11 +10,12 @@ use Rattle.cm_io.specs.declared.key_pass.KeyFault.{KeyFault}
 use Rattle.cm_io.specs.declared.key_pass.KeyFault.TheVariants as key_fault
 use Rattle.cm_spec.specs.Lists.{has}
 use Rattle.cm_tool_asking.specs.Asking.{Asking, answering, keys_of, outcome_of, replies_of, status_by}
-use Rattle.cm_tool_asking.specs.Asks.{IsAnswered, IsCutShort, IsRefused, statuses}
-use Rattle.cm_tool_asking.specs.Leaves.{AnsweredAll, AskedPart, EndsLoaded, EndsQuery, IsStopCause, Question, Wrote, question_of, question_over, wrote}
+use Rattle.cm_tool_asking.specs.Asks.{IsAnswered, IsCutShort, IsRefused, frame_of}
+use Rattle.cm_tool_asking.specs.Leaves.{AnsweredAll, AskedPart, EndsLoaded, EndsQuery, IsStopCause, KeepsOut, Question, Wrote, question_of, question_over, wrote}
 use Rattle.cm_tool_asking.specs.Loads.{Spells}
 use Rattle.cm_tool_asking.specs.Meanings.{text_of}
 use Rattle.cm_tool_asking.specs.OutcomeLaws.{asked_outcome, bad_outcome}
+use Rattle.cm_tool_stops.specs.DoesLaws.{neither}
 use Rattle.cm_tool_stops.specs.EndLaws.{says_all}
 use Rattle.cm_tool_stops.specs.Ending.{LacksFile, Outcome, Reaches, refusal}
 use Rattle.cm_tool_stops.specs.Ends.{Says, query_message_of, query_status_of}
@@ -26,18 +27,33 @@ none_some : {o : Outcome} → None ≡ Some o → ⊥
 none_some e = absurd (cc)
 
 -- the status of a query is one of a query's
-pub done_status : (complete : Bool) → has statuses (status_by complete) ≡ true
-done_status true = refl
-done_status false = refl
+pub done_status : {L F : Type 0} (a : Asking L F) (complete : Bool) → has (frame_of a).statuses (status_by complete) ≡ true
+done_status a true = refl
+done_status a false = refl
 
-pub stop_status : {F : Type 0} (stop : QueryStop F) → has statuses (query_status_of stop) ≡ true
-stop_status Memory = refl
-stop_status NoFunction = refl
-stop_status (BadFile fault) = refl
-stop_status Read = refl
-stop_status Write = refl
-stop_status (TooLong line) = refl
-stop_status TooMany = refl
+pub stop_status : {L F : Type 0} (a : Asking L F) (stop : QueryStop F) → has (frame_of a).statuses (query_status_of stop) ≡ true
+stop_status a Memory = refl
+stop_status a NoFunction = refl
+stop_status a (BadFile fault) = refl
+stop_status a Read = refl
+stop_status a Write = refl
+stop_status a (TooLong line) = refl
+stop_status a TooMany = refl
+
+-- one that came to its end may have printed
+pub printed : {L F : Type 0} (a : Asking L F) (complete : Bool) → has (frame_of a).prints (status_by complete) ≡ false → ⊥
+printed a true lacks = absurd (cc)
+printed a false lacks = absurd (cc)
+
+-- and none has the status of keys that changed
+pub unlisted_seven : {L F : Type 0} (a : Asking L F) (stop : QueryStop F) (status : ℕ) → status ≡ query_status_of stop → status ≢ 7
+unlisted_seven a Memory status is seven = absurd (omega (arith, is, seven))
+unlisted_seven a NoFunction status is seven = absurd (omega (arith, is, seven))
+unlisted_seven a (BadFile fault) status is seven = absurd (omega (arith, is, seven))
+unlisted_seven a Read status is seven = absurd (omega (arith, is, seven))
+unlisted_seven a Write status is seven = absurd (omega (arith, is, seven))
+unlisted_seven a (TooLong line) status is seven = absurd (omega (arith, is, seven))
+unlisted_seven a TooMany status is seven = absurd (omega (arith, is, seven))
 
 -- if it came to its end, it is 0 or 1
 pub done_low : (complete : Bool) → status_by complete ≤ 1
@@ -54,25 +70,25 @@ stop_read Write r r_now o o_now cause low = (λ four. absurd (omega (arith, four
 stop_read (TooLong line) r r_now o o_now cause low = (λ four. absurd (omega (arith, four)), λ rose. absurd (omega (arith, rose, cause.0)))
 stop_read TooMany r r_now o o_now cause low = (λ four. absurd (omega (arith, four)), λ rose. absurd (omega (arith, rose, cause.0)))
 
--- it is 5 exactly if that of out rose
-pub stop_write : {F : Type 0} (stop : QueryStop F) (r r_now o o_now : ℕ) → IsStopCause r r_now o o_now stop → o < 2 ^ 63 → (query_status_of stop ≡ 5) ↔ (o < o_now)
-stop_write Memory r r_now o o_now cause low = (λ five. absurd (omega (arith, five)), λ rose. absurd (omega (arith, rose, cause.1)))
-stop_write NoFunction r r_now o o_now cause low = (λ five. absurd (omega (arith, five)), λ rose. absurd (omega (arith, rose, cause.2)))
-stop_write (BadFile fault) r r_now o o_now cause low = (λ five. absurd (omega (arith, five)), λ rose. absurd (omega (arith, rose, cause.1)))
-stop_write Read r r_now o o_now cause low = (λ five. absurd (omega (arith, five)), λ rose. absurd (omega (arith, rose, cause.2)))
-stop_write Write r r_now o o_now cause low = (λ _. cause.2 low, λ _. refl)
-stop_write (TooLong line) r r_now o o_now cause low = (λ five. absurd (omega (arith, five)), λ rose. absurd (omega (arith, rose, cause.1)))
-stop_write TooMany r r_now o o_now cause low = (λ five. absurd (omega (arith, five)), λ rose. absurd (omega (arith, rose, cause.1)))
+-- it is 5 exactly if that of out rose, as no file is written
+pub stop_write : {F : Type 0} (stop : QueryStop F) (r r_now w w_now o o_now : ℕ) → IsStopCause r r_now o o_now stop → w_now ≡ w → o < 2 ^ 63 → (query_status_of stop ≡ 5) ↔ ((w < w_now) ⊎ (o < o_now))
+stop_write Memory r r_now w w_now o o_now cause same low = (λ five. absurd (omega (arith, five)), λ either. neither w w_now o o_now same cause.1 either)
+stop_write NoFunction r r_now w w_now o o_now cause same low = (λ five. absurd (omega (arith, five)), λ either. neither w w_now o o_now same cause.2 either)
+stop_write (BadFile fault) r r_now w w_now o o_now cause same low = (λ five. absurd (omega (arith, five)), λ either. neither w w_now o o_now same cause.1 either)
+stop_write Read r r_now w w_now o o_now cause same low = (λ five. absurd (omega (arith, five)), λ either. neither w w_now o o_now same cause.2 either)
+stop_write Write r r_now w w_now o o_now cause same low = (λ _. inr (cause.2 low), λ _. refl)
+stop_write (TooLong line) r r_now w w_now o o_now cause same low = (λ five. absurd (omega (arith, five)), λ either. neither w w_now o o_now same cause.1 either)
+stop_write TooMany r r_now w w_now o o_now cause same low = (λ five. absurd (omega (arith, five)), λ either. neither w w_now o o_now same cause.1 either)
 
--- it is 6 only if memory ran out
-pub stop_memory : {F P : Type 0} (stop : QueryStop F) → (stop ≡ Memory → P) → query_status_of stop ≡ 6 → P
-stop_memory Memory holds six = holds refl
-stop_memory NoFunction holds six = absurd (omega (arith, six))
-stop_memory (BadFile fault) holds six = absurd (omega (arith, six))
-stop_memory Read holds six = absurd (omega (arith, six))
-stop_memory Write holds six = absurd (omega (arith, six))
-stop_memory (TooLong line) holds six = absurd (omega (arith, six))
-stop_memory TooMany holds six = absurd (omega (arith, six))
+-- out is as it was, unless something was printed
+pub stop_quiet : {L F : Type 0} (a : Asking L F) (stop : QueryStop F) (out out_now : Option (List ℕ)) → KeepsOut out out_now stop → has (frame_of a).prints (query_status_of stop) ≡ false → out_now ≡ out
+stop_quiet a Memory out out_now kept lacks = kept
+stop_quiet a NoFunction out out_now kept lacks = kept
+stop_quiet a (BadFile fault) out out_now kept lacks = kept
+stop_quiet a Read out out_now kept lacks = absurd (cc)
+stop_quiet a Write out out_now kept lacks = absurd (cc)
+stop_quiet a (TooLong line) out out_now kept lacks = absurd (cc)
+stop_quiet a TooMany out out_now kept lacks = absurd (cc)
 
 -- a query that came to its end
 pub done : {L F : Type 0} (a : Asking L F) (files : Files) (old new : Outside) (notes : List ℕ) (complete : Bool) → EndsLoaded a files (wrote old.out.written new.out.written notes) (Ok complete) → Says old.err new.err notes → new.disk.files ≡ Some files

@@ -8,7 +8,7 @@ use Rattle.cm_query_batch.specs.Stops.{HasQueryCause}
 use Rattle.cm_query_batch.specs.declared.fault.QueryFault.{QueryFault}
 use Rattle.cm_query_batch.specs.declared.fault.QueryFault.TheVariants as query_fault
 use Rattle.cm_tool_asking.specs.Asking.{Asking, keys_of, replies_of}
-use Rattle.cm_tool_asking.specs.Leaves.{EndsKeys, EndsPass, EndsQuery, IsStopCause, Wrote, question_of, question_over, stop_from_load, stop_from_query, wrote}
+use Rattle.cm_tool_asking.specs.Leaves.{EndsKeys, EndsPass, EndsQuery, IsStopCause, KeepsOut, Wrote, question_of, question_over, stop_from_load, stop_from_query, wrote}
 use Rattle.cm_tool_asking.specs.Loads.{HasLoadCause, IsLoadCause, IsSpelled, Loads, Spells}
 use Rattle.cm_tool_asking.specs.declared.unloaded.Unloaded.{Unloaded}
 use Rattle.cm_tool_asking.specs.declared.unloaded.Unloaded.TheVariants as unloaded
@@ -79,3 +79,17 @@ asked_until a x files bytes w query_fault.Write there ends =
 -- a keys file that can't be opened
 pub asked_none : {L F : Type 0} (a : Asking L F) (x : L) (files : Files) (old : Option (List ℕ)) → EndsKeys a x files (wrote old old []) (Err Read)
 asked_none a x files old = (0, record { out = then_nothing old; notes_are = refl })
+
+-- out is as it was where nothing was loaded
+pub kept_unloaded : {F : Type 0} (fault : Unloaded F) (out : Option (List ℕ)) → KeepsOut out out (stop_from_load fault)
+kept_unloaded unloaded.Memory out = refl
+kept_unloaded unloaded.Read out = refl
+kept_unloaded (unloaded.Bad fault) out = refl
+
+-- and where memory ran out before the first key
+pub kept_unasked : (F : Type 0) (fault : QueryFault) (out out_now : Option (List ℕ)) → (fault ≡ query_fault.Memory → out_now ≡ out) → KeepsOut {F = F} out out_now (stop_from_query fault)
+kept_unasked F query_fault.Memory out out_now kept = kept refl
+kept_unasked F (query_fault.Key key_fault.Read) out out_now kept = tt
+kept_unasked F (query_fault.Key (key_fault.TooLong line)) out out_now kept = tt
+kept_unasked F (query_fault.Key key_fault.TooMany) out out_now kept = tt
+kept_unasked F query_fault.Write out out_now kept = tt

@@ -1,22 +1,17 @@
 -- What a query does to disk, out and err: what the driver promises of any file that is asked for keys.
-use Rattle.std.specs.Prelude.{◌≡◌, ◌≢◌, ◌<◌, ◌^◌, ◌⊎◌, ◌↔◌, ℕ, List, [], ◌∷◌, ◌++◌, None, Some, Result, Ok, Err, Bool, true}
+use Rattle.std.specs.Prelude.{◌≡◌, ◌⊎◌, ℕ, List, [], ◌∷◌, ◌++◌, None, Some, Result, Ok, Err, Bool}
 use Rattle.std.specs.Option.{ForSome}
 use Rattle.cm_io.specs.Files.{Files, file_at}
-use Rattle.cm_io.specs.States.{IsSent, Outside}
+use Rattle.cm_io.specs.States.{Outside}
 use Rattle.cm_io.specs.Writing.{then_bytes}
-use Rattle.cm_spec.specs.Lists.{has}
 use Rattle.cm_tool_asking.specs.Asking.{Asking, keys_of, outcome_of, replies_of, status_by}
 use Rattle.cm_tool_asking.specs.Leaves.{AskedPart, GotNothing, Wrote, question_of, wrote}
 use Rattle.cm_tool_asking.specs.Loads.{IsBad, Spells}
 use Rattle.cm_tool_asking.specs.Meanings.{text_of}
-use Rattle.cm_tool_stops.specs.Ending.{LacksFile, Reaches}
+use Rattle.cm_tool_stops.specs.Does.{Does, Frame}
 use Rattle.cm_tool_stops.specs.Ends.{Says, query_message_of, query_status_of}
 use Rattle.cm_tool_stops.specs.Messages.{cannot_read, cannot_write_out, out_of_memory}
 use Rattle.cm_tool_stops.specs.declared.stop.QueryStop.{QueryStop}
-
--- the statuses of a query
-abbrev pub statuses : List ℕ
-statuses = 0 ∷ 1 ∷ 3 ∷ 4 ∷ 5 ∷ 6 ∷ 8 ∷ []
 
 -- A file could not be read. It is the one that is asked, and neither out nor err got anything of an answer; or it is the keys file, after
 -- the first keys were answered, with their notes and with nothing of a further line. The message names the file.
@@ -37,19 +32,9 @@ pub record IsCutShort {L F : Type 0} (a : Asking L F) (old new : Outside) (files
   pub write : status ≡ 5 → StoppedWriting a files (wrote old.out.written new.out.written notes) text
   pub memory : status ≡ 6 → GotNothing (wrote old.out.written new.out.written notes) × (text ≡ out_of_memory a.named.program)
 
--- the file that is asked spells something, which answered all keys of the keys file, whose pass ends without a fault
-pub record IsAnswered {L F : Type 0} (a : Asking L F) (old new : Outside) (status : ℕ) (files : Files) : Type 0 where
-  pub x : L
-  pub spells : Spells a.meaning.spelling files a.named.function x
-  pub bytes : List ℕ
-  pub there : file_at files a.named.keys ≡ Some bytes
-  pub sound : (keys_of a bytes).fault ≡ None
-  pub out : new.out.written ≡ then_bytes old.out.written (text_of (replies_of a x) (keys_of a bytes).keys)
-  pub status_is : status ≡ status_by ((replies_of a x).complete (keys_of a bytes).keys)
-
--- it spells nothing, and out is as before
-abbrev pub IsRefused : {L F : Type 0} → Asking L F → Outside → Outside → Files → Type 0
-IsRefused {F = F} a old new files = (fault : F) × IsBad a.meaning.spelling files a.named.function fault × (new.out.written ≡ old.out.written)
+-- what a query that a fault cut short may leave: out has the text of the first keys, and err their notes
+abbrev pub MayLeave : {L F : Type 0} → Asking L F → Outside → Outside → ℕ → Type 0
+MayLeave a old new status = ForSome old.disk.files (λ files. IsCutShort a old new files status)
 
 -- the status of an end, and what is said of it after the notes
 abbrev pub end_status : {F : Type 0} → Result Bool (QueryStop F) → ℕ
@@ -66,29 +51,38 @@ pub record IsEnd {L F : Type 0} (a : Asking L F) (old new : Outside) (status : �
   pub status_is : status ≡ end_status end
   pub says : Says old.err new.err (notes ++ end_message a end)
 
+abbrev pub MayEnd : {L F : Type 0} → Asking L F → Outside → Outside → ℕ → Type 0
+MayEnd {F = F} a old new status = (end : Result Bool (QueryStop F)) × IsEnd a old new status end
+
+-- The frame of a query: it changes no file, and prints nothing of a file that is refused. Memory runs out before the first key, or never.
+abbrev pub frame_of : {L F : Type 0} → Asking L F → Frame
+frame_of a = record {
+  statuses = 0 ∷ 1 ∷ 3 ∷ 4 ∷ 5 ∷ 6 ∷ 8 ∷ [];
+  outcome = outcome_of a;
+  saves = [];
+  prints = 0 ∷ 1 ∷ 4 ∷ 5 ∷ 8 ∷ [];
+  writes = ⊥;
+  spills = ⊥;
+  leaves = MayLeave a;
+  ends = MayEnd a;
+}
+
+-- the file that is asked spells something, which answered all keys of the keys file, whose pass ends without a fault
+pub record IsAnswered {L F : Type 0} (a : Asking L F) (old new : Outside) (status : ℕ) (files : Files) : Type 0 where
+  pub x : L
+  pub spells : Spells a.meaning.spelling files a.named.function x
+  pub bytes : List ℕ
+  pub there : file_at files a.named.keys ≡ Some bytes
+  pub sound : (keys_of a bytes).fault ≡ None
+  pub out : new.out.written ≡ then_bytes old.out.written (text_of (replies_of a x) (keys_of a bytes).keys)
+  pub status_is : status ≡ status_by ((replies_of a x).complete (keys_of a bytes).keys)
+
+-- it spells nothing, and out is as before
+abbrev pub IsRefused : {L F : Type 0} → Asking L F → Outside → Outside → Files → Type 0
+IsRefused {F = F} a old new files = (fault : F) × IsBad a.meaning.spelling files a.named.function fault × (new.out.written ≡ old.out.written)
+
 -- A query that found disk, out and err in the old state left them in the new one, with this status.
 pub record Asks {L F : Type 0} (a : Asking L F) (old new : Outside) (result : ℕ) : Type 0 where
-  pub status : has statuses result ≡ true
-  -- A query changes no file, and writes to none.
-  pub files : new.disk.files ≡ old.disk.files
-  pub spilled : new.disk.spilled ≡ old.disk.spilled
-  pub write_faults : new.disk.write_faults ≡ old.disk.write_faults
-  -- The status is 4 exactly if the count of read faults rises.
-  pub read : old.disk.read_faults < 2 ^ 63 → ((result ≡ 4) ↔ (old.disk.read_faults < new.disk.read_faults))
-  -- The status is 5 exactly if the count of out rises.
-  pub write : old.out.faults < 2 ^ 63 → ((result ≡ 5) ↔ (old.out.faults < new.out.faults))
-  -- If memory doesn't run out and nothing fails, status, out, err and files are what the file that is asked makes of the keys.
-  pub outcome : result ≢ 4 → result ≢ 5 → result ≢ 6 → ForSome old.disk.files (λ files. Reaches old new (outcome_of a files) result)
+  pub does : Does (frame_of a) old new result
   pub answered : (result ≡ 0) ⊎ (result ≡ 1) → ForSome old.disk.files (IsAnswered a old new result)
   pub refused : result ≡ 3 → ForSome old.disk.files (IsRefused a old new)
-  -- If a file that is needed isn't there, the status is 4, or 6 if memory runs out, and nothing is done.
-  pub missing : ForSome old.disk.files (λ files. outcome_of a files ≡ None → LacksFile old new result)
-  -- After a failure out has the text of the first keys, and err their notes.
-  pub cut : (result ≡ 4) ⊎ (result ≡ 5) ⊎ (result ≡ 6) → ForSome old.disk.files (λ files. IsCutShort a old new files result)
-  -- Memory runs out before the first key, or never.
-  pub memory : result ≡ 6 → new.out.written ≡ old.out.written
-  -- If the buffer of out or err was empty before the call, it is empty after it, or the count of this sink rose.
-  pub sent : old.out.waits ≡ 0 → IsSent old.out new.out
-  pub err_sent : old.err.waits ≡ 0 → IsSent old.err new.err
-  -- Err gets the notes and what is said of the end, or a prefix of that if err itself fails.
-  pub err : (end : Result Bool (QueryStop F)) × IsEnd a old new result end

@@ -43,6 +43,13 @@ abbrev pub HasStopCause : {T F : Type 0} → ℕ → ℕ → ℕ → ℕ → Res
 HasStopCause r r' o o' (Ok x) = (r' ≡ r) × (o' ≡ o)
 HasStopCause r r' o o' (Err stop) = IsStopCause r r' o o' stop
 
+-- a query for which nothing was loaded, or memory ran out, printed nothing
+abbrev pub KeepsOut : {F : Type 0} → Option (List ℕ) → Option (List ℕ) → QueryStop F → Type 0
+KeepsOut old new Memory = new ≡ old
+KeepsOut old new NoFunction = new ≡ old
+KeepsOut old new (BadFile fault) = new ≡ old
+KeepsOut old new stop = Unit {0}
+
 -- keys, and what is written of them
 pub record Question : Type 0 where
   pub replies : Replies

@@ -1,12 +1,11 @@
 //! The files of a query, and its steps.
-ghost use Rattle.std.specs.Prelude.{◌≡◌, ◌⊎◌, ℕ, List, Err, false};
+ghost use Rattle.std.specs.Prelude.{◌≡◌, ◌⊎◌, ℕ, List, IfErr, false};
 ghost use Rattle.std.specs.Option.{ForSome};
 ghost use Rattle.cm_io.specs.Noting.{Noted};
 ghost use Rattle.cm_io.specs.States.{IsSent};
 ghost use Rattle.cm_keys.specs.declared.keys.TheConstants.{LINE_END};
 ghost use Rattle.cm_tool_asking.specs.Asking.{asking};
-ghost use Rattle.cm_tool_asking.specs.Leaves.{EndsKeys, EndsQuery, HasStopCause, stop_from_load, stop_from_query, wrote};
-ghost use Rattle.cm_tool_stops.specs.declared.stop.QueryStop.{QueryStop};
+ghost use Rattle.cm_tool_asking.specs.Leaves.{EndsKeys, EndsQuery, HasStopCause, KeepsOut, stop_from_load, stop_from_query, wrote};
 
 use crate::loading::load_file;
 use crate::{Asked, Unloaded};
@@ -66,7 +65,7 @@ fn ask_keys<A: Asked, D: Disk, O: Sink, E: Sink>(
     ensures spilled { (D.state disk.new).spilled ≡ (D.state disk.old).spilled }
     ensures write_faults { (D.state disk.new).write_faults ≡ (D.state disk.old).write_faults }
     ensures cause { HasStopCause (D.state disk.old).read_faults (D.state disk.new).read_faults (O.state out.old).faults (O.state out.new).faults result }
-    ensures memory { result ≡ Err QueryStop.Memory → (O.state out.new).written ≡ (O.state out.old).written }
+    ensures out { IfErr result (KeepsOut (O.state out.old).written (O.state out.new).written) }
     ensures sent { (O.state out.old).waits ≡ 0 → IsSent (O.state out.old) (O.state out.new) }
     ensures notes_sent { (notes.old ≡ false → (E.state err.old).waits ≡ 0) → notes.new ≡ false → (E.state err.new).waits ≡ 0 }
     ensures says { (text : List ℕ) × Noted notes.old notes.new (E.state err.old) (E.state err.new) text }
@@ -101,7 +100,7 @@ pub(crate) fn ask_file<A: Asked, D: Disk, O: Sink, E: Sink>(
     ensures spilled { (D.state disk.new).spilled ≡ (D.state disk.old).spilled }
     ensures write_faults { (D.state disk.new).write_faults ≡ (D.state disk.old).write_faults }
     ensures cause { HasStopCause (D.state disk.old).read_faults (D.state disk.new).read_faults (O.state out.old).faults (O.state out.new).faults result }
-    ensures memory { result ≡ Err QueryStop.Memory → (O.state out.new).written ≡ (O.state out.old).written }
+    ensures out { IfErr result (KeepsOut (O.state out.old).written (O.state out.new).written) }
     ensures sent { (O.state out.old).waits ≡ 0 → IsSent (O.state out.old) (O.state out.new) }
     ensures notes_sent { (notes.old ≡ false → (E.state err.old).waits ≡ 0) → notes.new ≡ false → (E.state err.new).waits ≡ 0 }
     ensures says { (text : List ℕ) × Noted notes.old notes.new (E.state err.old) (E.state err.new) text }

@@ -5,7 +5,7 @@ use Rattle.cm_io.specs.States.{Outside}
 use Rattle.cm_io.specs.WritingLaws.{then_nothing}
 use Rattle.cm_spec.specs.Lists.{has}
 use Rattle.cm_tool_building.specs.Building.{Building, keys_of, outcome_by, outcome_of, refusing, saving}
-use Rattle.cm_tool_building.specs.Builds.{IsEmptied, IsRefusedWith, IsUnfinished, statuses}
+use Rattle.cm_tool_building.specs.Builds.{IsEmptied, IsRefusedWith, IsUnfinished, MayLeave, frame_of}
 use Rattle.cm_tool_building.specs.Leaves.{IsOutCause, KeepsOut, Leaves, MadeOf}
 use Rattle.cm_tool_building.specs.Makes.{IsAllowedStop}
 use Rattle.cm_tool_building.specs.OutcomeLaws.{outcome_there, refused_outcome}
@@ -157,19 +157,19 @@ emptied b old new out out_new TooMany leaves six = absurd (omega arith)
 emptied b old new out out_new (TooLarge line) leaves six = absurd (omega arith)
 
 -- the status of a build that stopped is one of a build's
-pub stop_status : (stop : Stop) → has statuses (status_of stop) ≡ true
-stop_status Memory = refl
-stop_status Read = refl
-stop_status Write = refl
-stop_status WriteOut = refl
-stop_status (Refused failure) = refl
-stop_status (Changed first again) = refl
-stop_status Spill = refl
-stop_status (SpillDamaged offset expected found) = refl
-stop_status NoKeys = refl
-stop_status (TooLong line) = refl
-stop_status TooMany = refl
-stop_status (TooLarge line) = refl
+pub stop_status : {M : Type 0} (b : Building M) (stop : Stop) → has (frame_of b).statuses (status_of stop) ≡ true
+stop_status b Memory = refl
+stop_status b Read = refl
+stop_status b Write = refl
+stop_status b WriteOut = refl
+stop_status b (Refused failure) = refl
+stop_status b (Changed first again) = refl
+stop_status b Spill = refl
+stop_status b (SpillDamaged offset expected found) = refl
+stop_status b NoKeys = refl
+stop_status b (TooLong line) = refl
+stop_status b TooMany = refl
+stop_status b (TooLarge line) = refl
 
 -- over known files it is not 7
 pub stop_known : {M : Type 0} (b : Building M) (old new : Option Files) (out out_new : Option (List ℕ)) (stop : Stop) (files : Files) → Leaves b old new out out_new (Err stop) → old ≡ Some files → status_of stop ≢ 7
@@ -215,3 +215,11 @@ stop_quiet out out_new NoKeys same one five = same
 stop_quiet out out_new (TooLong line) same one five = same
 stop_quiet out out_new TooMany same one five = same
 stop_quiet out out_new (TooLarge line) same one five = same
+
+-- what a build that stopped may leave
+pub may_leave : {M : Type 0} (b : Building M) (old new : Outside) (stop : Stop) → Leaves b old.disk.files new.disk.files old.out.written new.out.written (Err stop) → KeepsOut old.out.written new.out.written stop → IsAllowedStop b.meaning.may_stop stop → IsOutCause old.out.faults new.out.faults stop
+    → Says old.err new.err (message_of b.named b.dir stop) → MayLeave b old new (status_of stop)
+may_leave b old new stop leaves same form count says = record {
+  write = λ five files is. written_part b old new stop files leaves same form count says is five;
+  memory = λ six. emptied b old.disk.files new.disk.files old.out.written new.out.written stop leaves six;
+}

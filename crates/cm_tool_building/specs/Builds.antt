@@ -1,24 +1,19 @@
 -- What a build does to disk, out and err: what the driver promises of any builder.
-use Rattle.std.specs.Prelude.{◌≡◌, ◌≢◌, ◌<◌, ◌^◌, ◌⊎◌, ◌↔◌, ℕ, List, [], ◌∷◌, take, Option, None, Some, Result, Ok, Err, true}
+use Rattle.std.specs.Prelude.{◌≡◌, ◌⊎◌, ℕ, List, [], ◌∷◌, take, Option, Some, Result, Ok, Err}
 use Rattle.std.specs.Option.{ForSome}
 use Rattle.cm_witness_gather.specs.declared.failure.SeedFailure.{SeedFailure}
 use Rattle.cm_io.specs.Causes.{Rose}
 use Rattle.cm_io.specs.Files.{Files, file_at, with_file}
-use Rattle.cm_io.specs.States.{IsSent, Outside}
+use Rattle.cm_io.specs.States.{Outside}
 use Rattle.cm_io.specs.Writing.{then_bytes}
-use Rattle.cm_spec.specs.Lists.{has}
 use Rattle.cm_tool_building.specs.Building.{Building, keys_of, outcome_of, refusing, saving}
 use Rattle.cm_tool_building.specs.Leaves.{IsAllowedEnd, HasOutCause, Known}
 use Rattle.cm_tool_building.specs.Stores.{IsPart}
-use Rattle.cm_tool_stops.specs.Ending.{LacksFile, Reaches}
+use Rattle.cm_tool_stops.specs.Does.{Does, Frame}
 use Rattle.cm_tool_stops.specs.Ends.{Says, message_of, status_of}
 use Rattle.cm_tool_stops.specs.Messages.{cannot_use_spill, cannot_write, cannot_write_out}
 use Rattle.cm_tool_stops.specs.declared.stop.Stop.{Stop}
 use Rattle.cm_tool_stops.specs.declared.stop.Stop.TheVariants.{Refused, Spill}
-
--- the statuses of a build
-abbrev pub statuses : List ℕ
-statuses = 0 ∷ 1 ∷ 4 ∷ 5 ∷ 6 ∷ 7 ∷ 8 ∷ []
 
 -- the outcome saves what was made, of whose bytes its file holds a prefix, or the files are as before; out got nothing, and the message
 -- names the file
@@ -45,13 +40,10 @@ pub record IsUnfinished {M : Type 0} (b : Building M) (old new : Outside) (files
 abbrev pub IsEmptied : {M : Type 0} → Building M → Option Files → Option Files → Type 0
 IsEmptied {M = M} b old new = (new ≡ with_file b.named.function [] old) × ForSome old (λ files. (made : M) × (outcome_of b files ≡ Some (saving b files made)))
 
--- what was made is saved, and this is known of it
-abbrev pub IsSaved : {M : Type 0} → Building M → Outside → Outside → Files → Type 0
-IsSaved {M = M} b old new files = (made : M) × (outcome_of b files ≡ Some (saving b files made)) × Known b files made old.disk.spilled new.disk.spilled
-
--- there is a report on the keys, and this is known of them
-abbrev pub IsRefusedWith : {M : Type 0} → Building M → Files → Type 0
-IsRefusedWith b files = (bytes : List ℕ) × (file_at files b.named.keys ≡ Some bytes) × b.meaning.reports (keys_of b bytes)
+-- what a failed build may leave: a message names what could not be written, and without memory the file that is saved may be empty
+pub record MayLeave {M : Type 0} (b : Building M) (old new : Outside) (status : ℕ) : Type 0 where
+  pub write : status ≡ 5 → ForSome old.disk.files (IsUnfinished b old new)
+  pub memory : status ≡ 6 → (new.disk.files ≡ old.disk.files) ⊎ IsEmptied b old.disk.files new.disk.files
 
 -- the status of an end, and what is said of it
 abbrev pub end_status : {M : Type 0} → Result M Stop → ℕ
@@ -69,31 +61,32 @@ pub record IsEnd {M : Type 0} (b : Building M) (old new : Outside) (status : ℕ
   pub status_is : status ≡ end_status end
   pub says : Says old.err new.err (end_message b end)
 
+abbrev pub MayEnd : {M : Type 0} → Building M → Outside → Outside → ℕ → Type 0
+MayEnd {M = M} b old new status = (end : Result M Stop) × IsEnd b old new status end
+
+-- The frame of a build: it saves what was made, and prints a report alone. After a failed write the file may have a prefix of its bytes.
+abbrev pub frame_of : {M : Type 0} → Building M → Frame
+frame_of b = record {
+  statuses = 0 ∷ 1 ∷ 4 ∷ 5 ∷ 6 ∷ 7 ∷ 8 ∷ [];
+  outcome = outcome_of b;
+  saves = 0 ∷ 5 ∷ 6 ∷ [];
+  prints = 1 ∷ 5 ∷ [];
+  writes = Unit {0};
+  spills = b.meaning.uses_spill;
+  leaves = MayLeave b;
+  ends = MayEnd b;
+}
+
+-- what was made is saved, and this is known of it
+abbrev pub IsSaved : {M : Type 0} → Building M → Outside → Outside → Files → Type 0
+IsSaved {M = M} b old new files = (made : M) × (outcome_of b files ≡ Some (saving b files made)) × Known b files made old.disk.spilled new.disk.spilled
+
+-- there is a report on the keys, and this is known of them
+abbrev pub IsRefusedWith : {M : Type 0} → Building M → Files → Type 0
+IsRefusedWith b files = (bytes : List ℕ) × (file_at files b.named.keys ≡ Some bytes) × b.meaning.reports (keys_of b bytes)
+
 -- A build that found disk, out and err in the old state left them in the new one, with this status.
 pub record Builds {M : Type 0} (b : Building M) (old new : Outside) (result : ℕ) : Type 0 where
-  pub status : has statuses result ≡ true
-  -- The status is 4 exactly if the count of read faults rises.
-  pub read : old.disk.read_faults < 2 ^ 63 → ((result ≡ 4) ↔ (old.disk.read_faults < new.disk.read_faults))
-  -- The status is 5 exactly if the count of write faults or that of out rises.
-  pub write : old.disk.write_faults < 2 ^ 63 → old.out.faults < 2 ^ 63 →
-      ((result ≡ 5) ↔ ((old.disk.write_faults < new.disk.write_faults) ⊎ (old.out.faults < new.out.faults)))
-  -- If memory doesn't run out and nothing fails, status, out, err and files are what the builder's verdict on the keys makes of them.
-  pub outcome : result ≢ 4 → result ≢ 5 → result ≢ 6 → ForSome old.disk.files (λ files. Reaches old new (outcome_of b files) result)
+  pub does : Does (frame_of b) old new result
   pub saved : result ≡ 0 → ForSome old.disk.files (IsSaved b old new)
   pub refused : result ≡ 1 → ForSome old.disk.files (IsRefusedWith b)
-  pub unspilled : (b.meaning.uses_spill → ⊥) → new.disk.spilled ≡ old.disk.spilled
-  -- If the files are known, the status is never 7: neither the keys nor the spill change between passes.
-  pub unchanged : ForSome old.disk.files (λ _. result ≢ 7)
-  -- If the keys file isn't there, the status is 4, or 6 if memory runs out, and nothing is done.
-  pub missing : ForSome old.disk.files (λ files. outcome_of b files ≡ None → LacksFile old new result)
-  -- The files after a failure: only what is saved changes them. The message names what could not be written.
-  pub kept : result ≢ 0 → result ≢ 5 → result ≢ 6 → new.disk.files ≡ old.disk.files
-  pub part : result ≡ 5 → ForSome old.disk.files (IsUnfinished b old new)
-  pub memory : result ≡ 6 → (new.disk.files ≡ old.disk.files) ⊎ IsEmptied b old.disk.files new.disk.files
-  -- Only a report is written to out.
-  pub out : result ≢ 1 → result ≢ 5 → new.out.written ≡ old.out.written
-  -- If the buffer of out or err was empty before the call, it is empty after it, or the count of this sink rose.
-  pub sent : old.out.waits ≡ 0 → IsSent old.out new.out
-  pub err_sent : old.err.waits ≡ 0 → IsSent old.err new.err
-  -- Err gets what is said of the end, or a prefix of that if err itself fails.
-  pub err : (end : Result M Stop) × IsEnd b old new result end

@@ -7,4 +7,5 @@ pub mod Builds
 pub mod StopLaws
 pub mod OutcomeLaws
 pub mod MemoryLaws
+pub mod SavedLaws
 pub mod StoreLaws

@@ -1,6 +1,7 @@
 -- Lemmas about the status of a build that stopped, for those who call its steps.
 use Rattle.std.proofs.Common.{◌≡◌, ◌⊎◌, ◌↔◌, ℕ, ◌<◌, ◌^◌, inl, inr, refl, arith}
 use Rattle.cm_tool_building.specs.Leaves.{IsOutCause, IsStopCause}
+use Rattle.cm_tool_stops.specs.DoesLaws.{neither}
 use Rattle.cm_tool_stops.specs.Ends.{status_of}
 use Rattle.cm_tool_stops.specs.declared.stop.Stop.TheVariants.{Memory, Read, Write, WriteOut, Refused, Changed, Spill, SpillDamaged, NoKeys, TooLong, TooMany, TooLarge}
 use Rattle.cm_tool_stops.specs.declared.stop.Stop.{Stop}
@@ -34,11 +35,6 @@ stop_read NoKeys r r_now w w_now cause low = (λ four. absurd (omega (arith, fou
 stop_read (TooLong line) r r_now w w_now cause low = (λ four. absurd (omega (arith, four)), λ rose. absurd (omega (arith, rose, cause.0)))
 stop_read TooMany r r_now w w_now cause low = (λ four. absurd (omega (arith, four)), λ rose. absurd (omega (arith, rose, cause.0)))
 stop_read (TooLarge line) r r_now w w_now cause low = (λ four. absurd (omega (arith, four)), λ rose. absurd (omega (arith, rose, cause.0)))
-
--- neither count rose
-pub neither : {P : Type 0} (w w_now o o_now : ℕ) → w_now ≡ w → o_now ≡ o → (w < w_now) ⊎ (o < o_now) → P
-neither w w_now o o_now same quiet (inl rose) = absurd (omega (arith, rose, same))
-neither w w_now o o_now same quiet (inr rose) = absurd (omega (arith, rose, quiet))
 
 -- it is 5 exactly if the count of writing or that of out rose
 pub stop_write : (stop : Stop) (r r_now w w_now o o_now : ℕ) → IsStopCause r r_now w w_now stop → IsOutCause o o_now stop → w < 2 ^ 63 → o < 2 ^ 63 → (status_of stop ≡ 5) ↔ ((w < w_now) ⊎ (o < o_now))

@@ -2,6 +2,8 @@ pub mod Messages
 pub mod Named
 pub mod Ends
 pub mod Ending
+pub mod Does
 pub mod EndLaws
+pub mod DoesLaws
 pub mod Refusing
 pub mod RefusingLaws

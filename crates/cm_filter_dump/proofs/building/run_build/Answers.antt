@@ -12,5 +12,5 @@ returns g c =
     let filter : c.as_str-2.result.now ≡ job.filter = c.as_str-2.ensures.bytes in
     let old = outside (g.D.Disk.state c.args.disk.now) (g.O.Sink.state c.args.out.now) (g.E.Sink.state c.args.err.now) in
     let new = outside (g.D.Disk.state c.build.new.disk) (g.O.Sink.state c.build.new.out) (g.E.Sink.state c.build.new.err) in
-    let does : Builds (building_of job) old new c.build.result = rw (keys, filter) at c.build.ensures.builds in
-    record { runs = record { builds = does; holds = λ zero files is. saved_all job old new c.build.result does zero files is (c.all_hold.ensures job files) c.requires.job } }
+    let builds : Builds (building_of job) old new c.build.result = rw (keys, filter) at c.build.ensures.builds in
+    record { runs = record { builds = builds; holds = λ zero files is. saved_all job old new c.build.result builds zero files is (c.all_hold.ensures job files) c.requires.job } }

@@ -19,7 +19,7 @@ use Rattle.cm_spec.specs.Core.{HasEmptyCore}
 use Rattle.cm_spec.specs.Rounds.{rest_of}
 use Rattle.cm_tool.specs.Jobs.{seeds_tried}
 use Rattle.cm_keys.specs.Lines.{keys_in}
-use Rattle.cm_tool.specs.Run.{AnswersOf, IsBy}
+use Rattle.cm_tool.specs.Numbers.{AnswersOf, IsBy}
 use Rattle.cm_tool_builds.specs.Seeds.{IsMadeBy}
 use Rattle.cm_tool_building.specs.StoreLaws.{written_at}
 use Rattle.cm_tool.proofs.laws.saved_numbers.Goals as goal

@@ -2,11 +2,14 @@ use Rattle.std.proofs.Common.{[], ◌∙◌}
 use Rattle.cm_io.specs.NotingLaws.{noted_nothing}
 use Rattle.cm_tool_asking.specs.Asking.{asking}
 use Rattle.cm_tool_asking.specs.Leaves.{wrote}
-use Rattle.cm_tool_asking.proofs.Steps.{stop_cause, with_loaded, without}
+use Rattle.cm_tool_asking.proofs.Steps.{kept_unloaded, stop_cause, with_loaded, without}
 use Rattle.cm_tool_asking.proofs.asking.ask_file.Goals as goal
 
 pub returns-in-Err-clause-cause : goal.returns-in-Err-clause-cause
 returns-in-Err-clause-cause g c = rw c.stop_of_load.ensures.stop (stop_cause c.in-Err.fault _ _ _ c.in-Err.ensures.cause)
+
+pub returns-in-Err-clause-out : goal.returns-in-Err-clause-out
+returns-in-Err-clause-out g c = rw c.stop_of_load.ensures.stop (kept_unloaded c.in-Err.fault _)
 
 pub returns-in-Err-clause-says : goal.returns-in-Err-clause-says
 returns-in-Err-clause-says g c = ([], noted_nothing _ _)

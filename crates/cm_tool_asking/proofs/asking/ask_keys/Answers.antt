@@ -1,9 +1,9 @@
-use Rattle.std.proofs.Common.{[], ◌∙◌, ℕ, List, Option, refl, ap}
+use Rattle.std.proofs.Common.{[], ◌∙◌, ℕ, List, Option, Err, refl, ap}
 use Rattle.std.specs.Option.{option_map}
 use Rattle.cm_io.specs.NotingLaws.{noted_nothing}
 use Rattle.cm_tool_asking.specs.Asking.{asking, keys_of}
 use Rattle.cm_tool_asking.specs.Leaves.{wrote}
-use Rattle.cm_tool_asking.proofs.Steps.{asked_none, asked_until, pass_cause}
+use Rattle.cm_tool_asking.proofs.Steps.{asked_none, asked_until, kept_unasked, pass_cause}
 use Rattle.cm_tool_asking.proofs.asking.ask_keys.Goals as goal
 
 pub returns-in-Err-Memory-clause-says : goal.returns-in-Err-Memory-clause-says
@@ -28,6 +28,9 @@ returns-in-Err-clause-cause g c =
     let back = rw c.into_source.ensures.faults at c.shut.ensures.cause in
     let fresh = c.new-pass.ensures.faults ∙ c.in-Ok.ensures.fresh in
     rw c.stop_of_query.ensures.stop (pass_cause _ c.in-Err.fault _ _ _ _ _ _ _ c.in-Err.ensures.cause fresh back c.in-Ok.ensures.cause)
+
+pub returns-in-Err-clause-out : goal.returns-in-Err-clause-out
+returns-in-Err-clause-out g c = rw c.stop_of_query.ensures.stop (kept_unasked _ c.in-Err.fault _ _ (λ is. c.answer-asked.ensures.memory (c.in-Err.is ∙ ap Err is)))
 
 pub returns-in-Ok-asked-clause-told : goal.returns-in-Ok-asked-clause-told
 returns-in-Ok-asked-clause-told g c = λ files is.
