@@ -58,7 +58,7 @@ def started(room, words, pipe=b"", **how):
 
 def other_files(room, before, made):
     """The files that are not as they must be."""
-    after, wanted = files_in(room), {**before, **{os.path.relpath(room / path, room): content for path, content in made.items()}}
+    after, wanted = files_in(room), {**before, **{os.path.relpath(os.path.realpath(room / path), os.path.realpath(room)): content for path, content in made.items()}}
     for name in sorted(after.keys() | wanted.keys()):
         yield from difference(f"the file {name}", (after.get(name),), (wanted.get(name),))
 
@@ -339,6 +339,66 @@ def of_own_files(room):
     yield from said(0, room, "-n", 1, "-d", "d", "d/shard-0001", out=b"")
 
 
+def with_links(room):
+    """The same, with links to the files in d, and a folder e with a link to the keys."""
+    _, (first, second), _ = with_files(room)
+    (room / "e").mkdir()
+    for link, file in (("soft", "d/shard-0001"), ("counted", "d/counts"), ("to", "d"), ("e/shard-0003", "../keys"), ("all", first), ("d/own", "counts"), ("twice", "soft")):
+        (room / link).symlink_to(file)
+    os.link(room / "d/shard-0000", room / "hard")
+    os.link(room / second, room / "d/hard.mph")
+    return first, second
+
+
+def of_linked_keys(room):
+    """Splits of a file to which a link, or another way to write its path, leads from one that they would make: every file is kept, and none is made."""
+    with_links(room)
+    for shards, folder, name in ((1, "d", "hard"), (1, "d", "d/../d/shard-0000"), (1, "d", "./d/shard-0000"), (1, "d", "d//shard-0000"), (1, "d", room / "d/shard-0000"), (1, room / "d", "d/shard-0000"),
+                                 (2, "d", "soft"), (2, "d", "twice"), (4096, "d", "soft"), (3, "d", "counted"), (3, "d", "d/own"), (1, "to", "d/shard-0000"), (1, "d", "to/shard-0000"), (2, "to/", "to/../soft"),
+                                 (4, "e", "keys"), (9, room / "e", "to/../keys"), (4, "e", "e/../e/shard-0003")):
+        yield from said(5, room, "-n", shards, "-d", folder, name, out=b"", err=f"{folder}: cannot write")
+    for folder, name in ((".", "shard-0000"), ("../to", "counts")):
+        yield from said(5, room / "d", "-n", 1, "-d", folder, name, out=b"", err=f"{folder}: cannot write")
+    yield from redirected(room, "d/shard-0000", 5)
+
+
+def redirected(room, keys, status):
+    """A split of what is redirected to standard input."""
+    before, words = files_in(room), ["-n", "2", "-d", "d", "/dev/stdin"]
+    with open(room / keys, "rb") as file:
+        left = started(room, words, None, stdin=file)
+    made = {} if status else plain.ended(words, room, before[keys]).made
+    yield from difference(f"a split of {keys} by /dev/stdin", left, (status, b"", plain.said("d: cannot write") if status else b""))
+    yield from other_files(room, before, made)
+
+
+def of_linked_functions(room):
+    """Joins onto a function file, or the counts that they read, to which links lead."""
+    first, second = with_links(room)
+    whole = room / first, room / second
+    for manifest, names in (("all", (first, second)), ("d/hard.mph", (first, second)), ("d/hard.mph", (second,)), ("d/hard.mph", whole), ("d/../d/shard-0001.mph", whole), ("to/shard-0000.mph", whole),
+                            ("to/hard.mph", whole), (first, (room / "to/shard-0000.mph",)), ("d/own", ("-d", "d", *whole)), ("counted", ("-d", "d", first, second)), ("d/counts", ("-d", "to", first, second))):
+        yield from said(5, room, "-j", "-m", manifest, *names, out=b"", err=f"{manifest}: cannot write")
+    yield from said(3, room, "-j", "-m", "counted", "-d", "d", second, out=b"", err="d/counts: another count at line 1")
+    yield from said(4, room, "-j", "-m", "all", first, "none", out=b"", err="none: cannot read")
+
+
+def of_other_links(room):
+    """Links that lead to no file that is read, or from none that is made, stop nothing; nor do earlier files, a pipe and what is redirected."""
+    _, (first, second), _ = with_files(room)
+    (room / "e").mkdir()
+    for link, file in (("soft", "keys"), ("to", "d"), ("e/shard-0003", "../keys")):
+        (room / link).symlink_to(file)
+    os.link(room / "keys", room / "hard")
+    for manifest, names in (("d/all", ("-d", "to", first, second)), ("to/all", ("-d", "d", room / first, room / second)), ("all", (f"to/{first[2:]}", second)), ("all", (first, second))):
+        yield from said(0, room, "-j", "-m", manifest, *names, out=b"")
+    for shards, folder, name in ((2, "d", "keys"), (2, "d", "soft"), (2, "to", "hard"), (2, "d/../to/", "d/../keys"), (3, "e", "keys")):
+        yield from said(0, room, "-n", shards, "-d", folder, name, out=b"")
+    yield from redirected(room, "keys", 0)
+    yield from said(0, room, "-n", 2, "-d", "d", "/dev/stdin", out=b"", pipe=b"f\ng\n")
+    yield from said(0, room, "-n", 1, "-d", "to", "d/shard-0001", out=b"")
+
+
 def of_equal_keys(room):
     """A shard without keys, and one with equal keys, of which all lines are in it: no function is built."""
     (room / "d").mkdir()
@@ -593,7 +653,7 @@ def cases(room):
     put(commands / "one.mph", dumps.BDZ_ONE)
     (commands / "d").mkdir()
     yield of_commands(commands)
-    for body in (of_small, of_manifests, of_functions, of_other_algorithms, of_names, of_own_files, of_equal_keys, of_full_disks, of_outputs):
+    for body in (of_small, of_manifests, of_functions, of_other_algorithms, of_names, of_own_files, of_linked_keys, of_linked_functions, of_other_links, of_equal_keys, of_full_disks, of_outputs):
         yield case(body)
     for body, is_there, why in (
         (of_small_disk, can_mount(new_room(room, "mount")), "no file system can be mounted"), (of_calls, has_compiler(), "there is no C compiler"),

@@ -131,6 +131,11 @@ class Folder:
         except (OSError, ValueError) as failed:  # a name with byte 0 is a ValueError
             raise Stop(4, f"{path}: cannot read") from failed
 
+    def lead_to_one(self, path, other):
+        """Whether two paths lead to one file, which neither a pipe nor a device is."""
+        one, two = self.path / path, self.path / other
+        return path != "/dev/stdin" and os.path.isfile(one) and os.path.isfile(two) and os.path.samefile(one, two)
+
     def takes(self, path):
         """Whether a file may be written there."""
         at = self.path / path
@@ -185,10 +190,11 @@ def keep(path, others):
 
 def split(options, files, folder):
     where, (name,) = options["d"], files
-    keep(name, [os.path.join(where, made) for made in ["counts", *map(shard_name, range(options["n"]))]])
+    paths = [os.path.join(where, made) for made in ["counts", *map(shard_name, range(options["n"]))]]
+    keep(name, paths)
     end = b"\0" if "z" in options else b"\n"
     keys, long = filters.keys_in(folder.read(name), end, options.get("k"))
-    if not folder.takes(os.path.join(where, "counts")):
+    if any(folder.lead_to_one(name, path) for path in paths) or not folder.takes(paths[0]):
         raise Stop(5, f"{where}: cannot write")
     pieces, counts = [[] for _ in range(options["n"])], [0] * options["n"]
     for key in keys.values():
@@ -267,7 +273,8 @@ def entry_of(name, text, function, offset):
 
 def join(options, files, folder):
     path, entries, algorithm, offset = options["m"], [], None, 0
-    keep(path, [path_of(path, name_of(path, file)) for file in files] + [os.path.join(options["d"], "counts") for letter in "d" if letter in options])
+    paths = [path_of(path, name_of(path, file)) for file in files] + [os.path.join(options["d"], "counts") for letter in "d" if letter in options]
+    keep(path, paths)
     for file in files:
         name = name_of(path, file)
         at = path_of(path, name)
@@ -284,7 +291,7 @@ def join(options, files, folder):
         there, wanted = folder.read(counts), counts_text(entry.keys for entry in entries)
         if there != wanted:
             raise Stop(3, f"{counts}: another count at line {1 + os.path.commonprefix([there, wanted]).count(10)}")
-    if not folder.takes(path):
+    if any(folder.lead_to_one(read, path) for read in paths) or not folder.takes(path):
         raise Stop(5, f"{path}: cannot write")
     return Ended(0, made={path: manifest_bytes(Manifest(algorithm, ROUTE_SEED, entries))})
 

@@ -14,11 +14,12 @@ pub record DiskCalls : Type 0 where
   pub creates : ℕ
   pub closes : ℕ
   pub extends : ℕ
+  pub checks : ℕ
   pub spills : ℕ
 
 -- nothing is listed, and nothing was called
 abbrev pub no_calls : DiskCalls
-no_calls = record { listed = []; opens = 0; creates = 0; closes = 0; extends = 0; spills = 0 }
+no_calls = record { listed = []; opens = 0; creates = 0; closes = 0; extends = 0; checks = 0; spills = 0 }
 
 -- `==` on kinds
 abbrev pub same_kind : DiskCall → DiskCall → Bool
@@ -31,6 +32,6 @@ numbers kind listed = map (λ call. call.1) (filter (λ call. same_kind call.0 k
 -- the calls are stored as the tuple of their fields
 abbrev pub calls_code : Coded DiskCalls
 calls_code =
-    code_by (List (DiskCall × ℕ) × (ℕ × (ℕ × (ℕ × (ℕ × ℕ))))) (coded× (coded_list (coded× the_row.coded coded_ℕ)) (coded× coded_ℕ (coded× coded_ℕ (coded× coded_ℕ (coded× coded_ℕ coded_ℕ)))))
-    (λ c. (c.listed, (c.opens, (c.creates, (c.closes, (c.extends, c.spills))))))
-    (λ p. record { listed = p.0; opens = p.1.0; creates = p.1.1.0; closes = p.1.1.1.0; extends = p.1.1.1.1.0; spills = p.1.1.1.1.1 }) (λ _. refl)
+    code_by (List (DiskCall × ℕ) × (ℕ × (ℕ × (ℕ × (ℕ × (ℕ × ℕ)))))) (coded× (coded_list (coded× the_row.coded coded_ℕ)) (coded× coded_ℕ (coded× coded_ℕ (coded× coded_ℕ (coded× coded_ℕ (coded× coded_ℕ coded_ℕ))))))
+    (λ c. (c.listed, (c.opens, (c.creates, (c.closes, (c.extends, (c.checks, c.spills)))))))
+    (λ p. record { listed = p.0; opens = p.1.0; creates = p.1.1.0; closes = p.1.1.1.0; extends = p.1.1.1.1.0; checks = p.1.1.1.1.1.0; spills = p.1.1.1.1.1.1 }) (λ _. refl)

@@ -184,6 +184,16 @@ impl AppendDisk for BentDisk {
         append_to(self.alloc, &mut self.made, piece)?;
         Ok(())
     }
+
+    fn check_distinct(&mut self, _read: &str, _made: &str) -> Result<(), DiskFault>
+        ensures cause { HasDiskCause self.old.write_faults self.new.write_faults result }
+
+        // Each path has a file of its own, and nothing changes.
+        ensures fine { IsOk result }
+        ensures state { self.new ≡ self.old }
+    {
+        Ok(())
+    }
 }
 
 /// Appends bytes to those that are there, or to none. If memory runs out, they stay as before.

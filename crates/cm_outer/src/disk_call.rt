@@ -1,6 +1,6 @@
 //! The kinds of calls that can be made to fail in a disk in memory.
 
-/// A kind of call. The first five are a disk's own; the others are those of each reader, writer and spill that it makes.
+/// A kind of call. The first six are a disk's own; the others are those of each reader, writer and spill that it makes.
 #[derive(Clone, Copy, Debug, PartialEq, Eq)]
 pub enum DiskCall {
     /// `open` of the disk.
@@ -11,6 +11,8 @@ pub enum DiskCall {
     Close,
     /// `append` of the disk, to a file.
     Extend,
+    /// `check_distinct` of the disk.
+    CheckDistinct,
     /// `spill` of the disk.
     Spill,
     /// `read` of a reader.

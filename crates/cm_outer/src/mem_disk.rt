@@ -1,5 +1,5 @@
 //! A disk in memory.
-ghost use Rattle.std.specs.Prelude.{◌≡◌, ◌<◌, ◌≤◌, ◌+◌, ◌-◌, ◌↔◌, ◌⊎◌, ◌++◌, ◌∷◌, ◌||◌, [], None, Some, IfOk, OnOk, OnErr, IsErr, Contains, is_err, length, min, nat_lt, option_copied, take};
+ghost use Rattle.std.specs.Prelude.{◌≡◌, ◌<◌, ◌≤◌, ◌+◌, ◌-◌, ◌↔◌, ◌⊎◌, ◌++◌, ◌∷◌, ◌||◌, [], None, Some, IfErr, IfOk, OnOk, OnErr, IsErr, Contains, is_err, length, min, nat_lt, option_copied, take};
 ghost use Rattle.std.specs.FinMap as maps;
 ghost use Rattle.std.specs.Option.{ForSome};
 ghost use Rattle.cm_io.specs.Causes.{HasDiskCause, Collects, HasCloseCause};
@@ -37,6 +37,7 @@ pub struct MemDisk {
     creates: u64,
     closes: u64,
     extends: u64,
+    checks: u64,
     spills: u64,
 }
 
@@ -55,7 +56,7 @@ impl Model for MemDisk {
       spilled = option_map (λ v. v.items) d.spilled;
       read_faults = d.read_faults;
       write_faults = d.write_faults;
-      calls = record { listed = d.listed.items; opens = d.opens; creates = d.creates; closes = d.closes; extends = d.extends; spills = d.spills };
+      calls = record { listed = d.listed.items; opens = d.opens; creates = d.creates; closes = d.closes; extends = d.extends; checks = d.checks; spills = d.spills };
     } };
 }
 
@@ -76,12 +77,13 @@ impl MemDisk {
             creates: 0,
             closes: 0,
             extends: 0,
+            checks: 0,
             spills: 0,
         }
     }
 
     /// Lists one more call that fails: the call with this number, from 0, among the calls of its kind. `Open`, `Create`, `Close`,
-    /// `Extend` and `Spill` are the disk's own calls. The other kinds are counted for each reader, writer or spill by itself, and fail in each that
+    /// `Extend`, `CheckDistinct` and `Spill` are the disk's own calls. The other kinds are counted for each reader, writer or spill by itself, and fail in each that
     /// is made from now on. If memory runs out, the list stays as before.
     pub fn fail(&mut self, call: DiskCall, number: u64) -> Result<(), AllocError>
         ensures ok { OnOk result (self.new ≡ record self.old {
@@ -329,6 +331,27 @@ impl AppendDisk for MemDisk {
         let part = self.fitting(path, piece);
         extend_bytes(&mut self.files, path, part)?;
         if part.len() < piece.len() {
+            self.write_faults = self.write_faults.saturating_add(1);
+            return Err(DiskFault::Failed);
+        }
+        Ok(())
+    }
+
+    fn check_distinct(&mut self, _read: &str, _made: &str) -> Result<(), DiskFault>
+        ensures files { Some self.new.files ≡ Some self.old.files }
+        ensures spilled { self.new.spilled ≡ self.old.spilled }
+        ensures read_faults { self.new.read_faults ≡ self.old.read_faults }
+        ensures cause { HasDiskCause self.old.write_faults self.new.write_faults result }
+
+        // There are no links. It fails exactly if it is listed, and never for memory.
+        ensures fails { IsErr result ↔ Contains self.old.calls.listed (DiskCall.CheckDistinct, self.old.calls.checks) }
+        ensures failed { IfErr result (λ fault. fault ≡ DiskFault.Failed) }
+        ensures state { self.new ≡ record self.old {
+          write_faults = counted_if (is_err result) self.old.write_faults;
+          calls = record self.old.calls { checks = counted self.old.calls.checks };
+        } }
+    {
+        if next_is_listed(&self.listed, DiskCall::CheckDistinct, &mut self.checks) {
             self.write_faults = self.write_faults.saturating_add(1);
             return Err(DiskFault::Failed);
         }

@@ -1,6 +1,6 @@
 //! Real files. The contents of the disk are not known here. If those of a file are, a read returns what comes next in it. An
 //! interrupted call is repeated.
-ghost use Rattle.std.specs.Prelude.{◌≡◌, ◌<◌, ◌≤◌, [], None, Some, Err, IfOk, IfSome, OnOk, is_err, length, take, nat_lt, string_bytes};
+ghost use Rattle.std.specs.Prelude.{◌≡◌, ◌<◌, ◌≤◌, [], None, Some, Err, IfErr, IfOk, IfSome, OnOk, is_err, length, take, nat_lt, string_bytes};
 ghost use Rattle.std.specs.Io.KnownBytes.{Appends, Consumes, IsAtEnd, append_known};
 ghost use Rattle.std.specs.Io.Seek.{MovesTo};
 ghost use Rattle.std.specs.Option.{ForSome};
@@ -16,7 +16,7 @@ use cm_io_append::AppendDisk;
 use std::alloc::{AllocError, Global};
 use std::fs::OpenFile;
 use std::io::{ErrorKind, Read, Seek, SeekFrom, Write};
-use std::os::unix::fs::OpenOptionsExt;
+use std::os::unix::fs::{MetadataExt, OpenOptionsExt};
 use std::path::Path;
 use std::rt::Files;
 use std::{fs, io};
@@ -127,6 +127,32 @@ fn extended<R: Files>(rt: &R, path: &str, piece: &[u8]) -> Option<R::File>
             Some(file)
         }
         Err(_) => None,
+    }
+}
+
+/// The metadata of the file that a path leads to, if there is any. An interrupted call is repeated.
+fn metadata_of<R: Files>(rt: &R, path: &str) -> Option<fs::Metadata> {
+    for _ in 0..u64::MAX {
+        match fs::metadata(rt, path) {
+            Ok(metadata) => return Some(metadata),
+            Err(error) => {
+                if error.kind() != ErrorKind::Interrupted {
+                    return None;
+                }
+            }
+        }
+    }
+    None
+}
+
+/// Whether both paths lead to the same regular file. Others, as pipes and terminals, may be read and written by one run.
+fn lead_to_one_file<R: Files>(rt: &R, path: &str, other: &str) -> bool {
+    match (metadata_of(rt, path), metadata_of(rt, other)) {
+        (Some(one), Some(two)) => {
+            one.is_file() && two.is_file() && one.dev() == two.dev() && one.ino() == two.ino()
+        }
+        // What isn't there can't be opened, or is created anew.
+        _ => false,
     }
 }
 
@@ -317,5 +343,22 @@ impl<'a, R: Files> AppendDisk for FileDisk<'a, R> {
                 Err(DiskFault::Failed)
             }
         }
+    }
+
+    fn check_distinct(&mut self, read: &str, made: &str) -> Result<(), DiskFault>
+        ensures read_faults { self.new.read_faults ≡ self.old.read_faults }
+        ensures cause { HasDiskCause self.old.write_faults self.new.write_faults result }
+
+        // It never fails for memory.
+        ensures failed { IfErr result (λ fault. fault ≡ DiskFault.Failed) }
+
+        // A failure counts once, and nothing else does.
+        ensures count { self.new.write_faults ≡ counted_if (is_err result) self.old.write_faults }
+    {
+        if lead_to_one_file(self.rt, read, made) {
+            self.write_faults = self.write_faults.saturating_add(1);
+            return Err(DiskFault::Failed);
+        }
+        Ok(())
     }
 }

@@ -17,7 +17,8 @@ use std::alloc::Global;
 /// function files that they name, or answers the keys of the file that they name by the functions of a manifest. Returns the status: 0 it
 /// is done, and in a query each key has a number; 1 a key has no number, or a test found the functions at fault; 2 the arguments ask for no
 /// job; 3 a manifest, a function file or the counts are refused; 4 a file can't be opened or read; 5 a file can't be created, written or
-/// closed, or out can't be written; 6 out of memory; 8 a line that is too long, or too many lines.
+/// synced, or would take the place of one that is read, or out can't be written; 6 out of memory; 8 a line that is too long, or too many
+/// lines.
 pub fn shards_run<D: AppendDisk, O: Sink, E: Sink>(
     alloc: Global,
     words: &[String],

@@ -1,8 +1,10 @@
 -- From the end of a join to what the top call promises.
-use Rattle.std.proofs.Common.{◌≡◌, ◌≢◌, ◌∙◌, ◌⊎◌, ◌↔◌, ℕ, ◌<◌, ◌^◌, [], Option, None, Some, Err, true, inl, inr, refl, ap, sym, arith, false}
+use Rattle.std.proofs.Common.{◌≡◌, ◌≢◌, ◌∙◌, ◌⊎◌, ◌↔◌, ℕ, ◌<◌, ◌^◌, List, [], Option, None, Some, Err, true, false, inl, inr, refl, ap, sym, arith}
 use Rattle.std.specs.Option.{ForSome, option_map}
 use Rattle.cm_io.specs.Files.{Files, with_file}
 use Rattle.cm_io.specs.States.{Outside}
+use Rattle.cm_io.specs.declared.fault.DiskFault.{DiskFault}
+use Rattle.cm_io.specs.declared.fault.DiskFault.TheVariants as disk_fault
 use Rattle.cm_shards_join.specs.Joins.{StoppedReading, frame_of}
 use Rattle.cm_shards_join.specs.Leaves.{EndsStop, IsCutShort, IsJoined, IsReadCause, IsStopCause, LeavesStop}
 use Rattle.cm_shards_join.specs.Outcomes.{outcome_by, outcome_of, saving}
@@ -13,6 +15,7 @@ use Rattle.cm_shards_join.specs.declared.stop.JoinStop.TheVariants.{Another, Bad
 use Rattle.cm_shards_manifest.specs.Manifests.{Manifest}
 use Rattle.cm_shards_words.specs.declared.jobs.JoinJob.{JoinJob}
 use Rattle.cm_spec.specs.Lists.{has}
+use Rattle.cm_tool_building.specs.Stores.{Stores}
 use Rattle.cm_tool_stops.specs.DoesLaws.{neither}
 use Rattle.cm_tool_stops.specs.Ending.{Outcome, refusal}
 use Rattle.cm_tool_stops.specs.Ends.{Says}
@@ -40,6 +43,11 @@ made_leaves job r r' old new (BadName path) cause same ends = (same, ends)
 made_leaves job r r' old new (BadDump path fault) cause same ends = (same, ends)
 made_leaves job r r' old new (Another path) cause same ends = (same, ends)
 made_leaves job r r' old new (BadCounts path line) cause same ends = (same, ends)
+
+-- a manifest that was not created
+pub none_stored : (path bytes : List ℕ) (old new : Option Files) (fault : DiskFault) → new ≡ old → Stores path bytes old new (Err fault)
+none_stored path bytes old new disk_fault.Memory same = inl same
+none_stored path bytes old new disk_fault.Failed same = inl same
 
 -- ---- the status
 

@@ -9,7 +9,7 @@ use cm_words_arguments::Text;
 use std::alloc::{AllocError, Global};
 
 /// The path at which the function file of an argument is read. It fails if memory runs out.
-fn path_for(alloc: Global, manifest: &str, function: &str) -> Result<Text, AllocError>
+pub(crate) fn path_for(alloc: Global, manifest: &str, function: &str) -> Result<Text, AllocError>
     ensures path { IfOk result (λ path. path ≡ path_for manifest.now function.now) }
 {
     let name = name_of(alloc, manifest, function)?;

@@ -2,6 +2,7 @@
 #![tactic(auto)]
 
 mod counting;
+mod distinct;
 mod driving;
 pub mod examples;
 mod inputs;

@@ -18,6 +18,6 @@ pub enum JoinStop {
     Another { path: Text },
     /// The text of the counts differs from that of the keys of the functions at a line, counted from 1.
     BadCounts { path: Text, line: u64 },
-    /// The manifest can't be created, written or closed.
+    /// The manifest can't be created, written or synced, or its path leads to a file that is read.
     Write,
 }

@@ -5,6 +5,7 @@ ghost use Rattle.cm_io.specs.Files.{Creates as IsCreated, Files};
 ghost use Rattle.cm_shards_split.specs.Names.{counts_path};
 ghost use Rattle.cm_shards_split.specs.Parts.{Creates, CreatesParts, HavePaths, Written};
 
+use crate::distinct::check_paths;
 use crate::part::Part;
 use cm_io::DiskFault;
 use cm_io_append::AppendDisk;
@@ -39,7 +40,21 @@ fn create_parts<D: AppendDisk>(parts: &[Part], disk: &mut D) -> Result<(), DiskF
 }
 
 /// Creates the file of the counts, and then that of each shard.
-pub(crate) fn create_files<D: AppendDisk>(
+fn create_files<D: AppendDisk>(counts: &str, parts: &[Part], disk: &mut D) -> Result<(), DiskFault>
+    ensures creates { (dir : List ℕ) → counts.now ≡ counts_path dir → HavePaths dir parts.now → Creates dir (length parts.now) (D.state disk.old).files (D.state disk.new).files result }
+    ensures spilled { (D.state disk.new).spilled ≡ (D.state disk.old).spilled }
+    ensures read_faults { (D.state disk.new).read_faults ≡ (D.state disk.old).read_faults }
+    ensures cause { HasDiskCause (D.state disk.old).write_faults (D.state disk.new).write_faults result }
+{
+    match create_empty(counts, disk) {
+        Ok(()) => create_parts(parts, disk),
+        Err(fault) => Err(fault),
+    }
+}
+
+/// Creates the same files, after it was checked that none of them is the keys file.
+pub(crate) fn create_checked<D: AppendDisk>(
+    keys: &str,
     counts: &str,
     parts: &[Part],
     disk: &mut D,
@@ -49,8 +64,8 @@ pub(crate) fn create_files<D: AppendDisk>(
     ensures read_faults { (D.state disk.new).read_faults ≡ (D.state disk.old).read_faults }
     ensures cause { HasDiskCause (D.state disk.old).write_faults (D.state disk.new).write_faults result }
 {
-    match create_empty(counts, disk) {
-        Ok(()) => create_parts(parts, disk),
+    match check_paths(keys, counts, parts, disk) {
+        Ok(()) => create_files(counts, parts, disk),
         Err(fault) => Err(fault),
     }
 }

@@ -30,9 +30,9 @@ fn split_keys<D: AppendDisk, E: Sink>(
 }
 
 /// Splits the lines of a keys file into shards, and returns the status: 0 the files of the shards have all lines, and that of the counts
-/// how many each has; 4 the keys file can't be opened or read; 5 a file can't be created or written, or the keys file is one of those to be
-/// made; 6 out of memory; 8 a line that is too long, or too many lines: the files of the shards have the lines before it. The keys file is
-/// read once. No file is made before it is open and the memory of all buffers is taken.
+/// how many each has; 4 the keys file can't be opened or read; 5 a file can't be created, written or synced, or the keys file is one of
+/// those to be made; 6 out of memory; 8 a line that is too long, or too many lines: the files of the shards have the lines before it. The
+/// keys file is read once. No file is made before it is open and the memory of all buffers is taken.
 pub fn split_job<D: AppendDisk, E: Sink>(
     alloc: Global,
     job: &SplitJob,

@@ -3,6 +3,7 @@
 
 mod counts;
 mod creating;
+mod distinct;
 mod driving;
 pub mod examples;
 mod finishing;

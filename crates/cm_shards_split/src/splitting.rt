@@ -9,7 +9,7 @@ ghost use Rattle.cm_shards_split.specs.Parts.{AreNew};
 ghost use Rattle.cm_shards_split.specs.Streaming.{HasSplitCause};
 ghost use Rattle.cm_shards_words.specs.Limits.{IsSplitJob};
 
-use crate::creating::create_files;
+use crate::creating::create_checked;
 use crate::part::Part;
 use crate::stop::SplitStop;
 use crate::streaming::stream;
@@ -29,7 +29,7 @@ pub(crate) fn stop_of(fault: DiskFault) -> SplitStop
     }
 }
 
-/// Creates the files, and puts each line into its shard.
+/// Creates the files, none of which may be the keys file, and puts each line into its shard.
 fn split_lines<S: Source, D: AppendDisk>(
     lines: &mut Lines<S>,
     job: &SplitJob,
@@ -48,7 +48,7 @@ fn split_lines<S: Source, D: AppendDisk>(
     ensures read_faults { (D.state disk.new).read_faults ≡ (D.state disk.old).read_faults }
     ensures cause { HasSplitCause lines.old.faults lines.new.faults (D.state disk.old).write_faults (D.state disk.new).write_faults result }
 {
-    match create_files(counts, parts, disk) {
+    match create_checked(job.keys.as_str(), counts, parts, disk) {
         Ok(()) => {}
         Err(DiskFault::Memory) => return Err(SplitStop::Memory),
         Err(DiskFault::Failed) => return Err(SplitStop::Write),

@@ -7,7 +7,7 @@ pub enum SplitStop {
     Memory,
     /// The keys file can't be opened or read.
     Read,
-    /// A file of the folder can't be created or written.
+    /// A file of the folder can't be created, written or synced, or its path leads to the keys file.
     Write,
     /// A line, counted from 1, has more bytes than a key.
     TooLong { line: u64 },

@@ -56,7 +56,7 @@ pub fn note_unread<E: Sink>(file: &str, err: &mut E, notes: &mut Notes)
     note_file(file, b": cannot read\n", err, notes);
 }
 
-/// Notes that a file can't be created, written or closed.
+/// Notes that a file can't be created, written or synced.
 pub fn note_unwritten<E: Sink>(file: &str, err: &mut E, notes: &mut Notes)
     ensures noted { Noted notes.old notes.new (E.state err.old) (E.state err.new) (cannot_write program file.now) }
     ensures sent { notes.new ≡ false → (E.state err.new).waits ≡ 0 }

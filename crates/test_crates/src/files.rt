@@ -101,6 +101,41 @@ fn a_file_is_appended_to(rt: HostRuntime) -> Result<(), Fail> {
     Ok(())
 }
 
+/// What checks of a file beside four paths return: of the file itself in another spelling, a hard link to it, a copy, and nothing.
+fn checked<D: AppendDisk>(
+    alloc: Global,
+    disk: &mut D,
+    folder: &str,
+) -> Result<[Result<(), DiskFault>; 4], AllocError> {
+    let read = format!(in alloc; "{folder}/read")?;
+    let mut checks = [Ok(()); 4];
+    let names = ["./read", "link", "copy", "none"];
+    for i in 0..4 {
+        let made = format!(in alloc; "{folder}/{}", names[i])?;
+        checks[i] = disk.check_distinct(read.as_str(), made.as_str());
+    }
+    Ok(checks)
+}
+
+#[test]
+fn paths_that_lead_to_one_file(rt: HostRuntime) -> Result<(), Fail> {
+    let folder = new_folder(&rt)?;
+    let read = format!(in rt.alloc(); "{}/read", folder.as_str())?;
+    let link = format!(in rt.alloc(); "{}/link", folder.as_str())?;
+    let copy = format!(in rt.alloc(); "{}/copy", folder.as_str())?;
+    fs::write(&rt, read.as_str(), "abc")?;
+    fs::hard_link(&rt, read.as_str(), link.as_str())?;
+    fs::write(&rt, copy.as_str(), "abc")?;
+    let mut disk = FileDisk::new(&rt, rt.alloc(), 7);
+    let checks = checked(rt.alloc(), &mut disk, folder.as_str())?;
+    let folders = disk.check_distinct(folder.as_str(), folder.as_str());
+    fs::remove_dir_all(&rt, folder.as_str())?;
+    let failed = Err(DiskFault::Failed);
+    expect_equal(&rt, &checks, &[failed, failed, Ok(()), Ok(())]);
+    expect_equal(&rt, &folders, &Ok(()));
+    Ok(())
+}
+
 /// A folder is not read, and a folder that isn't there has no file and no spill.
 #[test]
 fn folders(rt: HostRuntime) -> Result<(), Fail> {

@@ -2,7 +2,7 @@
 use crate::equal::expect_equal;
 use cm_io::{Disk, DiskFault, Failed, Sink, Spill};
 use cm_io_append::{AppendDisk, read_whole};
-use cm_outer::{BentDisk, MemDisk, MemSource};
+use cm_outer::{BentDisk, DiskCall, MemDisk, MemSource};
 use std::test::Fail;
 
 pub fn store<D: Disk>(disk: &mut D, path: &str, bytes: &[u8]) -> Result<(), DiskFault> {
@@ -75,6 +75,19 @@ fn unknown_files_are_appended_to(rt: HostRuntime) -> Result<(), Fail> {
     let stored = store_pieces(&mut disk, "out", b"abc", b"def");
     expect_equal(&rt, &stored, &Ok(()));
     expect_equal(&rt, &disk.made(), &Some(b"abcdef".as_slice()));
+    expect_equal(&rt, &disk.check_distinct("out", "out"), &Ok(()));
+    Ok(())
+}
+
+/// The second check is listed.
+#[test]
+fn paths_are_checked(rt: HostRuntime) -> Result<(), Fail> {
+    let mut disk = MemDisk::new(rt.alloc(), 6);
+    disk.fail(DiskCall::CheckDistinct, 1)?;
+    for wanted in [Ok(()), Err(DiskFault::Failed), Ok(())] {
+        expect_equal(&rt, &disk.check_distinct("keys", "out"), &wanted);
+    }
+    expect_equal(&rt, &disk.write_faults(), &1);
     Ok(())
 }
 

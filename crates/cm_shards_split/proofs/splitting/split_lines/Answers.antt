@@ -12,7 +12,7 @@ pub stream-requires-clause-splitting : goal.stream-requires-clause-splitting
 stream-requires-clause-splitting g c =
     let job = c.args.job.now in
     let old = (g.D.Disk.state c.args.disk.now).files in
-    let now = (g.D.Disk.state c.create_files.new.disk).files in
+    let now = (g.D.Disk.state c.create_checked.new.disk).files in
     let few : job.shards ≤ 4096 = omega (arith, c.requires.job.shards.1) in
     let created = c.in-Ok.ensures.creates job.dir c.requires.counts (new_paths c.requires.new few) in
     let written : Written job.dir old (replicate job.shards []) now = subst (λ (n : ℕ). Written job.dir old (replicate n []) now) c.requires.new.many created in
@@ -23,7 +23,7 @@ pub returns-clause-leaves : goal.returns-clause-leaves
 returns-clause-leaves g c =
     let job = c.args.job.now in
     let old = (g.D.Disk.state c.args.disk.now).files in
-    let now = (g.D.Disk.state c.create_files.new.disk).files in
+    let now = (g.D.Disk.state c.create_checked.new.disk).files in
     let few : job.shards ≤ 4096 = omega (arith, c.requires.job.shards.1) in
     let created = c.in-Ok.ensures.creates job.dir c.requires.counts (new_paths c.requires.new few) in
     let written : Written job.dir old (replicate job.shards []) now = subst (λ (n : ℕ). Written job.dir old (replicate n []) now) c.requires.new.many created in
