@@ -484,6 +484,7 @@ import reports  # noqa: E402, F401
 import filters  # noqa: E402, F401
 import stores  # noqa: E402, F401
 import splits  # noqa: E402, F401
+import endless  # noqa: E402, F401
 
 
 def main():

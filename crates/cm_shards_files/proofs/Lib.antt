@@ -5,3 +5,5 @@ mod MapLemmas
 mod ReadLemmas
 mod RouteLemmas
 mod TakenLemmas
+mod HashLemmas
+mod SumLemmas

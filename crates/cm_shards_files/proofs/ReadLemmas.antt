@@ -1,12 +1,19 @@
--- What is read of a file.
-use Rattle.std.proofs.Common.{◌≡◌, ◌∙◌, ℕ, List, Option, Some, Result, Ok, Err, ap, sym}
-use Rattle.std.specs.Prelude.{IfOk}
-use Rattle.std.specs.Option.{ForSome}
-use Rattle.cm_io.specs.Files.{Files, Opens, file_at}
-use Rattle.cm_io.specs.declared.fault.DiskFault.{DiskFault}
+-- What is read of a manifest.
+use Rattle.std.proofs.Common.{◌≡◌, ◌∙◌, ℕ, List, Ok, Err, sym}
+use Rattle.cm_io.specs.Files.{Files}
+use Rattle.cm_shards_files.specs.Loading.{DecidesManifest, SpellsManifest}
+use Rattle.cm_shards_files.specs.Steps.{ReadsManifest, fault_unread}
+use Rattle.cm_shards_manifest.specs.Loads.{FailsAs}
+use Rattle.cm_shards_manifest.specs.ManifestFiles.{manifest_in}
+use Rattle.cm_shards_manifest.specs.Manifests.{Manifest}
+use Rattle.cm_shards_manifest.specs.declared.fault.ManifestUnread.{ManifestUnread}
+use Rattle.cm_shards_manifest.specs.declared.fault.ManifestUnread.TheVariants.{Memory, Bad}
 
--- all bytes that a reader over a file has are those of the file
-pub whole_from : {V : Type 0} (items : V → List ℕ) (known : Option Files) (path : List ℕ) (told : Option (List ℕ)) (place : ℕ) (result : Result V DiskFault) → ForSome known (λ files. Opens files path told place) → IfOk result (λ v. ForSome told (λ bytes. items v ≡ bytes))
-    → IfOk result (λ v. ForSome known (λ files. file_at files path ≡ Some (items v)))
-whole_from items known path told place (Ok v) opens whole = λ files is. (let opened = opens files is in opened.there ∙ ap (λ (b : List ℕ). let o : Option (List ℕ) = Some b in o) (sym (whole opened.bytes opened.tells)))
-whole_from items known path told place (Err fault) opens whole = tt
+-- bytes that decide it have the manifest of the file
+pub spells_by : (files : Files) (path begin : List ℕ) (m : Manifest) → DecidesManifest files path begin → manifest_in begin ≡ Ok m → SpellsManifest files path m
+spells_by files path begin m decides is = (decides.bytes, decides.there, sym decides.same ∙ is)
+
+-- or its fault
+pub fails_by : (files : Files) (path begin : List ℕ) (fault : ManifestUnread) → DecidesManifest files path begin → FailsAs fault (manifest_in begin) → ReadsManifest files path (Err (fault_unread fault))
+fails_by files path begin Memory decides is = tt
+fails_by files path begin (Bad fault) decides is = (decides.bytes, decides.there, sym decides.same ∙ is)

@@ -1,5 +1,7 @@
 pub mod Taken
 pub mod FunctionFiles
+pub mod Hashing
+pub mod Sums
 pub mod Shards
 pub mod ShardsLaws
 pub mod Loading

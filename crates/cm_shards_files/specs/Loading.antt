@@ -1,6 +1,6 @@
 -- The functions that a manifest and its function files come to. The first file that is missing or at fault decides, in this order: the
 -- manifest, and the function files in the order of the shards.
-use Rattle.std.specs.Prelude.{◌≡◌, ◌≤◌, ◌++◌, ◌==◌, ◌&&◌, ℕ, Bool, List, [], ◌∷◌, length, nat_eq, Option, None, Some, Result, Ok, Err, if◌then◌else◌}
+use Rattle.std.specs.Prelude.{◌≡◌, ◌≤◌, ◌++◌, ◌==◌, ◌&&◌, ℕ, Bool, List, [], ◌∷◌, length, take, nat_eq, Option, None, Some, Result, Ok, Err, if◌then◌else◌}
 use Rattle.std.specs.Cmp.Lexicographic.{pointwise}
 use Rattle.cm_algo_names.specs.declared.algorithm.Algorithm.{Algorithm}
 use Rattle.cm_dump_items.specs.declared.fault.LoadFault.{LoadFault}
@@ -25,6 +25,18 @@ pub record ChangesNoFile (old new : DiskState) : Type 0 where
   pub files : new.files ≡ old.files
   pub spilled : new.spilled ≡ old.spilled
   pub write_faults : new.write_faults ≡ old.write_faults
+
+-- These are the first bytes of the file of a path, up to a limit.
+pub record Begins (files : Files) (path : List ℕ) (limit : ℕ) (begin : List ℕ) : Type 0 where
+  pub bytes : List ℕ
+  pub there : file_at files path ≡ Some bytes
+  pub first : begin ≡ take limit bytes
+
+-- These bytes decide which manifest the file of a path has, or which fault.
+pub record DecidesManifest (files : Files) (path begin : List ℕ) : Type 0 where
+  pub bytes : List ℕ
+  pub there : file_at files path ≡ Some bytes
+  pub same : manifest_in begin ≡ manifest_in bytes
 
 -- a function file is the one that a manifest speaks of: its algorithm, its number of keys, its span, its length and its digest are
 abbrev pub is_of : Algorithm → Shard → FunctionFile → Bool

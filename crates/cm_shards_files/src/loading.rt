@@ -9,7 +9,7 @@ ghost use Rattle.cm_shards_manifest.specs.Manifests.{IsManifest};
 
 use crate::fault::ShardsFault;
 use crate::file::{FunctionFile, is_by, keys_of, read_function};
-use crate::reading::read_file;
+use crate::reading::read_manifest_file;
 use crate::shards::Shards;
 use cm_algo_names::Algorithm;
 use cm_algo_scheme::Answers;
@@ -39,7 +39,7 @@ fn manifest_of<D: Disk>(alloc: Global, path: &str, disk: &mut D) -> Result<Manif
     ensures reads { ForSome (D.state disk.old).files (λ files. ReadsManifest files path.now result) }
     ensures valid { IfOk result IsManifest }
 {
-    let bytes = match read_file(alloc, path, disk) {
+    let bytes = match read_manifest_file(alloc, path, disk) {
         Ok(bytes) => bytes,
         Err(DiskFault::Memory) => return Err(ShardsFault::Memory),
         Err(DiskFault::Failed) => return Err(ShardsFault::NoManifest),

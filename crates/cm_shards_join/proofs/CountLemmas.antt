@@ -1,6 +1,6 @@
 -- The text of counts, and the first line at which two texts differ.
-use Rattle.std.proofs.Common.{◌≡◌, ◌≢◌, ◌∙◌, ℕ, ◌+◌, ◌<◌, ◌≤◌, List, [], ◌∷◌, ◌++◌, length, take, drop, get_or, ap, sym, arith, refl, append-nil, Option, Some, None, true, false}
-use Rattle.std.specs.Prelude.{◌==◌, decimal, map}
+use Rattle.std.proofs.Common.{◌≡◌, ◌≢◌, ◌∙◌, ℕ, zero, suc, ◌+◌, ◌<◌, ◌≤◌, List, [], ◌∷◌, ◌++◌, length, take, drop, get_or, ap, sym, arith, refl, append-nil, Option, Some, None, true, false}
+use Rattle.std.specs.Prelude.{◌==◌, decimal, map, if◌then◌else◌}
 use Rattle.std.proofs.Math.ListN.{drop_of_length-le}
 use Rattle.std.proofs.lemmas.Grind.{flat_map-append}
 use Rattle.std.proofs.lemmas.List.{drop_more, map-append, take_more}
@@ -56,10 +56,24 @@ pub differs_never : (line : ℕ) (text other : List ℕ) (i : ℕ) → length te
 unfolding differs_from
 differs_never line text other i ended over = rw (drop_of_length-le text ended, drop_of_length-le other over) refl
 
+-- the first bytes of the other text, if they are more than the text has
+differs_near : (line : ℕ) (text other : List ℕ) (k : ℕ) → length text < k → differs_from line text (take k other) ≡ differs_from line text other
+unfolding differs_from
+differs_near line text other zero more = absurd (omega (arith, more))
+differs_near line [] [] (suc k) more = refl
+differs_near line [] (c ∷ cs) (suc k) more = refl
+differs_near line (b ∷ bs) [] (suc k) more = refl
+differs_near line (b ∷ bs) (c ∷ cs) (suc k) more = ap (λ (o : Option ℕ). if b == c then o else Some line) (differs_near (next_line line b) bs cs k (omega (arith, more)))
+
 -- what comparing comes to
-pub counted : (files : Files) (dir path bytes text other : List ℕ) (shards : List Shard) (o : Option ℕ) → path ≡ counts_path dir → file_at files path ≡ Some bytes → text ≡ keys_text shards → other ≡ bytes → o ≡ line_apart text other → compare_counts files (Some dir) shards ≡ Some (counted_unless path o)
+counted : (files : Files) (dir path bytes text other : List ℕ) (shards : List Shard) (o : Option ℕ) → path ≡ counts_path dir → file_at files path ≡ Some bytes → text ≡ keys_text shards → other ≡ bytes → o ≡ line_apart text other → compare_counts files (Some dir) shards ≡ Some (counted_unless path o)
 unfolding compare_counts
 counted files dir path bytes text other shards o at there same found is =
     let file : file_at files (counts_path dir) ≡ Some bytes = ap (file_at files) (sym at) ∙ there in
     let line : line_apart (keys_text shards) bytes ≡ o = ap (λ (l : List ℕ). line_apart l bytes) (sym same) ∙ ap (line_apart text) (sym found) ∙ sym is in
     rw (file, line, at) refl
+
+-- the same, by the first bytes of the counts
+pub counted_near : (files : Files) (dir path bytes text other : List ℕ) (shards : List Shard) (k : ℕ) (o : Option ℕ) → path ≡ counts_path dir → file_at files path ≡ Some bytes → text ≡ keys_text shards → other ≡ take k bytes → length text < k → o ≡ line_apart text other → compare_counts files (Some dir) shards ≡ Some (counted_unless path o)
+counted_near files dir path bytes text other shards k o at there same found more is =
+    counted files dir path bytes text bytes shards o at there same refl (is ∙ ap (line_apart text) found ∙ differs_near 1 text bytes k more)

@@ -9,7 +9,7 @@ ghost use Rattle.cm_shards_split.specs.Names.{counts_path};
 
 use crate::stop::JoinStop;
 use cm_io::{Disk, DiskFault};
-use cm_shards_files::read_file;
+use cm_shards_files::read_start;
 use cm_shards_manifest::Shard;
 use cm_words_arguments::Text;
 use itoa::Buffer;
@@ -88,7 +88,9 @@ fn compare_in<D: Disk>(
         Ok(text) => text,
         Err(_) => return Err(JoinStop::Memory),
     };
-    let counts = match read_file(alloc, path.as_str(), disk) {
+    // One byte more shows that the counts are longer.
+    let limit = text.len() + 1;
+    let counts = match read_start(alloc, path.as_str(), limit, disk) {
         Ok(counts) => counts,
         Err(DiskFault::Memory) => return Err(JoinStop::Memory),
         Err(DiskFault::Failed) => return Err(JoinStop::Read { path }),

@@ -5,3 +5,4 @@ pub mod FolderLemmas
 pub mod FromLemmas
 pub mod SpellingLemmas
 pub mod ReadBackLemmas
+pub mod NearLemmas

@@ -1,6 +1,6 @@
 //! The fields of a file whose bytes are lent, each read at its offset and checked.
-ghost use Rattle.std.specs.Prelude.{◌≡◌, ◌+◌, ◌<◌, ◌≤◌, ◌^◌, IfOk, IsTrue, IsUtf8, OnOk, length};
-ghost use Rattle.cm_dump_items.specs.Reading.{Answers, field_at, item_at};
+ghost use Rattle.std.specs.Prelude.{◌≡◌, ◌+◌, ◌<◌, ◌≤◌, ◌^◌, IfErr, IfOk, IsTrue, IsUtf8, OnOk, length};
+ghost use Rattle.cm_dump_items.specs.Reading.{Answers, IsByteFault, field_at, item_at};
 ghost use Rattle.cm_shards_manifest.specs.Fields.{is_width, width_of};
 ghost use Rattle.cm_shards_manifest.specs.ManifestItems.{name_at};
 
@@ -16,6 +16,7 @@ pub(crate) fn field(file: &[u8], at: u64, n: u64, low: u64, high: u64) -> Result
     ensures inside { OnOk result (at + n ≤ length file.now) }
     ensures range { IfOk result (λ x. (low ≤ x) × (x ≤ high)) }
     ensures exact { Answers (λ x. x) result (field_at (width_of n) file.now at low high) }
+    ensures kind { IfErr result IsByteFault }
 {
     let item = lent_item(file, at, n)?;
     let mut buf = [0; 8];

@@ -1,6 +1,6 @@
 //! The header of a manifest.
-ghost use Rattle.std.specs.Prelude.{◌≡◌, ◌≤◌, IfOk, OnOk, length};
-ghost use Rattle.cm_dump_items.specs.Reading.{Answers, zeros_at};
+ghost use Rattle.std.specs.Prelude.{◌≡◌, ◌≤◌, IfErr, IfOk, OnOk, length};
+ghost use Rattle.cm_dump_items.specs.Reading.{Answers, IsByteFault, zeros_at};
 ghost use Rattle.cm_route.specs.declared.route.TheConstants.{MAX_SHARDS};
 ghost use Rattle.cm_shards_manifest.specs.ManifestBytes.{algorithm_number};
 ghost use Rattle.cm_shards_manifest.specs.ManifestItems.{algorithm_of, header_at, magic_at};
@@ -57,6 +57,7 @@ fn algorithm_of(number: u8) -> Algorithm
 #[tactic(auto, unfolding(crate::specs::ManifestItems::magic_at))]
 fn read_magic(file: &[u8]) -> Result<(), LoadFault>
     ensures exact { Answers (λ x. x) result (magic_at file.now) }
+    ensures kind { IfErr result IsByteFault }
 {
     let mut buf = [0; 8];
     buf.copy_from_slice(lent_item(file, 0, 8)?);
@@ -71,6 +72,7 @@ fn read_magic(file: &[u8]) -> Result<(), LoadFault>
 #[tactic(auto, unfolding(cm_dump_items::specs::Reading::zeros_at))]
 fn read_zeros(file: &[u8]) -> Result<(), LoadFault>
     ensures exact { Answers (λ x. x) result (zeros_at file.now 9 3) }
+    ensures kind { IfErr result IsByteFault }
 {
     field(file, 9, 1, 0, 0)?;
     field(file, 10, 1, 0, 0)?;
@@ -84,6 +86,7 @@ pub(crate) fn read_header(file: &[u8]) -> Result<Header, LoadFault>
     ensures inside { OnOk result (HEADER_LEN ≤ length file.now) }
     ensures shards { IfOk result (λ h. (1 ≤ h.shards) × (h.shards ≤ MAX_SHARDS)) }
     ensures exact { Answers (λ h. h) result (header_at file.now) }
+    ensures kind { IfErr result IsByteFault }
 {
     read_magic(file)?;
     let number = field(file, 8, 1, 1, 4)? as u8;

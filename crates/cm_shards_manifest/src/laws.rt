@@ -1,16 +1,22 @@
 //! Laws of manifests. Each function has an empty body, and its clauses are proved for all manifests, bytes and paths.
 ghost use Rattle.std.specs.Path.{IsRelative};
-ghost use Rattle.std.specs.Prelude.{◌≡◌, ◌++◌, ℕ, List, Ok};
+ghost use Rattle.std.specs.Prelude.{◌≡◌, ◌≤◌, ◌++◌, ℕ, List, Ok, length};
 ghost use Rattle.cm_bits.specs.Bound.{AllBelow};
 ghost use Rattle.cm_shards_manifest.specs.ManifestBytes.{manifest_bytes};
 ghost use Rattle.cm_shards_manifest.specs.ManifestFiles.{manifest_in};
 ghost use Rattle.cm_shards_manifest.specs.Manifests.{IsManifest, Manifest};
 ghost use Rattle.cm_shards_manifest.specs.Paths.{folder_of, name_of, path_of};
-ghost use Rattle.cm_shards_manifest.specs.declared.limits.TheConstants.{MAX_NAME};
+ghost use Rattle.cm_shards_manifest.specs.declared.limits.TheConstants.{MAX_MANIFEST_BYTES, MAX_NAME};
 
 /// A name has at most 4,095 bytes, so that its length is a `u16`.
 pub fn max_name()
     ensures { MAX_NAME ≡ 4095 }
+{}
+
+/// A manifest has at most 17,010,740 bytes: each has no more than `MAX_MANIFEST_BYTES`.
+pub fn max_manifest_bytes()
+    ensures value { MAX_MANIFEST_BYTES ≡ 17010740 }
+    ensures most { (m : Manifest) → IsManifest m → length (manifest_bytes m) ≤ MAX_MANIFEST_BYTES }
 {}
 
 /// Bytes are the file of one manifest at most, and a manifest has one file. A manifest is read from its file as it was written, and so

@@ -14,7 +14,8 @@ mod shard;
 mod writer;
 
 pub use crate::fault::{ManifestFault, ManifestUnread};
-pub use crate::limits::MAX_NAME;
+pub use crate::header::HEADER_LEN;
+pub use crate::limits::{MAX_MANIFEST_BYTES, MAX_NAME, read_limit};
 pub use crate::manifest::Manifest;
 pub use crate::paths::{name_of, path_of};
 pub use crate::reader::read_manifest;

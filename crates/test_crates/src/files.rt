@@ -2,7 +2,7 @@
 use crate::equal::{expect_bytes, expect_equal, expect_true};
 use crate::memory::{Uses, store, store_pieces};
 use cm_io::{Disk, DiskFault, Failed, Source, Spill, write_pieces};
-use cm_io_append::{AppendDisk, read_whole};
+use cm_io_append::{AppendDisk, read_prefix};
 use cm_real::{FileDisk, StdSink};
 use std::alloc::{AllocError, AllocGlobal, Global};
 use std::fs;
@@ -75,9 +75,11 @@ fn a_file_is_written_and_read(rt: HostRuntime) -> Result<(), Fail> {
 /// All bytes of a file.
 fn whole_file<D: Disk>(alloc: Global, disk: &mut D, path: &str) -> Result<Vec<u8>, DiskFault> {
     let mut reader = disk.open(path)?;
-    let outcome = read_whole(alloc, &mut reader);
+    let mut bytes = Vec::new(alloc);
+    let outcome = read_prefix(&mut reader, usize::MAX, &mut bytes);
     disk.shut(reader);
-    outcome
+    outcome?;
+    Ok(bytes)
 }
 
 #[test]

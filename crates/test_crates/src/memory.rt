@@ -1,7 +1,7 @@
-//! Appends to files in memory, a source that is read whole, and the uses of disks and spills that real ones are put to as well.
-use crate::equal::expect_equal;
+//! Appends to files in memory, the first bytes of a source, and the uses of disks and spills that real ones are put to as well.
+use crate::equal::{expect_bytes, expect_equal};
 use cm_io::{Disk, DiskFault, Failed, Sink, Spill};
-use cm_io_append::{AppendDisk, read_whole};
+use cm_io_append::{AppendDisk, read_prefix};
 use cm_outer::{BentDisk, DiskCall, MemDisk, MemSource};
 use std::test::Fail;
 
@@ -91,12 +91,17 @@ fn paths_are_checked(rt: HostRuntime) -> Result<(), Fail> {
     Ok(())
 }
 
-/// The second read fails.
+/// Two bytes are read, and then the others. The third read fails.
 #[test]
-fn a_source_that_fails(rt: HostRuntime) -> Result<(), Fail> {
+fn a_source_is_read_up_to_a_limit(rt: HostRuntime) -> Result<(), Fail> {
     let alloc = rt.alloc();
-    let mut source = MemSource::new(b"abc".to_vec(alloc)?, [1].to_vec(alloc)?, Vec::new(alloc));
-    let fault = read_whole(alloc, &mut source).err();
+    let mut source = MemSource::new(b"abc".to_vec(alloc)?, [2].to_vec(alloc)?, Vec::new(alloc));
+    let mut bytes = Vec::new(alloc);
+    let two = read_prefix(&mut source, 2, &mut bytes);
+    expect_equal(&rt, &two, &Ok(()));
+    expect_bytes(&rt, bytes.as_slice(), b"ab");
+    let fault = read_prefix(&mut source, usize::MAX, &mut bytes).err();
     expect_equal(&rt, &fault, &Some(DiskFault::Failed));
+    expect_bytes(&rt, bytes.as_slice(), b"abc");
     Ok(())
 }
