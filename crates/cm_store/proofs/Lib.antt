@@ -3,3 +3,6 @@ mod AllPlaces
 mod Looking
 mod FillLemmas
 mod NumberLemmas
+mod Built
+mod Lines
+mod Comes

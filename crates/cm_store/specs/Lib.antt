@@ -1,3 +1,4 @@
 pub mod Stores
 pub mod Numbers
 pub mod Faults
+pub mod Builds

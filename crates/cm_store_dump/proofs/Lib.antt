@@ -1,5 +1,4 @@
 pub mod Loads
-pub mod Built
 pub mod Made
 pub mod Saved
 pub mod Usage

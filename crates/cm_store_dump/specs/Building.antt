@@ -5,12 +5,12 @@ use Rattle.cm_bdz.specs.Functions.{IsBdz}
 use Rattle.cm_io.specs.Passes.{Told}
 use Rattle.cm_spec.specs.Bdz.{bdz_rule}
 use Rattle.cm_store.specs.Stores.{IsStore, records_of, store_under}
+use Rattle.cm_store.specs.declared.building.StoreBuildFault.{StoreBuildFault}
+use Rattle.cm_store.specs.declared.building.StoreBuildFault.TheVariants as build_fault
 use Rattle.cm_store_dump.specs.Program.{naming}
 use Rattle.cm_store_dump.specs.declared.files.StoreFile.{StoreFile}
 use Rattle.cm_store_file.specs.StoreFiles.{store_bytes}
 use Rattle.cm_store_records.specs.Records.{first_large, keys_of_lines, records_of_lines}
-use Rattle.cm_store_records.specs.declared.read.ReadFault.{ReadFault}
-use Rattle.cm_store_records.specs.declared.read.ReadFault.TheVariants as read_faults
 use Rattle.cm_store_words.specs.Limits.{IsStoreBuild}
 use Rattle.cm_store_words.specs.declared.jobs.StoreBuild.{StoreBuild}
 use Rattle.cm_tool_building.specs.Building.{Building}
@@ -64,11 +64,13 @@ MayStop stops.Spill = ⊥
 MayStop (stops.SpillDamaged offset expected found) = ⊥
 MayStop stop = Unit {0}
 
--- why no store is made of lines that aren't read
-abbrev pub fault_from : ReadFault → Fault CoreReport
-fault_from read_faults.Memory = faults.Memory
-fault_from (read_faults.Key fault) = faults.Key fault
-fault_from (read_faults.TooLarge line) = faults.TooLarge line
+-- why there is no store of lines, for the driver
+abbrev pub fault_from : StoreBuildFault → Fault CoreReport
+fault_from build_fault.Memory = faults.Memory
+fault_from build_fault.NoKeys = faults.NoKeys
+fault_from (build_fault.Cored made) = faults.Refused NoSeed (record { certificate = made })
+fault_from (build_fault.Key fault) = faults.Key fault
+fault_from (build_fault.TooLarge line) = faults.TooLarge line
 
 abbrev pub meaning_of : StoreBuild → Meaning StoreFile
 meaning_of job = record {

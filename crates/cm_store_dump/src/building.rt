@@ -14,8 +14,6 @@ use cm_tool_building::{BuildFiles, Builder, Fault, build};
 use cm_tool_cells::CoreReport;
 use cm_tool_stops::Names;
 use std::alloc::Global;
-use std::marker::Brand;
-use std::sync::ledger::Blank;
 
 /// What builds the store of a job.
 #[derive(Drop)]
@@ -38,7 +36,7 @@ impl Builder for StoreBuilder {
         keys: &mut P,
         _disk: &mut D,
     ) -> Result<StoreFile, Fault<CoreReport>> {
-        make_store::<P, Brand>(alloc, &self.job, keys, Blank::new(1))
+        make_store::<P>(alloc, &self.job, keys)
     }
 
     fn say<E: Sink>(&self, _made: &StoreFile, _err: &mut E) {}
