@@ -3,4 +3,5 @@ mod Equal
 mod GivenLemmas
 mod PassLemmas
 mod PutLemmas
+mod Rising
 mod WordsLemmas

@@ -1,7 +1,8 @@
 //! The equal keys of an overfull bucket.
-ghost use Rattle.std.specs.Prelude.{◌≡◌, ◌≢◌, ◌⊎◌, ℕ, ◌+◌, ◌≤◌, List, [], ◌∷◌, ◌++◌, drop, IfOk, IfErr, IfSome, IfNone, IsTrue, OnOk, None, true};
+ghost use Rattle.std.specs.Prelude.{◌≡◌, ◌≢◌, ◌⊎◌, ℕ, ◌+◌, ◌<◌, ◌≤◌, List, [], ◌∷◌, ◌++◌, drop, map, Ok, IfOk, IfErr, IfSome, IfNone, IsTrue, OnOk, None, true};
+ghost use Rattle.std.specs.List.Sorted.{IsStrictlyIncreasing};
 ghost use Rattle.std.specs.Option.{ForSome};
-ghost use Rattle.cm_io.specs.Passes.{Ends};
+ghost use Rattle.cm_io.specs.Passes.{Ends, GivesKey};
 ghost use Rattle.cm_spec.specs.declared.limits.TheConstants.{MAX_KEYS};
 ghost use Rattle.cm_io.specs.PassFaults.{HasPassCause, HasPassFailure, IfChanged, IsOtherCount};
 ghost use Rattle.cm_witness_gather.specs.Pairs.{pairs};
@@ -28,6 +29,8 @@ fn note_next<P: KeyPass>(
     ensures told { P.told keys.new ≡ P.told keys.old }
     ensures cause { HasPassCause (P.faults keys.old) (P.faults keys.new) result }
     ensures counts { IfOk result (λ o. IfSome o (λ _. P.place keys.new ≡ P.place keys.old + 1)) }
+    ensures rises { IfOk result (λ o. IfSome o (λ _. P.last keys.old < P.last keys.new)) }
+    ensures gives { IfOk result (λ o. IfSome o (λ _. ForSome (P.told keys.old) (λ told. (next : List ℕ) × GivesKey told (P.place keys.old) (P.place keys.new) (P.last keys.new) next (Ok true)))) }
     ensures usable { OnOk result (P.usable keys.new ≡ true) }
     ensures notes { IfOk result (λ o. IfSome o (λ here. ForSome (P.told keys.old) (λ told. NotesNext (drop (P.place keys.old) told.keys) (drop (P.place keys.new) told.keys) split.now.buckets split.now.seed bucket here equal.old.firsts equal.old.pairs.items equal.new.firsts equal.new.pairs.items))) }
     ensures ends { IfOk result (λ o. IfNone o (ForSome (P.told keys.old) (λ told. Ends told (P.place keys.old) None))) }
@@ -66,6 +69,9 @@ pub fn gather_equal<P: KeyPass>(
     ensures equal { IfOk result (λ equal. ForSome (P.told keys.old) (λ told. equal.items ≡ pairs (keys_of_bucket told.keys split.now.buckets split.now.seed over.bucket))) }
     ensures ended { OnOk result (P.at_end keys.new) }
     ensures gave { IfOk result (λ equal. GaveEqual (P.gave keys.new) split.now.buckets split.now.seed over.bucket over.count equal.items) }
+
+    // A whole pass, key by key, shows that the lines rise.
+    ensures rising { OnOk result (ForSome (P.told keys.old) (λ told. IsStrictlyIncreasing (map (λ key. key.0) told.keys))) }
 
     // There are fewer keys, or one more; or the bucket has another number of them.
     ensures changed { IfErr result (λ e. IfChanged e (λ first now. ((first ≡ m) × IsOtherCount first now (P.place keys.new))

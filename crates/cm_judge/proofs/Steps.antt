@@ -70,10 +70,10 @@ fails_from job files bytes (judge_fault.Changed first again) there fails = absur
 
 -- what was made of the keys of a file, which were passed as these known keys
 pub ends_keys : IsExact → (job : JudgeJob) (said : Said) (files : Files) (bytes : List ℕ) (source : Option (List ℕ)) (known : Option Told) (judged : Result Verdict JudgeFault) → IsReport said → HaveRisingLines (keys_of job bytes).keys → file_at files job.keys ≡ Some bytes
-    → source ≡ Some bytes → known ≡ option_map (keys_of job) source → IfOk judged (λ _. ForSome known (λ told. (told.fault ≡ None) × (0 < length told.keys))) → IfOk judged (λ verdict. ForSome known (λ told. HaveRisingLines told.keys → verdict ≡ verdict_of said told.keys (settings_of job)))
+    → source ≡ Some bytes → known ≡ option_map (keys_of job) source → IfOk judged (λ _. ForSome known (λ told. (told.fault ≡ None) × (0 < length told.keys))) → IfOk judged (λ verdict. ForSome known (λ told. verdict ≡ verdict_of said told.keys (settings_of job)))
     → IfErr judged (λ fault. ForSome known (λ told. FailsJudge told fault)) → EndsKeys job said files judged
 ends_keys exact job said files bytes source known (Ok verdict) valid rise there tells known_is some is fails =
     let here = known_is ∙ ap (λ (s : Option (List ℕ)). option_map (keys_of job) s) tells in
     let sound = some (keys_of job bytes) here in
-    verdict_from exact job said files bytes verdict valid rise there (sound.0, sound.1, is (keys_of job bytes) here rise)
+    verdict_from exact job said files bytes verdict valid rise there (sound.0, sound.1, is (keys_of job bytes) here)
 ends_keys exact job said files bytes source known (Err fault) valid rise there tells known_is some is fails = fails_from job files bytes fault there (fails (keys_of job bytes) (known_is ∙ ap (λ (s : Option (List ℕ)). option_map (keys_of job) s) tells))

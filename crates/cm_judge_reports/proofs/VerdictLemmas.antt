@@ -15,7 +15,6 @@ use Rattle.cm_judge_verdict.specs.Judged.{judged_by, rule_of}
 use Rattle.cm_judge_verdict.specs.MemberLaws.{RisesBy-weaker}
 use Rattle.cm_judge_verdict.specs.ReportLaws.{shown_edges_rise, shown_pairs_rise}
 use Rattle.cm_judge_verdict.specs.Rising.{RisesBy}
-use Rattle.cm_judge_verdict.specs.Truth.{HaveRisingLines}
 use Rattle.cm_judge_verdict.specs.Verdicts.{core_reasons, first_reason, graph_reasons, overfull_reasons, verdict_of}
 use Rattle.cm_judge_verdict.specs.declared.verdict.Settings.{Settings}
 use Rattle.cm_judge_verdict.specs.declared.verdict.Verdict.{Verdict}
@@ -74,11 +73,11 @@ bucket_verdict known algorithm place p seed m c edges equal settings (Ok verdict
 
 -- the verdict on an overfull bucket
 pub overfull_verdict : (known : Option Told) (split bucket count m : ℕ) (equal : List Pair) (settings : Settings) (r : Result Verdict PassFault) → ForSome known (AreCounted m)
-    → IfOk r (λ verdict. ForSome known (λ told. HaveRisingLines told.keys → verdict ≡ first_reason (overfull_reasons told.keys (bucket_count m settings.b) split bucket count equal)))
-    → IfOk r (λ verdict. ForSome known (λ told. HaveRisingLines told.keys → verdict ≡ verdict_of (overfull_said split bucket count equal) told.keys settings))
+    → IfOk r (λ verdict. ForSome known (λ told. verdict ≡ first_reason (overfull_reasons told.keys (bucket_count m settings.b) split bucket count equal)))
+    → IfOk r (λ verdict. ForSome known (λ told. verdict ≡ verdict_of (overfull_said split bucket count equal) told.keys settings))
 overfull_verdict known split bucket count m equal settings (Err fault) counted h = tt
-overfull_verdict known split bucket count m equal settings (Ok verdict) counted h = λ told told_is rise.
-    h told told_is rise ∙ ap (λ (n : ℕ). first_reason (overfull_reasons told.keys (bucket_count n settings.b) split bucket count equal)) (sym (counted told told_is).many)
+overfull_verdict known split bucket count m equal settings (Ok verdict) counted h = λ told told_is.
+    h told told_is ∙ ap (λ (n : ℕ). first_reason (overfull_reasons told.keys (bucket_count n settings.b) split bucket count equal)) (sym (counted told told_is).many)
 
 -- passes over counted keys fail as later ones
 pub fail_again : {T : Type 0} (known : Option Told) (m : ℕ) (r : Result T PassFault) → ForSome known (AreCounted m) → IfErr r (λ fault. ForSome known (λ told. FailsPass told m fault)) → IfErr r (λ fault. ForSome known (λ told. FailsAgain told fault))

@@ -6,7 +6,6 @@ ghost use Rattle.cm_io.specs.PassFaults.{IfChanged, IsOtherCount};
 ghost use Rattle.cm_judge_core.specs.Walks.{graph_judged};
 ghost use Rattle.cm_judge_reports.specs.Faults.{AreSettings, DiffersInBucket, FailsJudge, HasJudgeCause, HasJudgeCounts, HasJudgeFailure, NumbersDiffer, PassesAgain};
 ghost use Rattle.cm_judge_verdict.specs.Rising.{RisesBy};
-ghost use Rattle.cm_judge_verdict.specs.Truth.{HaveRisingLines};
 ghost use Rattle.cm_judge_verdict.specs.Verdicts.{first_reason, graph_reasons, verdict_of};
 ghost use Rattle.cm_spec.specs.Rule.{IsRatio};
 ghost use Rattle.cm_spec.specs.declared.limits.TheConstants.{MAX_KEYS};
@@ -147,7 +146,7 @@ fn verdict_on<P: KeyPass>(
     requires counted { ForSome (P.told keys.old) (AreCounted m) }
     requires report { IsReport (said_of report.now) }
     ensures passes { PassesAgain P.KeyPass keys.old keys.new result }
-    ensures verdict { IfOk result (λ verdict. ForSome (P.told keys.old) (λ told. HaveRisingLines told.keys → verdict ≡ verdict_of (said_of report.now) told.keys settings.now)) }
+    ensures verdict { IfOk result (λ verdict. ForSome (P.told keys.old) (λ told. verdict ≡ verdict_of (said_of report.now) told.keys settings.now)) }
     ensures changed { IfErr result (λ fault. IfChanged fault (λ first now. ((first ≡ m) × IsOtherCount first now (P.place keys.new)) ⊎ DiffersInBucket P.KeyPass keys.new first now)) }
 {
     match report {
@@ -188,7 +187,7 @@ pub fn judge<P: KeyPass>(
     ensures counts { IfErr result (HasJudgeCounts P.KeyPass keys.new) }
     ensures differs { IfErr result NumbersDiffer }
     ensures some { IfOk result (λ _. ForSome (P.told keys.old) (λ told. (told.fault ≡ None) × (0 < length told.keys))) }
-    ensures verdict { IfOk result (λ verdict. ForSome (P.told keys.old) (λ told. HaveRisingLines told.keys → verdict ≡ verdict_of (said_of report.now) told.keys settings.now)) }
+    ensures verdict { IfOk result (λ verdict. ForSome (P.told keys.old) (λ told. verdict ≡ verdict_of (said_of report.now) told.keys settings.now)) }
     ensures fault { IfErr result (λ fault. ForSome (P.told keys.old) (λ told. FailsJudge told fault)) }
 {
     let mut key = KeyBuf::new();

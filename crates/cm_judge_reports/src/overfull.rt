@@ -8,7 +8,6 @@ ghost use Rattle.cm_brz_split.specs.Passes.{AreCounted};
 ghost use Rattle.cm_io.specs.PassFaults.{HasOtherCount, IfChanged, IsOtherCount};
 ghost use Rattle.cm_judge_reports.specs.Faults.{DiffersInBucket, PassesAgain};
 ghost use Rattle.cm_judge_verdict.specs.Rising.{RisesBy};
-ghost use Rattle.cm_judge_verdict.specs.Truth.{HaveRisingLines};
 ghost use Rattle.cm_judge_verdict.specs.Verdicts.{first_reason, lowest_overfull, overfull_reasons};
 ghost use Rattle.cm_spec.specs.declared.limits.TheConstants.{MAX_KEYS, MAX_WIDTH, MIN_WIDTH};
 
@@ -70,7 +69,7 @@ pub(crate) fn overfull_verdict<P: KeyPass>(
     requires counted { ForSome (P.told keys.old) (AreCounted m) }
     requires equal { RisesBy (λ p. p.again) 0 equal.now }
     ensures passes { PassesAgain P.KeyPass keys.old keys.new result }
-    ensures verdict { IfOk result (λ verdict. ForSome (P.told keys.old) (λ told. HaveRisingLines told.keys →
+    ensures verdict { IfOk result (λ verdict. ForSome (P.told keys.old) (λ told.
         verdict ≡ first_reason (overfull_reasons told.keys (bucket_count m b) claim.split claim.bucket claim.count equal.now))) }
 
     // There are fewer keys, or one more; or the bucket has another number of them.

@@ -12,6 +12,10 @@ mod judge;
 #[cfg(test)]
 mod running;
 #[cfg(test)]
+mod shards;
+#[cfg(test)]
+mod shards_bytes;
+#[cfg(test)]
 mod store;
 #[cfg(test)]
 mod store_bytes;

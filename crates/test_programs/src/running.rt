@@ -1,9 +1,10 @@
 //! Programs that are run by their top calls over disks in memory, and what their runs leave.
 use crate::equal::expect_equal_at;
 use cm_filter_dump::filter_run;
-use cm_io::Disk;
+use cm_io_append::AppendDisk;
 use cm_judge::judge_run;
 use cm_outer::{BentDisk, DiskCall, MemDisk, MemSink};
+use cm_shards::shards_run;
 use cm_store_dump::store_run;
 use std::alloc::{AllocError, Global};
 use std::process::Abort;
@@ -16,6 +17,7 @@ pub(crate) const AMPLE: usize = 1_000;
 pub(crate) enum Program {
     Filter,
     Judge,
+    Shards,
     Store,
 }
 
@@ -24,6 +26,7 @@ fn path_of(program: Program) -> &'static str {
     match program {
         Program::Filter => "keys.flt",
         Program::Judge => "report",
+        Program::Shards => "d/all",
         Program::Store => "keys.rec",
     }
 }
@@ -55,14 +58,14 @@ pub(crate) fn sound<'a>(
 
 /// What a run leaves: its status, and what out and err got.
 #[derive(Drop)]
-struct Left {
-    status: u8,
+pub(crate) struct Left {
+    pub status: u8,
     out: Vec<u8>,
     err: Vec<u8>,
 }
 
 /// Runs a command of a program over a disk, with this room for out.
-fn run_over<D: Disk>(
+pub(crate) fn run_over<D: AppendDisk>(
     program: Program,
     alloc: Global,
     words: &[&str],
@@ -78,6 +81,7 @@ fn run_over<D: Disk>(
     let status = match program {
         Program::Filter => filter_run(alloc, &owned, disk, &mut out, &mut err),
         Program::Judge => judge_run(alloc, &owned, disk, &mut out, &mut err),
+        Program::Shards => shards_run(alloc, &owned, disk, &mut out, &mut err),
         Program::Store => store_run(alloc, &owned, disk, &mut out, &mut err),
     };
     Ok(Left {
@@ -103,7 +107,7 @@ fn disk_for(alloc: Global, program: Program, given: &Given) -> Result<MemDisk, A
 }
 
 /// Fails the test unless a run has left this: the status, out and err.
-fn expect_left(rt: &impl Abort, words: &[&str], left: &Left, end: (u8, &[u8], &str)) {
+pub(crate) fn expect_left(rt: &impl Abort, words: &[&str], left: &Left, end: (u8, &[u8], &str)) {
     let found = (left.status, left.out.as_slice(), left.err.as_slice());
     expect_equal_at(rt, &words, &found, &(end.0, end.1, end.2.as_bytes()));
 }

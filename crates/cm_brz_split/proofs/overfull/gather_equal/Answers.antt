@@ -1,5 +1,6 @@
 use Rattle.std.proofs.Common.{arith, rules, ◌∙◌, ℕ, ◌+◌, ap, sym}
 use Rattle.cm_brz_split.proofs.Equal.{GaveNoted, byte_is, byte_most, gave_equal, gave_one_noted, noted_more, pairs_noted, size_noted}
+use Rattle.cm_brz_split.proofs.Rising.{all_rise, one_rises}
 use Rattle.cm_brz_split.proofs.overfull.gather_equal.Goals as goal
 
 pub returns-in-None-clause-fault : goal.returns-in-None-clause-fault
@@ -21,6 +22,9 @@ loop-count-preserved g c =
       at = omega (arith, counts, before.at);
       few = omega (arith, byte_most c.in-Some.here, before.few);
       gave = gave_one_noted (g.P.KeyPass.gave c.loop-count.keys) (g.P.KeyPass.gave c.note_next.new.keys) c.loop-count.found _ _ _ _ _ _ _ _ c.in-Some.here before.gave (λ earlier given. rw c.in-Some.is at (c.in_ok-here.ensures.gave earlier given)) more;
+      rising = λ told is.
+          let gives = (rw c.in-Some.is at c.in_ok-here.ensures.gives) told (before.same ∙ is) in
+          one_rises _ _ _ _ told.keys _ gives.0 (before.rising told is) (rw c.in-Some.is at c.in_ok-here.ensures.rises) counts gives.1;
       noted = λ told is. noted_more c.loop-count.found _ _ _ _ _ told.keys _ _ _ _ _ c.in-Some.here (before.noted told is) (notes told (before.same ∙ is)) more;
     }
 
@@ -39,3 +43,8 @@ returns-clause-gave g c =
     let before = c.loop-count.invariant.gave in
     let now : GaveNoted (g.P.KeyPass.gave c.expect_end.new.keys) c.loop-count.found c.loop-count.equal.firsts c.loop-count.equal.pairs.items c.args.split.now.buckets c.args.split.now.seed c.args.over.bucket = record { keys = before.keys; given = c.in_ok-expect_end.ensures.gave before.keys before.given; are = before.are } in
     gave_equal (g.P.KeyPass.gave c.expect_end.new.keys) c.loop-count.found c.args.over.count _ _ _ _ _ _ now c.if-found-over.false c.into_pairs.ensures
+
+pub returns-clause-rising : goal.returns-clause-rising
+returns-clause-rising g c = λ told is.
+    let before = c.loop-count.invariant in
+    all_rise _ _ told.keys (before.rising told is) (c.in_ok-expect_end.ensures.end told (before.same ∙ is)).all

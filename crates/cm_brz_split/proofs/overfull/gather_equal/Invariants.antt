@@ -1,6 +1,7 @@
 use Rattle.std.proofs.Common.{◌≡◌, ◌≤◌, true, drop}
 use Rattle.std.specs.Option.{ForSome}
 use Rattle.cm_brz_split.proofs.Equal.{AreNotedBut, GaveNoted}
+use Rattle.cm_brz_split.proofs.Rising.{RiseTo}
 use Rattle.cm_brz_split.proofs.overfull.gather_equal.Given as goal
 
 abbrev pub invariant-loop-count : goal.invariant-loop-count
@@ -13,5 +14,6 @@ invariant-loop-count g l =
       at : P.place l.keys ≡ l.count;
       few : l.found ≤ l.count;
       gave : GaveNoted (P.gave l.keys) l.found l.equal.firsts l.equal.pairs.items l.split.buckets l.split.seed l.over.bucket;
+      rising : ForSome (P.told l.fn.keys) (λ told. RiseTo (P.place l.keys) (P.last l.keys) told.keys);
       noted : ForSome (P.told l.fn.keys) (λ told. AreNotedBut l.found l.equal.firsts l.equal.pairs.items (drop (P.place l.keys) told.keys) told.keys l.split.buckets l.split.seed l.over.bucket);
     }

@@ -21,12 +21,12 @@ by_pairs keys n k split low bucket size count real equal apart same at many over
     verdict_pairs keys k split bucket count equal apart (same_over keys n k split low bucket size count same at many over) (compared rises ∙ ap (λ (ps : List Pair). least (lines_apart ps equal)) own)
 
 pub returns-then-over-claim-clause-verdict : goal.returns-then-over-claim-clause-verdict
-returns-then-over-claim-clause-verdict g c = λ told is rise.
+returns-then-over-claim-clause-verdict g c = λ told is.
     let over = same_over told.keys _ (bucket_count c.args.m c.args.b) c.args.claim.split _ _ _ _ (c.new-buckets.ensures.value ∙ c.bucket_total.ensures.count) refl refl ((rw c.in-Some.is at c.in_ok-over.ensures.lowest) told is) in
     verdict_other told.keys (bucket_count c.args.m c.args.b) c.args.claim.split c.in-Some.over.bucket c.args.claim.bucket c.in-Some.over.count c.args.claim.count c.args.equal.now over c.if-over-claim.true
 
 pub returns-then-over-claim-2-clause-verdict : goal.returns-then-over-claim-2-clause-verdict
-returns-then-over-claim-2-clause-verdict g c = λ told is rise.
+returns-then-over-claim-2-clause-verdict g c = λ told is.
     let over = same_over told.keys _ (bucket_count c.args.m c.args.b) c.args.claim.split _ c.args.claim.bucket _ _ (c.new-buckets.ensures.value ∙ c.bucket_total.ensures.count) c.if-over-claim.false refl ((rw c.in-Some.is at c.in_ok-over.ensures.lowest) told is) in
     verdict_count told.keys (bucket_count c.args.m c.args.b) c.args.claim.split c.args.claim.bucket c.in-Some.over.count c.args.claim.count c.args.equal.now over c.if-over-claim-2.true
 
@@ -34,13 +34,13 @@ pub gather_equal-requires-clause-counted : goal.gather_equal-requires-clause-cou
 gather_equal-requires-clause-counted g c = λ told is. c.requires.counted told (sym c.find_over.ensures.passes.told ∙ is)
 
 pub returns-in-Some-first_apart-clause-verdict : goal.returns-in-Some-first_apart-clause-verdict
-returns-in-Some-first_apart-clause-verdict g c = λ told is rise.
+returns-in-Some-first_apart-clause-verdict g c = λ told is.
     by_pairs told.keys c.new-buckets.result (bucket_count c.args.m c.args.b) c.args.claim.split c.in-Some.over.bucket c.args.claim.bucket c.in-Some.over.count c.args.claim.count c.deref.result.now c.args.equal.now (Some c.in-Some-first_apart.line)
     (c.new-buckets.ensures.value ∙ c.bucket_total.ensures.count) c.if-over-claim.false c.if-over-claim-2.false ((rw c.in-Some.is at c.in_ok-over.ensures.lowest) told is)
-    (c.deref.ensures.value ∙ c.in_ok-real.ensures.equal told (c.find_over.ensures.passes.told ∙ is)) rise (λ rises. c.in-Some-first_apart.ensures.apart rises c.requires.equal)
+    (c.deref.ensures.value ∙ c.in_ok-real.ensures.equal told (c.find_over.ensures.passes.told ∙ is)) (c.in_ok-real.ensures.rising told (c.find_over.ensures.passes.told ∙ is)) (λ rises. c.in-Some-first_apart.ensures.apart rises c.requires.equal)
 
 pub returns-clause-verdict : goal.returns-clause-verdict
-returns-clause-verdict g c = λ told is rise.
+returns-clause-verdict g c = λ told is.
     by_pairs told.keys c.new-buckets.result (bucket_count c.args.m c.args.b) c.args.claim.split c.in-Some.over.bucket c.args.claim.bucket c.in-Some.over.count c.args.claim.count c.deref.result.now c.args.equal.now None
     (c.new-buckets.ensures.value ∙ c.bucket_total.ensures.count) c.if-over-claim.false c.if-over-claim-2.false ((rw c.in-Some.is at c.in_ok-over.ensures.lowest) told is)
-    (c.deref.ensures.value ∙ c.in_ok-real.ensures.equal told (c.find_over.ensures.passes.told ∙ is)) rise (λ rises. c.in-None-first_apart.ensures.apart rises c.requires.equal)
+    (c.deref.ensures.value ∙ c.in_ok-real.ensures.equal told (c.find_over.ensures.passes.told ∙ is)) (c.in_ok-real.ensures.rising told (c.find_over.ensures.passes.told ∙ is)) (λ rises. c.in-None-first_apart.ensures.apart rises c.requires.equal)
