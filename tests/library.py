@@ -338,6 +338,8 @@ def cases(room, callers):
         shards = run(caller, "route", 3, 7, "words", cwd=room).stdout.split()
         wanted = [str(judge.hashes(line.encode(), 3)[2] % 7) for line in (room / "words").read_text().split("\n") if line]
         case("shards", shards != wanted)
+        for watching in [[], WATCH] if shutil.which(WATCH[0]) else [[]]:
+            case(f"bytes at odd addresses {watching[:1]}", (left := run(*watching, caller, "shifted", "words", cwd=room)).returncode and left)
         refusals(room, caller)
 
 

@@ -12,6 +12,7 @@
  *   caller build ALGORITHM RATIO B SEED TRIES KEYS OUT     writes the function file; prints the code, `at` and `again`
  *   caller spilled RATIO B SEED TRIES KEYS OUT      the same by BRZ
  *   caller route SEED SHARDS KEYS                   a line for each line of KEYS: its shard
+ *   caller shifted KEYS                             bytes at odd addresses: prints nothing
  *   caller ends FUNCTION                            ends that are wrong: prints nothing
  *   caller most FUNCTION                            more keys than there may be: prints nothing
  *   caller hostile FUNCTION KEYS ROUNDS             structs and bytes of any values: prints nothing, and has to end
@@ -266,6 +267,63 @@ static void most(const char *function_path) {
     if (cmph_c_build_brz(none, 0, ends, many, &plan, none, 0, none, 0, &written, &place) != CMPH_C_TOO_MANY_KEYS || written != 77) fail("too many keys by BRZ");
 }
 
+/* The file of the function of keys whose bytes, spill and room begin so many bytes after an aligned address: it has `written` bytes. */
+static uint8_t *build_shifted(const key_list *keys, const cmph_c_plan *plan, size_t shift, uint64_t *written) {
+    size_t spill_len = keys->len + 10 * keys->many, len = (size_t)cmph_c_room(plan, (uint32_t)keys->many);
+    if (plan->algorithm == CMPH_C_BRZ) len = (size_t)(25 + 9 * (keys->many / plan->b + 1) + plan->ratio * (uint64_t)keys->many / 4000000);
+    uint8_t *at = (uint8_t *)room(shift + keys->len), *spill = (uint8_t *)room(shift + spill_len), *dump = (uint8_t *)room(shift + len);
+    cmph_c_place place;
+    memcpy(at + shift, keys->at, keys->len);
+    uint32_t code = plan->algorithm == CMPH_C_BRZ
+        ? cmph_c_build_brz(at + shift, keys->len, keys->ends, keys->many, plan, spill + shift, spill_len, dump + shift, len, written, &place)
+        : cmph_c_build(at + shift, keys->len, keys->ends, keys->many, plan, dump + shift, len, written, &place);
+    if (code != CMPH_C_OK) fail("a build at an odd address");
+    free(at);
+    free(spill);
+    return dump;
+}
+
+/* The numbers of keys whose bytes begin so many bytes after an aligned address, by a function whose bytes do. */
+static uint32_t *numbers_shifted(bytes dump, const key_list *keys, size_t shift) {
+    cmph_c_function function = CMPH_C_FUNCTION_INIT;
+    cmph_c_place place;
+    index_room index;
+    uint32_t *found = (uint32_t *)room(keys->many * sizeof(uint32_t));
+    key_list again = *keys;
+    uint8_t *at = (uint8_t *)room(shift + keys->len);
+    again.at = at + shift;
+    memcpy(again.at, keys->at, keys->len);
+    if (open_exactly(dump, &index, &function, &place) != CMPH_C_OK) fail("not opened at an odd address");
+    if (cmph_c_answers(&function, again.at, again.len, again.ends, again.many, found, again.many, &place) != CMPH_C_OK) fail("no numbers at an odd address");
+    ask(&function, &again);
+    free(index.at);
+    free(at);
+    return found;
+}
+
+/* Builds and numbers are the same at each address. */
+static void shifted(const char *keys_path) {
+    key_list keys = read_keys(keys_path);
+    for (uint32_t algorithm = CMPH_C_CHM; algorithm <= CMPH_C_BRZ; algorithm++) {
+        cmph_c_plan plan = {algorithm, algorithm == CMPH_C_CHM ? 2090000u : 1230000u, algorithm == CMPH_C_BRZ ? 64u : 7u, 1, 100};
+        uint64_t written = 0, other = 0;
+        uint8_t *dump = build_shifted(&keys, &plan, 0, &written);
+        bytes file = {dump, (size_t)written};
+        uint32_t *wanted = numbers_shifted(file, &keys, 0);
+        for (size_t shift = 1; shift < 8; shift++) {
+            uint8_t *again = build_shifted(&keys, &plan, shift, &other);
+            bytes moved = {again + shift, (size_t)other};
+            uint32_t *found = numbers_shifted(moved, &keys, shift);
+            if (other != written || memcmp(moved.at, dump, moved.len)) fail("another file at an odd address");
+            if (memcmp(found, wanted, keys.many * sizeof *found)) fail("other numbers at an odd address");
+            free(again);
+            free(found);
+        }
+        free(dump);
+        free(wanted);
+    }
+}
+
 /* What a struct of any values is made of. */
 typedef struct hostile_job {
     bytes dump;
@@ -412,6 +470,8 @@ int main(int many, char **words) {
         spills(words + 2);
     else if (!strcmp(job, "route") && many == 5)
         routes(words + 2);
+    else if (!strcmp(job, "shifted") && many == 3)
+        shifted(words[2]);
     else if (!strcmp(job, "ends") && many == 3)
         ends(words[2]);
     else if (!strcmp(job, "most") && many == 3)

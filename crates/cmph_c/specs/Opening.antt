@@ -1,11 +1,12 @@
 -- What opening the bytes of a function does.
-use Rattle.std.specs.Prelude.{◌≡◌, ◌/◌, ◌^◌, ℕ, List, Ok, length}
+use Rattle.std.specs.Prelude.{◌≡◌, ◌/◌, ◌^◌, ℕ, List, [], Ok, length}
 use Rattle.cm_dump.specs.Spelling.{spelling_of}
 use Rattle.cm_dump_brz.specs.declared.fault.OpenFault.{OpenFault}
 use Rattle.cm_dump_brz.specs.declared.fault.OpenFault.TheVariants as fault
 use Rattle.cm_dump_items.specs.Reading.{IsByteFault}
 use Rattle.cm_dump_lent.specs.Opened.{IsOpenFault, LacksIndex, func_by, lent_answer}
 use Rattle.cm_dump_lent.specs.declared.lent.Lent.{Lent}
+use Rattle.cm_dump_lent.specs.declared.lent.Lent.TheVariants as lent
 use Rattle.cm_func.specs.Functions.{answer_by}
 use Rattle.cm_func.specs.declared.function.Func.{Func}
 use Rattle.cm_func.specs.declared.function.Func.TheVariants as func
@@ -39,14 +40,22 @@ numbers_of (func.BdzPh f) =
 numbers_of (func.Brz f) =
     record { scaled = 2 ^ 32 / length f.buckets; keys_scaled = 0; keys = f.keys; ratio = f.ratio; seed = f.split; size = length f.buckets; b = f.width }
 
+-- what the algorithm of a function doesn't use is 0, or has nothing in it
+abbrev pub LacksOthers : Function → Lent → Type 0
+LacksOthers c (lent.Chm f) = (c.ranks.now ≡ []) × (c.index.now ≡ [])
+LacksOthers c (lent.Bdz f) = (c.index.now ≡ []) × (c.width ≡ 0)
+LacksOthers c (lent.BdzPh f) = (c.ranks.now ≡ []) × (c.index.now ≡ []) × (c.width ≡ 0)
+LacksOthers c (lent.Brz f) = c.ranks.now ≡ []
+
 -- The struct holds the function that the bytes spell, with its span, and so answers each key as that one does; its numbers are those of this
--- function. There was room for the index.
+-- function, and it has nothing else. There was room for the index.
 pub record IsOpened (bytes : List ℕ) (room : ℕ) (c : Function) : Type 0 where
   pub lent : Lent
   pub holds : Holds c lent
   pub spelled : spelling_of bytes ≡ Ok (func_by lent)
   pub answers : (key : List ℕ) → lent_answer lent key ≡ answer_by (func_by lent) key
   pub numbers : numbers_in c ≡ numbers_of (func_by lent)
+  pub others : LacksOthers c lent
   pub indexed : LacksIndex bytes room → ⊥
 
 -- the code of a refusal

@@ -1,12 +1,12 @@
 //! A function in memory of the caller's.
-ghost use Rattle.std.specs.Prelude.{◌≡◌, ◌≢◌, ◌<◌, ℕ, IfNone, IfSome, Some, length};
+ghost use Rattle.std.specs.Prelude.{◌≡◌, ◌≢◌, ◌<◌, ℕ, [], IfNone, IfSome, Some, length};
 ghost use Rattle.cm_bdz.specs.Lent.{FitsBdz, FitsBdzPh};
 ghost use Rattle.cm_chm.specs.Parts.{FitsChm};
 ghost use Rattle.cm_dump_brz.specs.Indexed.{FitsBrz, IndexedBrz};
 ghost use Rattle.cm_dump_brz.specs.Indexed as indexed;
 ghost use Rattle.cm_dump_lent.specs.Opened.{func_by};
 ghost use Rattle.cm_dump_lent.specs.declared.lent.Lent.TheVariants as lent;
-ghost use Rattle.cmph_c.specs.Opening.{numbers_in, numbers_of};
+ghost use Rattle.cmph_c.specs.Opening.{LacksOthers, numbers_in, numbers_of};
 ghost use Rattle.cmph_c.specs.Functions.{Holds, HoldsBrz, IsHeld, bdz_parts, bdz_ph_parts, brz_parts, chm_parts, number_of};
 
 use cm_algo_scheme::Answers;
@@ -239,6 +239,7 @@ fn brz_parts_of<'a>(function: &Function<'a>, version: Version) -> LentBrzParts<'
 pub(crate) fn put<'a>(lent: &Lent<'a>, out: &mut Function<'a>)
     ensures holds { Holds out.new lent.now }
     ensures numbers { numbers_in out.new ≡ numbers_of (func_by lent.now) }
+    ensures others { LacksOthers out.new lent.now }
 {
     let span = lent.span();
     *out = match lent {
@@ -255,6 +256,7 @@ fn of_chm<'a>(parts: ChmParts<'a>, span: u32) -> Function<'a>
     ensures kind { result.kind ≡ CHM }
     ensures span { result.span ≡ span }
     ensures unused { result.b ≡ 0 }
+    ensures others { (result.ranks.now ≡ []) × (result.index.now ≡ []) }
 {
     Function {
         cells: parts.cells,
@@ -279,6 +281,7 @@ fn of_bdz<'a>(parts: BdzParts<'a>, span: u32) -> Function<'a>
     ensures kind { result.kind ≡ BDZ }
     ensures span { result.span ≡ span }
     ensures unused { result.keys_scaled ≡ 0 }
+    ensures others { (result.index.now ≡ []) × (result.width ≡ 0) }
 {
     Function {
         cells: parts.cells,
@@ -303,6 +306,7 @@ fn of_bdz_ph<'a>(parts: BdzPhParts<'a>, span: u32) -> Function<'a>
     ensures kind { result.kind ≡ BDZ_PH }
     ensures span { result.span ≡ span }
     ensures unused { (result.keys_scaled ≡ 0) × (result.b ≡ 0) }
+    ensures others { (result.ranks.now ≡ []) × (result.index.now ≡ []) × (result.width ≡ 0) }
 {
     Function {
         cells: parts.cells,
@@ -339,6 +343,7 @@ fn of_brz<'a>(parts: LentBrzParts<'a>, span: u32) -> Function<'a>
     ensures span { result.span ≡ span }
     ensures size { result.size ≡ length result.index.now }
     ensures unused { result.keys_scaled ≡ 0 }
+    ensures others { result.ranks.now ≡ [] }
 {
     Function {
         cells: parts.dump,

@@ -13,10 +13,10 @@ Keys are bytes. Another key than those of the function has any number, or none: 
 from ._building import build, build_arrays, route, route_arrays
 from ._errors import BuildError, DumpError, EqualKeys
 from ._function import Function
-from ._library import NONE
+from ._library import NONE, library_version
 
 __version__ = "2.0.0"
-__all__ = ["NONE", "BuildError", "DumpError", "EqualKeys", "Function", "build", "build_arrays", "route", "route_arrays"]
+__all__ = ["NONE", "BuildError", "DumpError", "EqualKeys", "Function", "build", "build_arrays", "library_version", "route", "route_arrays"]
 
 # Names as users write them, in tracebacks.
 for _kind in (BuildError, DumpError, EqualKeys, Function):

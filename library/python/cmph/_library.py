@@ -112,3 +112,9 @@ c_build_brz = _bind(
     _many, "cmph_c_build_brz", c_uint32, *_BYTES, *_ENDS, ctypes.POINTER(CPlan), *_BYTES, *_BYTES, ctypes.POINTER(c_uint64), _PLACE
 )
 c_route = _bind(_many, "cmph_c_route", c_uint32, *_BYTES, *_ENDS, c_uint32, c_uint32, *_NUMBERS, _PLACE)
+
+
+def library_version() -> "tuple[int, int, int]":
+    """The version of the C library that is loaded: (2, 0, 0) for 2.0.0. That of the package is `__version__`."""
+    version = c_version()
+    return version // 10_000, version // 100 % 100, version % 100

@@ -357,6 +357,16 @@ class Refused(Case):
         self.assertRegex(left.stderr, "ImportError: cmph: the library is not loaded.*CMPH_C_LIBRARY")
 
 
+class Loaded(Case):
+    def test_versions(self):
+        # one release has the package and the library
+        self.assertEqual(".".join(map(str, cmph.library_version())), cmph.__version__)
+        self.assertEqual(cmph._library.c_version(), cmph._library.VERSION)
+
+    def test_an_import_without_numpy(self):
+        self.runs("import sys; sys.modules['numpy'] = None; import cmph; assert list(cmph.Function(cmph.build([b'a', b'b'], 'chm')).many([b'b'])) == [1]")
+
+
 class Builds(Case):
     def test_small_files(self):
         for algorithm, (keys, seed, _, _) in FILES.items():
@@ -463,6 +473,18 @@ class Arrays(Case):
                 with self.assertRaisesRegex(TypeError, "data is bytes"):
                     call(data, array("Q", [1]))
 
+    def test_odd_addresses(self):
+        data, ends = arrays_of(KEYS)
+        wanted = [list(call(data, ends)) for call in self.calls]
+        for shift in range(8):
+            shifted = memoryview(bytearray(shift) + data)[shift:]
+            self.assertEqual([list(call(shifted, ends)) for call in self.calls], wanted)
+            for algorithm in BUILT:
+                dump = cmph.build_arrays(shifted, ends, algorithm)
+                self.assertEqual(dump, cmph.build(KEYS, algorithm))
+                f = cmph.Function(memoryview(bytearray(shift) + dump)[shift:])
+                self.good(f, KEYS, algorithm)
+
     def test_signed_ends(self):
         data, ends = arrays_of(KEYS)
         for call in self.calls:
@@ -474,7 +496,8 @@ class Arrays(Case):
                 with self.assertRaisesRegex(ValueError, "there are 2 keys"):
                     call(b"abcd", array("Q", [1, 2]), out=out)
             fixed, spread = memoryview(array("I", [7, 7])).toreadonly(), memoryview(array("I", [7, 7, 7]))[::2]
-            for out in (array("Q", [7, 7]), array("f", [7, 7]), [7, 7], fixed, spread):
+            shifted = memoryview(bytearray(9))[1:].cast("I")
+            for out in (array("Q", [7, 7]), array("f", [7, 7]), [7, 7], fixed, spread, shifted):
                 with self.assertRaisesRegex(TypeError, "out is"):
                     call(b"abcd", array("Q", [1, 2]), out=out)
 

@@ -51,6 +51,17 @@ pub use routing::route;
 /// What [`Function::answers`] puts for a key that has no number. No key has it as its number.
 pub const NONE: u32 = cmph_c_sys::CMPH_C_NONE;
 
+/// The version of the C library that is linked: `(2, 0, 0)` for 2.0.0.
+///
+/// ```
+/// assert!(cmph::library_version() >= (2, 0, 0));
+/// ```
+pub fn library_version() -> (u32, u32, u32) {
+    // SAFETY: the call takes nothing, and returns a constant.
+    let version = unsafe { cmph_c_sys::cmph_c_version() };
+    (version / 10_000, version / 100 % 100, version % 100)
+}
+
 /// A vector of zeros, or none if memory runs out.
 fn zeros<T: Clone + Default>(len: u64) -> Option<Vec<T>> {
     let mut made = Vec::new();

@@ -1,7 +1,7 @@
 //! Opens functions, and asks them, one key at a time and many at once.
 mod common;
 
-use cmph::{build, Algorithm, DumpError, Function, Keys, KeysError, Plan, NONE};
+use cmph::{build, library_version, Algorithm, DumpError, Function, Keys, KeysError, Plan, NONE};
 use common::{generated, known_plans, of_hex, plans, two_by_brz};
 use std::{env, fs, thread};
 
@@ -27,6 +27,15 @@ fn assert_numbers(function: &Function<'_>, keys: &Keys) -> Vec<u32> {
     assert_eq!(sorted.len(), keys.len(), "two keys have one number");
     assert!(sorted.last() < Some(&function.span()));
     numbers
+}
+
+#[test]
+fn the_library_has_the_version_of_the_crate() {
+    let (major, minor, patch) = library_version();
+    assert_eq!(
+        format!("{major}.{minor}.{patch}"),
+        env!("CARGO_PKG_VERSION")
+    );
 }
 
 #[test]
@@ -218,6 +227,27 @@ fn a_function_by_brz_has_its_index_in_memory_of_its_own_or_of_the_callers() {
     let mut index = [7; 2];
     let lent = Function::open_in(&dump, &mut index).unwrap();
     assert_eq!(assert_numbers(&lent, &keys), numbers);
+}
+
+#[test]
+fn bytes_are_at_any_addresses() {
+    let keys = generated(BATCH);
+    for plan in plans() {
+        let dump = dump_of(&keys, &plan);
+        let numbers = assert_numbers(&Function::open(&dump).unwrap(), &keys);
+        for shift in 0..8 {
+            let shifted = [&vec![0; shift], keys.bytes()].concat();
+            let again = [&vec![0; shift], &dump[..]].concat();
+            let built = build(&shifted[shift..], keys.ends(), &plan).unwrap();
+            assert!(built == dump);
+            let function = Function::open(&again[shift..]).unwrap();
+            let mut found = vec![NONE; keys.len()];
+            function
+                .answers(&shifted[shift..], keys.ends(), &mut found)
+                .unwrap();
+            assert_eq!(found, numbers);
+        }
+    }
 }
 
 #[test]
