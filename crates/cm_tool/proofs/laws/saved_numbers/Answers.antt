@@ -1,4 +1,4 @@
-use Rattle.std.proofs.Common.{◌≡◌, ℕ, ◌≤◌, List, [], length, Some, refl, sym, subst, arith}
+use Rattle.std.proofs.Common.{◌≡◌, ℕ, ◌≤◌, List, [], length, Some, ap, refl, sym, subst, arith}
 use Rattle.std.specs.FinMap as map
 use Rattle.cm_algo_names.specs.declared.algorithm.Algorithm.{Algorithm}
 use Rattle.cm_algo_names.specs.declared.algorithm.Algorithm.TheVariants.{Bdz, BdzPh, Brz, Chm}
@@ -14,6 +14,7 @@ use Rattle.cm_func.specs.declared.function.Func.{Func}
 use Rattle.cm_func.specs.declared.function.Func.TheVariants as func
 use Rattle.cm_spec.specs.Bdz.{bdz_ph_rule, bdz_rule}
 use Rattle.cm_spec.specs.Built.{cells_under, chm_under, graph_of}
+use Rattle.cm_spec.specs.Chm as chm
 use Rattle.cm_spec.specs.Chm.{chm_rule}
 use Rattle.cm_spec.specs.Core.{HasEmptyCore}
 use Rattle.cm_spec.specs.Rounds.{rest_of}
@@ -34,24 +35,24 @@ record Laws (keys : List (ℕ × List ℕ)) (c b : ℕ) (seeds : List ℕ) : Typ
 
 -- a function that was made by an algorithm is one of it, and has the answers that it is for
 answers_of : (algorithm : Algorithm) (b : ℕ) (keys : List (ℕ × List ℕ)) (c : ℕ) (seeds : List ℕ) (f : Func) → (algorithm ≡ Brz → 1 ≤ b) → Laws keys c b seeds → IsMadeBy algorithm b keys c seeds f → IsBy algorithm f × AnswersOf keys f
-answers_of Chm b keys c seeds (func.Chm f) wide laws made = (tt, subst (AnswersNumbers keys) (sym made.0) (laws.chm_numbers f.seed (laws.empty _ made.1.1.empty)))
+answers_of Chm b keys c seeds (func.Chm f) wide laws made = (tt, (subst (AnswersNumbers keys) (sym made.0) (laws.chm_numbers f.seed (laws.empty _ made.1.1.empty)), ap (λ (g : chm.Chm). g.keys) made.0))
 answers_of Chm b keys c seeds (func.Bdz f) wide laws made = absurd made
 answers_of Chm b keys c seeds (func.BdzPh f) wide laws made = absurd made
 answers_of Chm b keys c seeds (func.Brz f) wide laws made = absurd made
 answers_of Bdz b keys c seeds (func.Chm f) wide laws made = absurd made
 answers_of Bdz b keys c seeds (func.Bdz f) wide laws made =
-    (tt, subst (λ (g : bdz.Bdz). AnswersApart keys (bdz_answer g) (length keys)) (sym made.0) (laws.bdz_apart f.seed (laws.empty _ made.1.1.empty)))
+    (tt, (subst (λ (g : bdz.Bdz). AnswersApart keys (bdz_answer g) (length keys)) (sym made.0) (laws.bdz_apart f.seed (laws.empty _ made.1.1.empty)), ap (λ (g : bdz.Bdz). g.keys) made.0))
 answers_of Bdz b keys c seeds (func.BdzPh f) wide laws made = absurd made
 answers_of Bdz b keys c seeds (func.Brz f) wide laws made = absurd made
 answers_of BdzPh b keys c seeds (func.Chm f) wide laws made = absurd made
 answers_of BdzPh b keys c seeds (func.Bdz f) wide laws made = absurd made
 answers_of BdzPh b keys c seeds (func.BdzPh f) wide laws made =
-    (tt, subst (λ (g : bdz.BdzPh). AnswersApart keys (λ key. Some (bdz_ph_answer g key)) (length g.cells)) (sym made.0) (laws.bdz_ph_apart f.seed (laws.empty _ made.1.1.empty)))
+    (tt, (subst (λ (g : bdz.BdzPh). AnswersApart keys (λ key. Some (bdz_ph_answer g key)) (length g.cells)) (sym made.0) (laws.bdz_ph_apart f.seed (laws.empty _ made.1.1.empty)), ap (λ (g : bdz.BdzPh). g.keys) made.0))
 answers_of BdzPh b keys c seeds (func.Brz f) wide laws made = absurd made
 answers_of Brz b keys c seeds (func.Chm f) wide laws made = absurd made
 answers_of Brz b keys c seeds (func.Bdz f) wide laws made = absurd made
 answers_of Brz b keys c seeds (func.BdzPh f) wide laws made = absurd made
-answers_of Brz b keys c seeds (func.Brz f) wide laws made = (tt, laws.brz_apart f (wide refl) made)
+answers_of Brz b keys c seeds (func.Brz f) wide laws made = (tt, (laws.brz_apart f (wide refl) made, made.many))
 
 pub returns : goal.returns
 returns c = λ job files bytes f build there made valid.
@@ -65,4 +66,4 @@ returns c = λ job files bytes f build there made valid.
     } in
     let wide : job.algorithm ≡ Brz → 1 ≤ job.b = λ by. omega (arith, (build.numbers.width by).0) in
     let answers = answers_of job.algorithm job.b keys job.c (seeds_tried job) f wide laws made.made in
-    (bytes, dump_of f, f, map.insert files job.function (dump_of f), there, refl, written_at files job.function (dump_of f), c.dumps_spell.ensures.spelling f valid, answers.0, answers.1)
+    (bytes, dump_of f, f, map.insert files job.function (dump_of f), there, refl, written_at files job.function (dump_of f), c.dumps_spell.ensures.spelling f valid, valid, answers.0, answers.1)
