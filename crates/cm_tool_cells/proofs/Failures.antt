@@ -1,15 +1,16 @@
 -- From a failed build over a pass to what the driver gets.
-use Rattle.std.proofs.Common.{refl}
+use Rattle.std.proofs.Common.{Option, refl}
 use Rattle.std.specs.Prelude.{slice_index}
 use Rattle.cm_algo_names.specs.declared.algorithm.Algorithm.{Algorithm}
-use Rattle.cm_algo_seeds.specs.Fails.{FailsBuild, HasForm}
+use Rattle.cm_algo_seeds.specs.Fails.{FailsBuild, HasBuildFailure, HasForm}
 use Rattle.cm_algo_seeds.specs.declared.fault.BuildFault.{BuildFault}
 use Rattle.cm_algo_seeds.specs.declared.fault.BuildFault.TheVariants as build_fault
 use Rattle.cm_io.specs.Passes.{Told}
+use Rattle.cm_io.specs.declared.key_pass.KeyFault.{KeyFault}
 use Rattle.cm_peel.specs.CoreLaws.{rest_is_core}
 use Rattle.cm_spec.specs.Rule.{Rule}
 use Rattle.cm_tool_cells.specs.RecipeLaws.{core_shown}
-use Rattle.cm_tool_cells.specs.Recipes.{FailsCells, fault_from, tried}
+use Rattle.cm_tool_cells.specs.Recipes.{FailsCells, HasCellsFailure, fault_from, tried}
 use Rattle.cm_tool_cells.specs.declared.recipe.Recipe.{Recipe}
 
 -- a failed build is a refusal of the keys, by these alone
@@ -28,3 +29,11 @@ fails_cells a r recipe told (build_fault.Cored made) fails form = (
 )
 fails_cells a r recipe told (build_fault.Key fault) fails form = fails
 fails_cells a r recipe told (build_fault.Changed first again) fails form = absurd fails
+
+-- and `Key` has the fault of the pass
+pub failed_as : (failure : Option KeyFault) (fault : BuildFault) → HasBuildFailure failure fault → HasCellsFailure failure (fault_from fault)
+failed_as failure build_fault.Memory is = tt
+failed_as failure build_fault.NoKeys is = tt
+failed_as failure (build_fault.Cored made) is = tt
+failed_as failure (build_fault.Key fault) is = is
+failed_as failure (build_fault.Changed first again) is = tt

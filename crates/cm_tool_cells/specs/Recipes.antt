@@ -105,6 +105,11 @@ FailsCells algorithm r recipe told (faults.Refused failure report) = (failure �
 FailsCells algorithm r recipe told (faults.Key fault) = IsToldFault told fault
 FailsCells algorithm r recipe told fault = ⊥
 
+-- whatever the keys are, `Key` has the fault that their pass failed with last
+abbrev pub HasCellsFailure : Option KeyFault → Fault CoreReport → Type 0
+HasCellsFailure failure (faults.Key fault) = failure ≡ Some fault
+HasCellsFailure failure fault = Unit {0}
+
 -- a fault of a build, for the driver
 abbrev pub fault_from : BuildFault → Fault CoreReport
 fault_from build_fault.Memory = faults.Memory

@@ -1,7 +1,7 @@
 //! The cells of keys by any scheme.
 ghost use Rattle.std.specs.Prelude.{◌≡◌, ◌<◌, ◌≤◌, length, slice_index, count_by, IfOk, IfErr};
 ghost use Rattle.std.specs.Option.{ForSome};
-ghost use Rattle.cm_algo_seeds.specs.Fails.{FailsBuild, HasBuildCause, HasForm, HasNumbers};
+ghost use Rattle.cm_algo_seeds.specs.Fails.{FailsBuild, HasBuildCause, HasBuildFailure, HasForm, HasNumbers};
 ghost use Rattle.cm_spec.specs.Cells.{is_busy};
 ghost use Rattle.cm_spec.specs.Rule.{IsRatio};
 ghost use Rattle.cm_spec.specs.declared.limits.TheConstants.{MAX_KEYS};
@@ -35,6 +35,7 @@ pub fn build_by<S: Scheme<K>, P: KeyPass, const K: usize, L: Ledger>(
     ensures busy { IfOk result (λ b. (S.rule scheme.now).modulus b.m ≤ (S.rule scheme.now).idle → count_by (is_busy (S.rule scheme.now).idle) (S.Table.cells b.cells) ≡ b.m) }
     ensures first { IfOk result (λ b. ForSome (P.told keys.old) (λ told. IsBuiltFrom (S.rule scheme.now) told c seeds.now b.m b.seed (S.Table.cells b.cells))) }
     ensures fault { IfErr result (λ e. ForSome (P.told keys.old) (λ told. FailsBuild (S.rule scheme.now) told c seeds.now e)) }
+    ensures failed { IfErr result (HasBuildFailure (P.failure keys.new)) }
     ensures numbers { IfErr result (HasNumbers (P.place keys.new)) }
     ensures certificate { IfErr result (HasForm (S.algorithm_of scheme.now) (slice_index seeds.now 0)) }
 {

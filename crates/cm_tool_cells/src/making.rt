@@ -4,7 +4,7 @@ ghost use Rattle.std.specs.Option.{ForSome};
 ghost use Rattle.cm_spec.specs.Cells.{is_busy};
 ghost use Rattle.cm_spec.specs.declared.limits.TheConstants.{MAX_KEYS};
 ghost use Rattle.cm_tool_building.specs.Makes.{HasMakeCause, IsAllowedFault};
-ghost use Rattle.cm_tool_cells.specs.Recipes.{FailsCells, IsRecipe, MayStop, fault_from, tried};
+ghost use Rattle.cm_tool_cells.specs.Recipes.{FailsCells, HasCellsFailure, IsRecipe, MayStop, fault_from, tried};
 ghost use Rattle.cm_tool_cells.specs.Seeds.{IsBuiltFrom};
 
 use crate::cells::build_by;
@@ -56,6 +56,7 @@ pub fn make_cells<S: Scheme<K>, P: KeyPass, const K: usize, L: Ledger>(
     ensures busy { IfOk result (λ b. (S.rule scheme.now).modulus b.m ≤ (S.rule scheme.now).idle → count_by (is_busy (S.rule scheme.now).idle) (S.Table.cells b.cells) ≡ b.m) }
     ensures first { IfOk result (λ b. ForSome (P.told keys.old) (λ told. IsBuiltFrom (S.rule scheme.now) told recipe.c (tried recipe) b.m b.seed (S.Table.cells b.cells))) }
     ensures refused { IfErr result (λ fault. ForSome (P.told keys.old) (λ told. FailsCells (S.algorithm_of scheme.now) (S.rule scheme.now) recipe told fault)) }
+    ensures failed { IfErr result (HasCellsFailure (P.failure keys.new)) }
     ensures form { IfErr result (IsAllowedFault MayStop) }
 {
     let seeds = seeds(recipe.seed, recipe.count);

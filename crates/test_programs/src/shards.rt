@@ -157,7 +157,7 @@ fn expect_prefix(rt: &impl Abort, words: &[&str], disk: &MemDisk, path: &str, wh
     expect_equal_at(rt, &(words, path), &fits, &true);
 }
 
-/// Fails the test unless a run that failed says so, counts one fault, and leaves prefixes.
+/// Fails the test unless a run that failed says so, counts faults of its kind alone, and leaves prefixes of what it makes.
 fn expect_failed(
     rt: &impl Abort,
     words: &[&str],
@@ -197,6 +197,9 @@ fn faults(rt: HostRuntime) -> Result<(), Fail> {
             disk.fail(*call, number)?;
             let left = run_over(Program::Shards, rt.alloc(), *words, &mut disk, AMPLE)?;
             if left.status == 0 {
+                // No call failed that was passed over.
+                let faults = (disk.read_faults(), disk.write_faults());
+                expect_equal_at(&rt, &(*words, *call), &faults, &(0, 0));
                 break;
             }
             let end = (*status, b"".as_slice(), text_of(*texts, number));
