@@ -4,6 +4,7 @@ import hashlib
 import os
 import resource
 import stat
+import time
 
 import shards as plain
 from filters import next_line
@@ -17,6 +18,15 @@ SPLIT = ["-n", str(COUNT), "-d", "d", "keys"]
 SMALL = b"ant\nbee\n\ncow\ndog\neel\nfox"
 # More bytes for each shard than wait for its file.
 MANY = lines(12000)
+
+
+def until(holds):
+    """Waits until this holds, for some seconds at most."""
+    for _ in range(5000):
+        if holds():
+            return
+        time.sleep(0.001)
+    raise Wrong("what is waited for does not come")
 
 
 def noted(text):
@@ -454,6 +464,45 @@ def _(room):
         os.close(writing)
 
 
+@case("a split and a join without standard streams, and with an err that takes nothing, make the same files and end with the same status")
+def _(room):
+    words = built(room, SMALL)
+    whole = manifest_of(room, ["0.mph", "1.mph"])
+    functions = {name: room.get(f"d/{name}") for name in ("0.mph", "1.mph")}
+    for closing in [(0,), (1,), (2,), (0, 1, 2)]:
+        def without(closing=closing):
+            for number in closing:
+                os.close(number)
+
+        to_split(room, SMALL, b"older")
+        ends(run(room, *SPLIT, before=without), 0)
+        same(f"the files without {closing}", in_folder(room), SMALL_FILES)
+        for name, content in functions.items():
+            room.put(f"d/{name}", content)
+        ends(run(room, *words, before=without), 0)
+        same(f"the manifest without {closing}", room.get("d/all"), whole)
+    room.put("long", b"ant\n" + b"k" * 65536 + b"\n")
+    with open("/dev/full", "wb") as err:
+        for how in [{"before": closed(2)}, {"err": err}]:
+            ends(run(room, "-n", "2", "-d", "d", "long", **how), 8)
+            same("the files", {name: room.get(f"d/{name}") for name in SMALL_FILES}, {**files_of(b"ant\n"), "counts": b""})
+            ends(run(room, "-n", "2", "-d", "none", "keys", **how), 5)
+            ends(run(room, *words, **how), 3)
+            same("the manifest", room.get("d/all"), whole)
+
+
+@case("devices take the files of a split and a manifest: they know no sync")
+def _(room):
+    words = built(room, SMALL)
+    for name in [*SMALL_FILES, "all"]:
+        with contextlib.suppress(FileNotFoundError):
+            os.remove(room.path(f"d/{name}"))
+        os.symlink("/dev/null", room.path(f"d/{name}"))
+    ends(run(room, *SPLIT), 0)
+    ends(run(room, *words[:3], *words[-2:]), 0)
+    same("what the manifest leads to", os.readlink(room.path("d/all")), "/dev/null")
+
+
 def piped(content):
     """A pipe out of which these bytes come."""
     given, into = own_pipe()
@@ -488,6 +537,23 @@ def _(room):
     to_split(room, MANY)
     ends(through_a_pipe(room, MANY + b"k" * 65536 + b"\n" + MANY, "-n", "2", "-d", "d", "/dev/stdin"), 8, b"", noted("/dev/stdin: line 12001 is too long"))
     same("the files", in_folder(room), {**MANY_FILES, "counts": b""})
+
+
+@case("a file of a split that is removed while lines come is not made again: status 5, and the counts are empty")
+def _(room):
+    for name, more in [("shard-0000", b""), ("shard-0001", b""), ("shard-0000", MANY)]:
+        to_split(room, MANY)
+        given, into = own_pipe()
+        split = room.start("-n", "2", "-d", "d", "/dev/stdin", program=SHARDS, given=given)
+        os.close(given)
+        with contextlib.suppress(BrokenPipeError), open(into, "wb", buffering=0) as pipe:
+            pipe.write(MANY)
+            until(lambda name=name: os.path.getsize(room.path(f"d/{name}")) > 0)
+            os.remove(room.path(f"d/{name}"))
+            pipe.write(more)
+        ends(finished(split), 5, b"", CANNOT_MAKE)
+        same("whether the file is there", room.has(f"d/{name}"), False)
+        same("the counts", room.get("d/counts"), b"")
 
 
 @case("keys of shards come out of a pipe one by one, and each has its line before the next comes")
