@@ -79,4 +79,4 @@ saves_shard job bytes k build old new b =
     let is : read ≡ share_bytes (route_of job) job.end (lines_of (told_of job bytes)) k = same_Some _ _ (sym numbers.4 ∙ b.over) in
     let sound : (keys_in build.first build.end read).fault ≡ None = subst (λ (x : List ℕ). (keys_in build.first build.end x).fault ≡ None) same known.makes.made.no_fault in
     saves job bytes k build new (keys_in build.first build.end read) (keys_are job bytes k build read b.all b.end is) sound
-        numbers.3 numbers.5 numbers.1 numbers.6 numbers.2 numbers.7 numbers.8 numbers.9 numbers.10
+    numbers.3 numbers.5 numbers.1 numbers.6 numbers.2 numbers.7 numbers.8 numbers.9 numbers.10

@@ -42,11 +42,11 @@ unfolding item_at
 item_near bytes k at n near = elim (cases_lt (length bytes) (at + n)) [
   | inl short ↦ ap (λ (l : List ℕ). item_at l at n) (take_all k bytes (omega (arith, short, near)))
   | inr whole ↦ (
-    let split : at + (k - at) ≡ k = omega (arith, near) in
-    let rest : drop at (take k bytes) ≡ take (k - at) (drop at bytes) = ap (λ (i : ℕ). drop at (take i bytes)) (sym split) ∙ drop-take at (k - at) bytes in
-    let same : take n (drop at (take k bytes)) ≡ take n (drop at bytes) = ap (λ (l : List ℕ). take n l) rest ∙ take-take n (k - at) (drop at bytes) (omega (arith, near)) in
-    let long : at + n ≤ length (take k bytes) = omega (arith, length-take k bytes, near, whole) in
-    rw (ltb_no (length (take k bytes)) (at + n) long, ltb_no (length bytes) (at + n) whole) (ap (λ (l : List ℕ). let r : Result (List ℕ) LoadFault = Ok l in r) same))
+      let split : at + (k - at) ≡ k = omega (arith, near) in
+      let rest : drop at (take k bytes) ≡ take (k - at) (drop at bytes) = ap (λ (i : ℕ). drop at (take i bytes)) (sym split) ∙ drop-take at (k - at) bytes in
+      let same : take n (drop at (take k bytes)) ≡ take n (drop at bytes) = ap (λ (l : List ℕ). take n l) rest ∙ take-take n (k - at) (drop at bytes) (omega (arith, near)) in
+      let long : at + n ≤ length (take k bytes) = omega (arith, length-take k bytes, near, whole) in
+      rw (ltb_no (length (take k bytes)) (at + n) long, ltb_no (length bytes) (at + n) whole) (ap (λ (l : List ℕ). let r : Result (List ℕ) LoadFault = Ok l in r) same))
 ]
 
 field_near : (w : Width) (bytes : List ℕ) (k at low high : ℕ) → at + byte_len w ≤ k → field_at w (take k bytes) at low high ≡ field_at w bytes at low high
@@ -82,8 +82,8 @@ shard_near : (bytes : List ℕ) (k at before : ℕ) → at + MAX_SHARD_LEN ≤ k
 unfolding shard_at
 shard_near bytes k at before near =
     rw (field_near w16 bytes k at 1 MAX_NAME (omega (arith, near))) (then_same (field_at w16 bytes at 1 MAX_NAME) _ _ (λ n is.
-        let few : n ≤ MAX_NAME = (field_range w16 bytes at 1 MAX_NAME n is).1 in
-        rw (name_near bytes k (at + 2) n (omega (arith, near, few))) (then_same (name_at bytes (at + 2) n) _ _ (λ name there. rest_near bytes k (at + 2 + n) before name (omega (arith, near, few))))))
+    let few : n ≤ MAX_NAME = (field_range w16 bytes at 1 MAX_NAME n is).1 in
+    rw (name_near bytes k (at + 2) n (omega (arith, near, few))) (then_same (name_at bytes (at + 2) n) _ _ (λ name there. rest_near bytes k (at + 2 + n) before name (omega (arith, near, few))))))
 
 -- a shard that is read has no longer name than it may have
 name_long : (bytes : List ℕ) (at n : ℕ) (name : List ℕ) → name_at bytes at n ≡ Ok name → length name ≡ n
@@ -116,7 +116,7 @@ unfolding shards_at
 shards_near bytes k at before zero near = refl
 shards_near bytes k at before (suc n) near =
     rw (shard_near bytes k at before (omega (arith, near))) (then_same (shard_at bytes at before) _ _ (λ s is.
-        rw (shards_near bytes k (at + shard_len s) (before + s.span) n (omega (arith, near, shard_short bytes at before s is))) refl))
+    rw (shards_near bytes k (at + shard_len s) (before + s.span) n (omega (arith, near, shard_short bytes at before s is))) refl))
 
 shards_short : (bytes : List ℕ) (at before n : ℕ) (shards : List Shard) → shards_at bytes at before n ≡ Ok shards → shards_len shards ≤ n * MAX_SHARD_LEN
 unfolding shards_at
@@ -160,7 +160,7 @@ pub manifest_of_header : (bytes : List ℕ) (k : ℕ) (h : Header) → header_at
 unfolding manifest_in
 manifest_of_header bytes k h is near =
     rw (manifest_near bytes k h is (omega (arith, near))) (lifted_same (manifest_at bytes) _ _ (λ m read.
-        rw (signed_near bytes k (digest_place m) (omega (arith, near, manifest_short bytes h m is read))) refl))
+    rw (signed_near bytes k (digest_place m) (omega (arith, near, manifest_short bytes h m is read))) refl))
 
 -- no header
 pub manifest_of_none : (bytes : List ℕ) (k : ℕ) (fault : LoadFault) → header_at bytes ≡ Err fault → 20 ≤ k → manifest_in (take k bytes) ≡ manifest_in bytes

@@ -17,8 +17,9 @@ const MAX_SHARD_LEN: usize = 58 + MAX_NAME as usize;
 const DIGEST_LEN: usize = 32;
 
 /// The most bytes of a manifest: the header, as many shards as there may be, with the longest names, and the digest.
-pub const MAX_MANIFEST_BYTES: usize =
-    HEADER_LEN as usize + MAX_SHARDS as usize * MAX_SHARD_LEN + DIGEST_LEN;
+pub const MAX_MANIFEST_BYTES: usize = HEADER_LEN as usize
+    + MAX_SHARDS as usize * MAX_SHARD_LEN
+    + DIGEST_LEN;
 
 /// How many bytes of a file decide which manifest it has, or which fault: those after them change nothing. `first` are its first
 /// `HEADER_LEN` bytes, or all if it has fewer. If they are no header, they decide alone. Else one byte more than a manifest of as many
