@@ -651,12 +651,12 @@ def _(room):
 def _(room):
     content = lines(300000)
     words = built(room, content)
-    for _ in least_limit(room, words, (0,), 4 * MEGABYTE, 64 * MEGABYTE, MEGABYTE // 4):
+    for _ in least_limit(room, words, (0,), 4 * MEGABYTE, 64 * MEGABYTE, MEGABYTE // 32):
         same("whether there is a manifest", room.has("d/all") and room.get("d/all") != b"", False)
     for more in [[], ["-t"]]:
         query = run(room, *more, "-m", "d/all", "keys")
         same("the status", query.status, 0)
-        for _ in least_limit(room, [*more, "-m", "d/all", "keys"], (0, query.out), 4 * MEGABYTE, 64 * MEGABYTE, MEGABYTE // 4):
+        for _ in least_limit(room, [*more, "-m", "d/all", "keys"], (0, query.out), 4 * MEGABYTE, 64 * MEGABYTE, MEGABYTE // 32):
             pass
 
 
